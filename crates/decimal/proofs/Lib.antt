@@ -1,0 +1,5 @@
+pub mod Digits
+pub mod Written
+pub mod Readings
+pub mod Padded
+pub mod Table

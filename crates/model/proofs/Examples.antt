@@ -1,0 +1,93 @@
+-- The examples P1 to P10 of document 01, and further ones worked by hand, in one table; a single proof goes over it, computed from
+-- the definitions. Assumes nothing.
+use Prim.Native.Nat.{ℕ, _*_}
+use mathlib.Core.Path.{_≡_, refl}
+use mathlib.Core.Bool.{Bool, true, false, _&&_}
+use mathlib.Core.List.{List, [], _∷_}
+use lib.ListN.{getD}
+use lib.Dec.{eqb}
+use Rattle.model.specs.Sums.{sum, listOf}
+use Rattle.model.specs.Traces.{Trace, touching, later, unreferenced}
+use Rattle.model.specs.Figures.{misses, volume, load, optmem, opttotal, optocc, wsmem, wsocc, mean, kept, refCost, refVolume, smaller, wsspace}
+use Rattle.model.specs.Schedules.{optimalSchedule, nextKept, optimalHeld, optimalByte}
+use Rattle.model.specs.Sheets.{nothing}
+use Rattle.model.specs.declared.Kind.{Kind}
+use Rattle.model.specs.declared.Kind.the-variants.{Time, Space}
+
+-- what an example speaks of: a figure, or a byte of the optimal schedule
+pub data Item : Type 0 where
+  Misses Volume Load Optmem Opttotal Optocc Wsmem Wsocc Mean : Item
+  ScheduleByte : ℕ → Item
+
+-- its value by the definitions
+valueOf : Item → Trace → ℕ → ℕ → ℕ
+valueOf Misses T h d = misses T h d
+valueOf Volume T h d = volume T h d
+valueOf Load T h d = load T h d
+valueOf Optmem T h d = optmem T h d
+valueOf Opttotal T h d = opttotal T h d
+valueOf Optocc T h d = optocc T h d
+valueOf Wsmem T h d = wsmem T h d
+valueOf Wsocc T h d = wsocc T h d
+valueOf Mean T h d = mean T h d
+valueOf (ScheduleByte j) T h d = getD (optimalSchedule T h d) j 0
+
+-- an item and the number that it has
+pub record Claim : Type 0 where
+  pub item : Item
+  pub number : ℕ
+
+infix 70 _is_
+_is_ : Item → ℕ → Claim
+i is n = record { item = i; number = n }
+
+-- a run, a row h/d and what they give
+pub record Example : Type 0 where
+  pub run : Trace
+  pub h : ℕ
+  pub d : ℕ
+  pub gives : List Claim
+
+abbrev at : Trace → ℕ → ℕ → List Claim → Example
+at run h d gives = record { run = run; h = h; d = d; gives = gives }
+
+-- every claim of the list is true
+claims : Trace → ℕ → ℕ → List Claim → Bool
+claims T h d [] = true
+claims T h d (c ∷ cs) = eqb (valueOf (c .item) T h d) (c .number) && claims T h d cs
+
+-- every example of the list is true
+pub allHold : List Example → Bool
+allHold [] = true
+allHold (e ∷ es) = claims (e .run) (e .h) (e .d) (e .gives) && allHold es
+
+-- a run with no start set
+runOf : Kind → ℕ → List ℕ → List ℕ → Trace
+runOf k a sizes refs = record { kind = k; a = a; sizes = sizes; start = nothing; refs = refs }
+
+-- the run of the listing
+listing : Trace
+listing = runOf Space 1 (1 ∷ 3 ∷ []) (0 ∷ 1 ∷ 0 ∷ 1 ∷ 1 ∷ 0 ∷ [])
+
+-- the reference string of document 002, segments A to E numbered from 0
+paper : Kind → Trace
+paper k = runOf k 0 (1 ∷ 2 ∷ 3 ∷ 4 ∷ 5 ∷ []) (4 ∷ 2 ∷ 1 ∷ 4 ∷ 0 ∷ 1 ∷ 3 ∷ 2 ∷ 3 ∷ 4 ∷ 1 ∷ 2 ∷ 1 ∷ 1 ∷ [])
+
+-- P1 to P10
+pub table : List Example
+table =
+    at listing 1 2 (Misses is 4 ∷ Volume is 8 ∷ Load is 12 ∷ Optmem is 13 ∷ Opttotal is 38 ∷ Optocc is 13 ∷ Wsmem is 36 ∷ Wsocc is 36 ∷ Mean is 3000 ∷ [])
+    ∷ at listing 1 1 (Misses is 2 ∷ Volume is 4 ∷ Load is 6 ∷ Optmem is 18 ∷ Opttotal is 24 ∷ Optocc is 18 ∷ Wsmem is 21 ∷ Wsocc is 21 ∷ Mean is 3500 ∷ [])
+    ∷ at listing 1 2 (ScheduleByte 0 is 1 ∷ ScheduleByte 32 is 3 ∷ ScheduleByte 64 is 1 ∷ ScheduleByte 96 is 2 ∷ ScheduleByte 128 is 2 ∷ ScheduleByte 160 is 1 ∷ [])
+    ∷ at (paper Space) 0 1 (Misses is 13 ∷ Volume is 41 ∷ Optmem is 43 ∷ Wsmem is 43 ∷ [])
+    ∷ at (paper Space) 4 1 (Misses is 10 ∷ Volume is 33 ∷ Optmem is 53 ∷ Wsmem is 89 ∷ [])
+    ∷ at (paper Space) 10 1 (Misses is 7 ∷ Volume is 23 ∷ Optmem is 80 ∷ Wsmem is 135 ∷ [])
+    ∷ at (paper Space) 25 1 (Misses is 5 ∷ Volume is 15 ∷ Optmem is 120 ∷ Wsmem is 175 ∷ [])
+    ∷ at (paper Time) 2 1 (Misses is 9 ∷ Volume is 28 ∷ Optocc is 63 ∷ Wsocc is 115 ∷ [])
+    ∷ at (paper Time) 5 1 (Misses is 5 ∷ Volume is 15 ∷ Optocc is 120 ∷ Wsocc is 171 ∷ [])
+    ∷ at (runOf Time 3 (7 ∷ 2 ∷ []) []) 5 2 (Misses is 0 ∷ Volume is 0 ∷ Load is 0 ∷ Optmem is 0 ∷ Opttotal is 0 ∷ Optocc is 0 ∷ Wsmem is 0 ∷ Wsocc is 0 ∷ Mean is 0 ∷ [])
+    ∷ []
+
+pub table-holds : allHold table ≡ true
+unfolding allHold claims valueOf _is_ table runOf listing paper misses volume load optmem opttotal optocc wsmem wsocc mean optimalSchedule sum listOf touching later unreferenced kept refCost refVolume smaller wsspace nextKept optimalHeld optimalByte
+table-holds = refl

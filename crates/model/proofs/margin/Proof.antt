@@ -1,0 +1,37 @@
+-- `model::margin` meets its contract: both prices are below 2 ^ 62, so each is itself as a signed number and the difference fits.
+-- Assumes nothing.
+use Prim.Native.Nat.{_^_, _<_}
+use mathlib.Core.Path.{_≡_, _∙_}
+use native.Mathlib.Omega.{arith}
+use borrow.Author.Needs.{needs}
+use lib.IntN.{pos}
+use mir.Syntax.{w64}
+use mir.Val.{toZ}
+use mir.ValLaws.{toZ-ofZ, toZ-pos}
+use Rattle.model.specs.Costs.{marginOf}
+use Rattle.model.proofs.Margins.{margin-fits}
+use Rattle.model.proofs.margin.Statement.{statement}
+use Rattle.model.proofs.margin.Tie as tie
+
+cast-result : tie.Need-cast-result
+cast-result c = search needs
+
+cast-result-2 : tie.Need-cast-result-2
+cast-result-2 c = search needs
+
+swap-is : (c : tie.Start) → toZ w64 (c .args .priced-swap) ≡ pos (c .args .priced-swap)
+swap-is c = toZ-pos w64 (c .args .priced-swap) (omega arith)
+
+retention-is : (c : tie.Start) → toZ w64 (c .args .priced-retention) ≡ pos (c .args .priced-retention)
+retention-is c = toZ-pos w64 (c .args .priced-retention) (omega arith)
+
+sub-result : tie.Need-sub-result
+sub-result c =
+    rw (swap-is c, retention-is c)
+    (margin-fits (c .args .priced-retention) (c .args .priced-swap) (c .pre .0) (c .pre .1))
+
+returns : tie.Need-returns
+returns c = toZ-ofZ w64 _ (sub-result c) ∙ rw (swap-is c, retention-is c)
+
+pub margin-spec : {M : Type 1} → statement M
+margin-spec = tie.close (tie.spec cast-result cast-result-2 sub-result returns)

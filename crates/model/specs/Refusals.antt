@@ -1,0 +1,21 @@
+-- The numbers for a refusal, as document 01 lists them. Assumes nothing.
+use Prim.Native.Nat.{ℕ}
+use Rattle.model.specs.declared.Refusal.{Refusal}
+use Rattle.model.specs.declared.Refusal.the-variants.{SheetTooLong, LineMalformed, ValueMalformed, OutOfRange, ThresholdNotAbove, BytesAfterEnd, NoSuchRow, ScheduleLength, TouchedNotHeld, HeldNotBefore, PlaceTooShort, NoRowFits, RecorderFull, NoSuchReference, FirstTouch}
+
+abbrev pub numberOf : Refusal → ℕ
+numberOf SheetTooLong = 1
+numberOf LineMalformed = 2
+numberOf ValueMalformed = 3
+numberOf OutOfRange = 4
+numberOf ThresholdNotAbove = 5
+numberOf BytesAfterEnd = 6
+numberOf NoSuchRow = 7
+numberOf ScheduleLength = 8
+numberOf TouchedNotHeld = 9
+numberOf HeldNotBefore = 10
+numberOf PlaceTooShort = 11
+numberOf NoRowFits = 12
+numberOf RecorderFull = 13
+numberOf NoSuchReference = 14
+numberOf FirstTouch = 15

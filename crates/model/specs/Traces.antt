@@ -1,0 +1,71 @@
+-- What a run of the aligner is: its segments, and the segment touched in each step. Step t + 1 of document 01, which counts from 1,
+-- is the step at place t here; after t steps is the moment just before it. Assumes nothing.
+use Prim.Native.Nat.{ℕ, zero, suc, _*_}
+use mathlib.Core.Bool.{Bool, true, false, cond, _&&_}
+use mathlib.Core.List.{List}
+use mathlib.Core.Option.{Option, none, some}
+use lib.ListN.{length, getD}
+use lib.Dec.{eqb, ltb}
+use Rattle.model.specs.Costs.{swapCost, unitCost}
+use Rattle.model.specs.Sums.{sum}
+use Rattle.model.specs.declared.Kind.{Kind}
+
+-- kind, weight a, sizes of segments 0, 1, 2 .., and the entry of each step; `start` says which segments count as touched and held
+-- before step 1
+pub record Trace : Type 0 where
+  pub kind : Kind
+  pub a : ℕ
+  pub sizes : List ℕ
+  pub start : ℕ → Bool
+  pub refs : List ℕ
+
+-- how many segments there are
+abbrev pub segs : Trace → ℕ
+segs T = length (T .sizes)
+
+-- how many steps there are
+abbrev pub steps : Trace → ℕ
+steps T = length (T .refs)
+
+-- z: the size of segment i
+abbrev pub sizeOf : Trace → ℕ → ℕ
+sizeOf T i = getD (T .sizes) i 0
+
+-- w: the swap cost of segment i
+abbrev pub swapOf : Trace → ℕ → ℕ
+swapOf T i = swapCost (T .a) (sizeOf T i)
+
+-- what segment i costs in memory units for one step: 1 (kind time) or z (kind space)
+abbrev pub unitOf : Trace → ℕ → ℕ
+unitOf T i = unitCost (T .kind) (sizeOf T i)
+
+-- the entry of the step at place t
+abbrev pub entry : Trace → ℕ → ℕ
+entry T t = getD (T .refs) t (segs T)
+
+-- segment i is touched in the step at place t; an entry that is no segment number touches nothing
+abbrev pub touched : Trace → ℕ → ℕ → Bool
+touched T t i = ltb i (segs T) && eqb (entry T t) i
+
+-- what the step at place t adds where a touch of segment i in it adds f t i: nothing where it touches nothing
+unfoldable pub touching : Trace → (ℕ → ℕ → ℕ) → ℕ → ℕ
+touching T f t = cond (ltb (entry T t) (segs T)) (f t (entry T t)) 0
+
+-- the sum of f t i over all touches, t the place of the step and i the segment
+abbrev pub overTouches : Trace → (ℕ → ℕ → ℕ) → ℕ
+overTouches T f = sum (steps T) (touching T f)
+
+-- the sum of f i over all segments i
+abbrev pub overSegments : Trace → (ℕ → ℕ) → ℕ
+overSegments T f = sum (segs T) f
+
+-- one step more
+unfoldable pub later : Option ℕ → Option ℕ
+later none = none
+later (some k) = some (suc k)
+
+-- unreferenced time of segment i after t steps: the steps since its last touch, u − 1 where the next step touches it; none where it
+-- was not touched yet
+unfoldable pub unreferenced : Trace → ℕ → ℕ → Option ℕ
+unreferenced T zero i = cond (T .start i) (some 0) none
+unreferenced T (suc t) i = cond (touched T t i) (some 0) (later (unreferenced T t i))

@@ -1,0 +1,127 @@
+// The cost rules of the segment trace analyser as functions on numbers, and the numbers of its refusals.
+// What each means is written in specs/; nothing is assumed.
+ghost use mathlib.Core.Path.{_≡_};
+ghost use mathlib.Core.Bool.{Bool};
+ghost use Prim.Native.Nat.{ℕ, _+_, _*_, _≤_, _<_, _^_};
+ghost use Rattle.model.specs.Costs.{swapCost, retention, keeps, totalCost, marginOf};
+ghost use Rattle.model.specs.Refusals.{numberOf};
+
+// What a memory unit is: a reference by itself (time), or the size of the segment (space).
+pub enum Kind {
+    Time,
+    Space,
+}
+
+// An amount in memory units.
+pub struct MemoryUnits(pub u64);
+
+// An amount in load units.
+pub struct LoadUnits(pub u64);
+
+// A row of a sheet: h is the price of one load unit, d that of one memory unit. Its threshold is h/d.
+pub struct PriceRow {
+    pub h: u16,
+    pub d: u16,
+}
+
+// Why a call refuses, a name for each number of the list in document 01.
+pub enum Refusal {
+    SheetTooLong,
+    LineMalformed,
+    ValueMalformed,
+    OutOfRange,
+    ThresholdNotAbove,
+    BytesAfterEnd,
+    NoSuchRow,
+    ScheduleLength,
+    TouchedNotHeld,
+    HeldNotBefore,
+    PlaceTooShort,
+    NoRowFits,
+    RecorderFull,
+    NoSuchReference,
+    FirstTouch,
+}
+
+// The number of a refusal.
+pub fn number(r: Refusal) -> u64
+    ensures { λ n. ⌜ n ≡ numberOf r ⌝ }
+{
+    match r {
+        Refusal::SheetTooLong => 1,
+        Refusal::LineMalformed => 2,
+        Refusal::ValueMalformed => 3,
+        Refusal::OutOfRange => 4,
+        Refusal::ThresholdNotAbove => 5,
+        Refusal::BytesAfterEnd => 6,
+        Refusal::NoSuchRow => 7,
+        Refusal::ScheduleLength => 8,
+        Refusal::TouchedNotHeld => 9,
+        Refusal::HeldNotBefore => 10,
+        Refusal::PlaceTooShort => 11,
+        Refusal::NoRowFits => 12,
+        Refusal::RecorderFull => 13,
+        Refusal::NoSuchReference => 14,
+        Refusal::FirstTouch => 15,
+    }
+}
+
+// w: what loading a segment of size z costs, where a is the weight of volume.
+pub fn swap_cost(a: u8, z: u16) -> LoadUnits
+    ensures { λ r. ⌜ r .0 ≡ swapCost a z ⌝ }
+{
+    LoadUnits(1 + (a as u64) * (z as u64))
+}
+
+// R: what holding a segment of size z through so many unreferenced steps costs.
+pub fn retention_cost(kind: Kind, z: u16, unreferenced: u16) -> MemoryUnits
+    ensures { λ r. ⌜ r .0 ≡ retention kind z unreferenced ⌝ }
+{
+    match kind {
+        Kind::Time => MemoryUnits(unreferenced as u64),
+        Kind::Space => MemoryUnits((unreferenced as u64) * (z as u64)),
+    }
+}
+
+impl MemoryUnits {
+    // Memory at the price d of one memory unit.
+    pub fn priced(self, d: u16) -> u64
+        requires { ⌜ self .0 < 2 ^ 40 ⌝ }
+        ensures { λ r. ⌜ r ≡ d * self .0 ⌝ }
+    {
+        (d as u64) * self.0
+    }
+}
+
+impl LoadUnits {
+    // Load at the price h of one load unit.
+    pub fn priced(self, h: u16) -> u64
+        requires { ⌜ self .0 < 2 ^ 40 ⌝ }
+        ensures { λ r. ⌜ r ≡ h * self .0 ⌝ }
+    {
+        (h as u64) * self.0
+    }
+}
+
+// Whether a reuse is kept: its priced retention does not exceed its priced swap cost.
+pub fn kept(priced_retention: u64, priced_swap: u64) -> bool
+    ensures { λ r. ⌜ r ≡ keeps «priced_retention» «priced_swap» ⌝ }
+{
+    priced_retention <= priced_swap
+}
+
+// The margin of a reuse: its priced swap cost less its priced retention.
+pub fn margin(priced_retention: u64, priced_swap: u64) -> i64
+    requires { ⌜ («priced_retention» < 2 ^ 62) × («priced_swap» < 2 ^ 62) ⌝ }
+    ensures { λ r. ⌜ r ≡ marginOf «priced_retention» «priced_swap» ⌝ }
+{
+    (priced_swap as i64) - (priced_retention as i64)
+}
+
+// The total of an amount of memory and an amount of load at a row's prices: the one place where the two units meet.
+pub fn total(row: PriceRow, memory: MemoryUnits, load: LoadUnits) -> u64
+    requires { ⌜ (memory .0 < 2 ^ 40) × (load .0 < 2 ^ 40) ⌝ }
+    ensures { λ r. ⌜ r ≡ totalCost (row .h) (row .d) (memory .0) (load .0) ⌝ }
+{
+    memory.priced(row.d) + load.priced(row.h)
+}
