@@ -1,5 +1,7 @@
 pub mod Digits
 pub mod Written
 pub mod Readings
+pub mod Scanned
 pub mod Padded
 pub mod Table
+pub mod Powers

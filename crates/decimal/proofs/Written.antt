@@ -1,16 +1,16 @@
 -- Laws of the digits of a number: they are a number, have its value, and are the only number that has it; and how many they are.
 -- Assumes nothing.
 use mathlib.Core.Path.{_≡_, refl, sym, ap, _∙_}
-use mathlib.Core.Bool.{Bool, true, false, false≢true, not, _&&_}
+use mathlib.Core.Bool.{Bool, true, false, false≢true, not}
 use mathlib.Core.List.{List, [], _∷_, _++_, append-assoc, append-nil}
 use Prim.Native.Nat.{ℕ, zero, suc, _+_, _*_, _-_, _/_, _%_, _^_, _≤_, _<_}
-use native.Mathlib.Nat.{not-suc-le-zero, le-of-suc-le-suc, pow-suc, one-le-pow}
+use native.Mathlib.Nat.{not-suc-le-zero, pow-suc, one-le-pow}
 use native.Mathlib.Omega.{arith}
 use borrow.Author.Tests.{ltb-true, ltb-false, lt-ltb, le-ltb, eqb-false, ne-eqb, not-true}
 use lib.Dec.{ltb, eqb}
-use lib.ListN.{length, getD, length-append}
+use lib.ListN.{length, length-append}
 use Rattle.decimal.specs.Decimal.{isDigit, allDigits, valueFrom, value, isNumber, writtenIn, written}
-use Rattle.decimal.proofs.Digits.{both, digit-bounds, digit-is, digits-append, value-append}
+use Rattle.decimal.proofs.Digits.{both, digit-bounds, digit-of, number-digits, digits-append, value-append}
 
 -- ---- the digits of n, by n
 
@@ -37,8 +37,8 @@ in-any : (k j n : ℕ) → n < k → n < j → writtenIn k n ≡ writtenIn j n
 in-any zero j n h i = absurd (not-suc-le-zero h)
 in-any (suc k) zero n h i = absurd (not-suc-le-zero i)
 in-any (suc k) (suc j) n h i =
-    by-ten n (λ l. in-low k n l ∙ sym (in-low j n l))
-    (λ g. in-high k n g ∙ (ap (λ s. s ++ ((48 + n % 10) ∷ [])) (in-any k j (n / 10) (omega arith) (omega arith)) ∙ sym (in-high j n g)))
+    by-ten n (λ l. rw (in-low k n l, in-low j n l))
+    (λ g. rw (in-high k n g, in-high j n g, in-any k j (n / 10) (omega arith) (omega arith)))
 
 -- a number below ten is written with one digit
 pub written-low : (n : ℕ) → n < 10 → written n ≡ (48 + n) ∷ []
@@ -48,7 +48,7 @@ written-low n h = in-low n n h
 -- any other with the digits of n / 10 and then the digit n % 10
 pub written-high : (n : ℕ) → 10 ≤ n → written n ≡ written (n / 10) ++ ((48 + n % 10) ∷ [])
 unfolding written
-written-high n h = in-high n n h ∙ ap (λ s. s ++ ((48 + n % 10) ∷ [])) (in-any n (suc (n / 10)) (n / 10) (omega arith) (omega arith))
+written-high n h = in-high n n h ∙ rw (in-any n (suc (n / 10)) (n / 10) (omega arith) (omega arith))
 
 -- induction along the digits
 pub by-digits : (P : ℕ → Type 0) → ((n : ℕ) → n < 10 → P n) → ((n : ℕ) → 10 ≤ n → P (n / 10) → P n) → (n : ℕ) → P n
@@ -59,14 +59,6 @@ by-digits P low high n = go (suc n) n (omega arith)
     go (suc k) n h = by-ten n (low n) (λ g. high n g (go k (n / 10) (omega arith)))
 
 -- ---- they are a number with the value n
-
--- the digits of n are digits
-pub written-digits : (n : ℕ) → allDigits (written n) ≡ true
-unfolding allDigits
-written-digits =
-    by-digits (λ n. allDigits (written n) ≡ true)
-    (λ n h. rw (written-low n h, digit-is (48 + n) (omega arith) (omega arith)))
-    (λ n h e. rw (written-high n h) (digits-append (written (n / 10)) ((48 + n % 10) ∷ []) e (rw (digit-is (48 + n % 10) (omega arith) (omega arith)))))
 
 -- the digits of n have the value n
 pub written-value : (n : ℕ) → value (written n) ≡ n
@@ -80,8 +72,7 @@ written-value =
 number-more : (s : List ℕ) (d : ℕ) → isNumber s ≡ true → 1 ≤ value s → isDigit d ≡ true → isNumber (s ++ (d ∷ [])) ≡ true
 unfolding isNumber allDigits valueFrom
 number-more [] d e v g = g
-number-more (b ∷ []) d e v g =
-    rw (ne-eqb b 48 (λ p. omega arith), e, g)
+number-more (b ∷ []) d e v g = rw (ne-eqb b 48 (λ p. omega arith), e, g)
 number-more (b ∷ c ∷ s) d e v g =
     let h = both (not (eqb b 48)) (allDigits (b ∷ c ∷ s)) e in
     rw (h .0) (digits-append (b ∷ c ∷ s) (d ∷ []) (h .1) (rw g))
@@ -91,8 +82,15 @@ pub written-number : (n : ℕ) → isNumber (written n) ≡ true
 unfolding isNumber
 written-number =
     by-digits (λ n. isNumber (written n) ≡ true)
-    (λ n h. rw (written-low n h) (digit-is (48 + n) (omega arith) (omega arith)))
-    (λ n h e. rw (written-high n h) (number-more (written (n / 10)) (48 + n % 10) e (omega (arith, written-value (n / 10))) (digit-is (48 + n % 10) (omega arith) (omega arith))))
+    (λ n h. rw (written-low n h) (digit-of n h))
+    (λ n h e. rw (written-high n h) (number-more (written (n / 10)) (48 + n % 10) e (more n h) (digit-of (n % 10) (omega arith))))
+  where
+    more : (n : ℕ) → 10 ≤ n → 1 ≤ value (written (n / 10))
+    more n h = omega (arith, written-value (n / 10))
+
+-- so they are digits
+pub written-digits : (n : ℕ) → allDigits (written n) ≡ true
+written-digits n = number-digits (written n) (written-number n)
 
 -- ---- and the only one
 
@@ -102,6 +100,7 @@ written-more v b h l g = written-high (v * 10 + (b - 48)) (omega arith) ∙ rw (
   where
     quotient : (v * 10 + (b - 48)) / 10 ≡ v
     quotient = omega arith
+
     last : 48 + (v * 10 + (b - 48)) % 10 ≡ b
     last = omega arith
 
@@ -152,3 +151,8 @@ written-longer zero n h = written-some n
 written-longer (suc k) n h =
     by-ten n (λ l. absurd (omega (arith, pow-suc 10 k, one-le-pow k 10 (omega arith))))
     (λ g. rw (written-high n g, length-append) (omega (arith, written-longer k (n / 10) (omega (arith, pow-suc 10 k)))))
+
+-- so a number below 10 ^ k with at least k digits, k not 0, has k
+pub written-exact : (k n : ℕ) → 1 ≤ k → k ≤ length (written n) → n < 10 ^ k → k ≡ length (written n)
+written-exact zero n p h l = absurd (not-suc-le-zero p)
+written-exact (suc k) n p h l = omega (arith, written-length k n l)

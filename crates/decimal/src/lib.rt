@@ -1,9 +1,9 @@
 // Decimal numbers in bytes: reading one within bounds, and writing one.
-// The contracts speak of the digits alone; the table of powers of ten is known to `power` only.
+// What a number and its digits are is written in specs/. The table of powers of ten is known to `width` alone. Nothing is assumed.
 ghost use mathlib.Core.Path.{_≡_};
 ghost use mathlib.Core.Bool.{_&&_};
 ghost use mathlib.Core.List.{_++_};
-ghost use Prim.Native.Nat.{_+_, _*_, _-_, _^_, _≤_, _<_, min};
+ghost use Prim.Native.Nat.{_+_, _*_, _-_, _≤_, _<_, min};
 ghost use lib.ListN.{length, take, drop};
 ghost use Rattle.decimal.specs.Decimal.{allDigits, isNumber, written, readingOf};
 
@@ -30,7 +30,7 @@ fn begins(s: &[u8]) -> bool
     s[0] != 48
 }
 
-// The value `v` with the digit `b` put after it, or `hi + 1` where that is more.
+// The value `v` with the digit `b` put after it, cut off at `hi + 1`.
 fn pushed(v: u64, b: u8, hi: u32) -> u64
     requires { ⌜ (v ≤ hi + 1) × (48 ≤ b) × (b ≤ 57) ⌝ }
     ensures { λ r. ⌜ r ≡ min (v * 10 + (b - 48)) (hi + 1) ⌝ }
@@ -93,21 +93,14 @@ const POWERS: [u64; 20] = [
     10000000000000000000,
 ];
 
-// 10 to the power `k`.
-fn power(k: usize) -> u64
-    requires { ⌜ k < 20 ⌝ }
-    ensures { λ r. ⌜ r ≡ 10 ^ k ⌝ }
-{
-    POWERS[k]
-}
-
 // How many digits `n` is written with.
 pub fn width(n: u64) -> usize
     ensures { λ r. ⌜ r ≡ length (written n) ⌝ }
 {
+    let powers = POWERS;
     let mut k: usize = 1;
     while k < 20 {
-        if n < power(k) {
+        if n < powers[k] {
             return k;
         }
         k += 1;
@@ -118,7 +111,8 @@ pub fn width(n: u64) -> usize
 // Writes the digits of `n` into `out` from the place `at` on, and gives the place after them. The other bytes of `out` stay.
 pub fn write(n: u64, out: &mut [u8], at: usize) -> usize
     requires { ⌜ at + length (written n) ≤ length (now out) ⌝ }
-    ensures { λ r. ⌜ (r ≡ at + length (written n)) × (now (out .exit) ≡ take at (now (out .entry)) ++ (written n ++ drop (at + length (written n)) (now (out .entry)))) ⌝ }
+    ensures { λ r. ⌜ (r ≡ at + length (written n))
+        × (now (out .exit) ≡ take at (now (out .entry)) ++ (written n ++ drop (at + length (written n)) (now (out .entry)))) ⌝ }
 {
     let w = width(n);
     let mut rest = n;

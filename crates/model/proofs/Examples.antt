@@ -2,22 +2,28 @@
 -- the definitions. Assumes nothing.
 use Prim.Native.Nat.{ℕ, _*_}
 use mathlib.Core.Path.{_≡_, refl}
-use mathlib.Core.Bool.{Bool, true, false, _&&_}
-use mathlib.Core.List.{List, [], _∷_}
-use lib.ListN.{getD}
-use lib.Dec.{eqb}
+use mathlib.Core.Bool.{Bool, true, false, _&&_, false≢true}
+use mathlib.Core.List.{List, [], _∷_, _++_}
+use lib.ListN.{getD, replicate}
+use lib.Dec.{eqb, lit<}
 use Rattle.model.specs.Sums.{sum, listOf}
 use Rattle.model.specs.Traces.{Trace, touching, later, unreferenced}
 use Rattle.model.specs.Figures.{misses, volume, load, optmem, opttotal, optocc, wsmem, wsocc, mean, kept, refCost, refVolume, smaller, wsspace}
-use Rattle.model.specs.Schedules.{optimalSchedule, nextKept, optimalHeld, optimalByte}
+use Rattle.model.specs.Schedules.{Permitted, held, scheduleMemory, scheduleLoad, scheduleTotal, optimalSchedule, nextKept, optimalHeld, optimalByte}
 use Rattle.model.specs.Sheets.{nothing}
 use Rattle.model.specs.declared.Kind.{Kind}
 use Rattle.model.specs.declared.Kind.the-variants.{Time, Space}
 
--- what an example speaks of: a figure, or a byte of the optimal schedule
+-- what an example speaks of: a figure, a byte of the optimal schedule, or the price of a schedule given by the first byte of each step
 pub data Item : Type 0 where
   Misses Volume Load Optmem Opttotal Optocc Wsmem Wsocc Mean : Item
   ScheduleByte : ℕ → Item
+  MemoryOf LoadOf TotalOf : List ℕ → Item
+
+-- 32 bytes for each step, all but the first of them 0
+pub bytesOf : List ℕ → List ℕ
+bytesOf [] = []
+bytesOf (b ∷ bs) = (b ∷ replicate 31 0) ++ bytesOf bs
 
 -- its value by the definitions
 valueOf : Item → Trace → ℕ → ℕ → ℕ
@@ -31,6 +37,9 @@ valueOf Wsmem T h d = wsmem T h d
 valueOf Wsocc T h d = wsocc T h d
 valueOf Mean T h d = mean T h d
 valueOf (ScheduleByte j) T h d = getD (optimalSchedule T h d) j 0
+valueOf (MemoryOf bs) T h d = scheduleMemory T (bytesOf bs)
+valueOf (LoadOf bs) T h d = scheduleLoad T (bytesOf bs)
+valueOf (TotalOf bs) T h d = scheduleTotal T h d (bytesOf bs)
 
 -- an item and the number that it has
 pub record Claim : Type 0 where
@@ -73,7 +82,23 @@ listing = runOf Space 1 (1 ∷ 3 ∷ []) (0 ∷ 1 ∷ 0 ∷ 1 ∷ 1 ∷ 0 ∷ []
 paper : Kind → Trace
 paper k = runOf k 0 (1 ∷ 2 ∷ 3 ∷ 4 ∷ 5 ∷ []) (4 ∷ 2 ∷ 1 ∷ 4 ∷ 0 ∷ 1 ∷ 3 ∷ 2 ∷ 3 ∷ 4 ∷ 1 ∷ 2 ∷ 1 ∷ 1 ∷ [])
 
--- P1 to P10
+-- two segments, the second of which stays untouched and so has no end interval
+untouched : Trace
+untouched = runOf Space 0 (1 ∷ 1 ∷ []) (0 ∷ 0 ∷ [])
+
+-- one reference with a = 3: load is 1 + 3 × 2
+weighted : Trace
+weighted = runOf Time 3 (2 ∷ []) (0 ∷ [])
+
+-- wsmem is 3 + 1 and wsocc is 4 + 1, so that the mean is 5,000 / 3
+rounded : Trace
+rounded = runOf Time 0 (1 ∷ 2 ∷ []) (0 ∷ 0 ∷ 1 ∷ [])
+
+-- segment 0 is touched in steps 1 and 4, segment 1 between
+pub between : Trace
+between = runOf Time 0 (1 ∷ 1 ∷ []) (0 ∷ 1 ∷ 1 ∷ 0 ∷ [])
+
+-- P1 to P10, then the further ones
 pub table : List Example
 table =
     at listing 1 2 (Misses is 4 ∷ Volume is 8 ∷ Load is 12 ∷ Optmem is 13 ∷ Opttotal is 38 ∷ Optocc is 13 ∷ Wsmem is 36 ∷ Wsocc is 36 ∷ Mean is 3000 ∷ [])
@@ -86,8 +111,21 @@ table =
     ∷ at (paper Time) 2 1 (Misses is 9 ∷ Volume is 28 ∷ Optocc is 63 ∷ Wsocc is 115 ∷ [])
     ∷ at (paper Time) 5 1 (Misses is 5 ∷ Volume is 15 ∷ Optocc is 120 ∷ Wsocc is 171 ∷ [])
     ∷ at (runOf Time 3 (7 ∷ 2 ∷ []) []) 5 2 (Misses is 0 ∷ Volume is 0 ∷ Load is 0 ∷ Optmem is 0 ∷ Opttotal is 0 ∷ Optocc is 0 ∷ Wsmem is 0 ∷ Wsocc is 0 ∷ Mean is 0 ∷ [])
+    ∷ at untouched 5 1 (Misses is 1 ∷ Volume is 1 ∷ Load is 1 ∷ Optmem is 2 ∷ Opttotal is 7 ∷ Optocc is 2 ∷ Wsmem is 2 ∷ Wsocc is 2 ∷ Mean is 1000 ∷ [])
+    ∷ at weighted 1 1 (Misses is 1 ∷ Volume is 2 ∷ Load is 7 ∷ Optmem is 1 ∷ Opttotal is 8 ∷ Optocc is 2 ∷ Wsmem is 1 ∷ Wsocc is 2 ∷ Mean is 2000 ∷ [])
+    ∷ at rounded 1 1 (Misses is 2 ∷ Volume is 3 ∷ Load is 2 ∷ Optmem is 3 ∷ Opttotal is 5 ∷ Optocc is 4 ∷ Wsmem is 4 ∷ Wsocc is 5 ∷ Mean is 1666 ∷ [])
+    ∷ at between 3 1 (Optmem is 6 ∷ Load is 2 ∷ Opttotal is 12 ∷ [])
+    ∷ at between 3 1 (MemoryOf (1 ∷ 3 ∷ 3 ∷ 1 ∷ []) is 6 ∷ LoadOf (1 ∷ 3 ∷ 3 ∷ 1 ∷ []) is 2 ∷ TotalOf (1 ∷ 3 ∷ 3 ∷ 1 ∷ []) is 12 ∷ [])
+    ∷ at between 3 1 (MemoryOf (1 ∷ 2 ∷ 2 ∷ 1 ∷ []) is 4 ∷ LoadOf (1 ∷ 2 ∷ 2 ∷ 1 ∷ []) is 3 ∷ TotalOf (1 ∷ 2 ∷ 2 ∷ 1 ∷ []) is 13 ∷ [])
+    ∷ at between 3 1 (TotalOf (1 ∷ 2 ∷ 3 ∷ 1 ∷ []) is 11 ∷ [])
     ∷ []
 
 pub table-holds : allHold table ≡ true
-unfolding allHold claims valueOf _is_ table runOf listing paper misses volume load optmem opttotal optocc wsmem wsocc mean optimalSchedule sum listOf touching later unreferenced kept refCost refVolume smaller wsspace nextKept optimalHeld optimalByte
+unfolding allHold claims valueOf bytesOf _is_ table runOf listing paper untouched weighted rounded between held scheduleMemory scheduleLoad scheduleTotal misses volume load optmem opttotal optocc wsmem wsocc mean optimalSchedule sum listOf touching later unreferenced kept refCost refVolume smaller wsspace nextKept optimalHeld optimalByte
 table-holds = refl
+
+-- the last schedule of the table drops segment 0 in step 2 and lets it enter again, untouched, in step 3. It would cost less than the
+-- optimum, and it is not permitted
+pub re-entry : Permitted between (bytesOf (1 ∷ 2 ∷ 3 ∷ 1 ∷ [])) → ⊥
+unfolding between runOf bytesOf held
+re-entry p = false≢true (p .others-stay 2 0 (lit< tt) (lit< tt) refl refl)

@@ -1,5 +1,7 @@
 pub mod Costs
+pub mod Places
 pub mod Refusals
+pub mod Rows
 pub mod Sums
 pub mod Traces
 pub mod Figures

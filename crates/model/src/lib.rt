@@ -4,7 +4,8 @@ ghost use mathlib.Core.Path.{_≡_};
 ghost use mathlib.Core.Bool.{Bool};
 ghost use Prim.Native.Nat.{ℕ, _+_, _*_, _≤_, _<_, _^_};
 ghost use Rattle.model.specs.Costs.{swapCost, retention, keeps, totalCost, marginOf};
-ghost use Rattle.model.specs.Refusals.{numberOf};
+ghost use Rattle.model.specs.Rows.{zeroFigures};
+ghost use Rattle.model.specs.Refusals.{numberOf, verdictNumber};
 
 // What a memory unit is: a reference by itself (time), or the size of the segment (space).
 pub enum Kind {
@@ -24,6 +25,42 @@ pub struct PriceRow {
     pub d: u16,
 }
 
+// The figures of a row, the eleven items that the listing prints. wsmem and wsocc carry the factor d.
+pub struct RowFigures {
+    pub h: u64,
+    pub d: u64,
+    pub misses: u64,
+    pub volume: u64,
+    pub load: LoadUnits,
+    pub optmem: MemoryUnits,
+    pub opttotal: u64,
+    pub optocc: u64,
+    pub wsmem: u64,
+    pub wsocc: u64,
+    pub mean: u64,
+}
+
+impl RowFigures {
+    // All figures zero: what a refused call hands back.
+    pub fn zero() -> RowFigures
+        ensures { λ r. ⌜ r ≡ zeroFigures ⌝ }
+    {
+        RowFigures {
+            h: 0,
+            d: 0,
+            misses: 0,
+            volume: 0,
+            load: LoadUnits(0),
+            optmem: MemoryUnits(0),
+            opttotal: 0,
+            optocc: 0,
+            wsmem: 0,
+            wsocc: 0,
+            mean: 0,
+        }
+    }
+}
+
 // Why a call refuses, a name for each number of the list in document 01.
 pub enum Refusal {
     SheetTooLong,
@@ -41,6 +78,18 @@ pub enum Refusal {
     RecorderFull,
     NoSuchReference,
     FirstTouch,
+}
+
+// Whether a call was carried out, or why it was refused.
+pub enum Verdict {
+    Accepted,
+    Refused(Refusal),
+}
+
+// What a call that writes into a lent place answers: whether it wrote, and how much, 0 where it refused.
+pub struct PlaceAnswer {
+    pub verdict: Verdict,
+    pub length: usize,
 }
 
 // The number of a refusal.
@@ -63,6 +112,16 @@ pub fn number(r: Refusal) -> u64
         Refusal::RecorderFull => 13,
         Refusal::NoSuchReference => 14,
         Refusal::FirstTouch => 15,
+    }
+}
+
+// The number of a verdict: 0 where the call was carried out.
+pub fn verdict_number(v: Verdict) -> u64
+    ensures { λ n. ⌜ n ≡ verdictNumber v ⌝ }
+{
+    match v {
+        Verdict::Accepted => 0,
+        Verdict::Refused(r) => number(r),
     }
 }
 

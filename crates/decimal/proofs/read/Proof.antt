@@ -1,72 +1,77 @@
+-- `decimal::read` meets its contract. The loop's invariant: the bytes passed are digits, and `v` is their value, cut off above `hi`.
+-- Assumes nothing.
+use mathlib.Core.Path.{sym, _∙_}
+use Prim.Native.Nat.{_-_}
+use native.Mathlib.Omega.{arith}
 use borrow.Author.Needs.{needs}
+use borrow.Author.Tests.{not-true, not-false}
+use lib.ListN.{length}
+use Rattle.decimal.proofs.Digits.{below-digit, above-digit}
+use Rattle.decimal.proofs.Readings.{reading-none}
+use Rattle.decimal.proofs.Scanned.{Scanned, scan-start, scan-step, scan-stop, scan-out, scan-within}
 use Rattle.decimal.proofs.read.Statement.{statement}
 use Rattle.decimal.proofs.read.Tie as tie
-use Rattle.decimal.proofs.read.Reads as reads
-use Rattle.decimal.proofs.read.Lts as lts
-use Rattle.decimal.proofs.begins.Reads as begins-reads
-use Rattle.decimal.proofs.pushed.Reads as pushed-reads
 
 abbrev Inv-loop : tie.InvT-loop
-Inv-loop s lo hi v₀ i₀ v i = ?
+Inv-loop s lo hi v₀ i₀ v i = Scanned s hi v i
 
 abbrev μ-loop : tie.MeasureT-loop
-μ-loop s lo hi v₀ i₀ v i = ?
+μ-loop s lo hi v₀ i₀ v i = length s - i
 
--- src/lib.rt:47:9
 begins-requires : tie.Need-begins-requires Inv-loop μ-loop
 begins-requires c κs = search needs
 
--- src/lib.rt:48:9
 returns : tie.Need-returns Inv-loop μ-loop
-returns c = search needs
+returns c = sym (reading-none _ _ _ (c .before .begins .ensures ∙ rw (not-true (c .before .begins .result) (c .if1 .taken))))
 
--- src/lib.rt:52:5
 loop-holds : tie.Need-loop-holds Inv-loop μ-loop
-loop-holds c = search needs
+loop-holds c = scan-start _ _ (c .before .begins .ensures ∙ rw (not-false (c .before .begins .result) (c .if1 .left)))
 
--- src/lib.rt:53:17
 shared-slice-read-b : tie.Need-shared-slice-read-b Inv-loop μ-loop
 shared-slice-read-b c = search needs
 
--- src/lib.rt:55:13
 returns-2 : tie.Need-returns-2 Inv-loop μ-loop
-returns-2 c = search needs
+returns-2 c =
+    let d = c .before .before in
+    sym (scan-stop _ _ _ _ (d .before .loop .inv) _ (d .loop-test .taken) (below-digit _ (c .if2 .taken)))
 
--- src/lib.rt:58:13
 returns-3 : tie.Need-returns-3 Inv-loop μ-loop
-returns-3 c = search needs
+returns-3 c =
+    let d = c .before .before .before in
+    sym (scan-stop _ _ _ _ (d .before .loop .inv) _ (d .loop-test .taken) (above-digit _ (c .if3 .taken)))
 
--- src/lib.rt:60:9
 pushed-requires : tie.Need-pushed-requires Inv-loop μ-loop
 pushed-requires c κs = search needs
 
--- src/lib.rt:61:9
 add-i : tie.Need-add-i Inv-loop μ-loop
 add-i c = search needs
 
--- src/lib.rt:52:5
 loop-less : tie.Need-loop-less Inv-loop μ-loop
 loop-less c = search needs
 
--- src/lib.rt:52:5
 loop-again : tie.Need-loop-again Inv-loop μ-loop
-loop-again c = search needs
+loop-again c =
+    let d = c .before .before .before .before in
+    rw (c .pushed .ensures)
+    (scan-step _ _ _ _ (d .before .loop .inv) (d .loop-test .taken) (c .before .before .if2 .left) (c .before .if3 .left))
 
--- src/lib.rt:64:9
 returns-4 : tie.Need-returns-4 Inv-loop μ-loop
-returns-4 c = search needs
+returns-4 c =
+    let d = c .before in
+    sym (scan-out _ _ _ _ (d .before .loop .inv) _ (d .loop-test .left) (λ l u. omega arith))
 
--- src/lib.rt:67:9
 returns-5 : tie.Need-returns-5 Inv-loop μ-loop
-returns-5 c = search needs
+returns-5 c =
+    let d = c .before .before in
+    sym (scan-out _ _ _ _ (d .before .loop .inv) _ (d .loop-test .left) (λ l u. omega arith))
 
--- src/lib.rt:69:21
 cast-t14 : tie.Need-cast-t14 Inv-loop μ-loop
 cast-t14 c = search needs
 
--- src/lib.rt:44:1
 returns-6 : tie.Need-returns-6 Inv-loop μ-loop
-returns-6 c = search needs
+returns-6 c =
+    let d = c .before .before in
+    sym (scan-within _ _ _ _ (d .before .loop .inv) _ (d .loop-test .left) (omega arith) (omega arith))
 
 pub read-spec : {M : Type 1} → statement M
 read-spec =

@@ -21,10 +21,11 @@ priced-requires-2 c κs = search needs
 add-result : tie.Need-add-result
 add-result c =
     let a = c .before .before .args in
-    omega
-    (arith,
-    product-within (a .row .d) (a .memory .0) (2 ^ 16) (2 ^ 40) (omega arith) (omega arith),
-    product-within (a .row .h) (a .load .0) (2 ^ 16) (2 ^ 40) (omega arith) (omega arith))
+    omega (
+      arith,
+      product-within (a .row .d) (a .memory .0) (2 ^ 16) (2 ^ 40) (omega arith) (omega arith),
+      product-within (a .row .h) (a .load .0) (2 ^ 16) (2 ^ 40) (omega arith) (omega arith),
+    )
 
 -- src/lib.rt:122:1
 returns : tie.Need-returns
