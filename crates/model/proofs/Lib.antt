@@ -1,5 +1,16 @@
+pub mod Ascent
+pub mod Bits
 pub mod Bounds
+pub mod Demand
+pub mod DoubleSums
+pub mod Empty
 pub mod Examples
+pub mod Growth
+pub mod LeastLoad
+pub mod Loads
+pub mod LowerBound
 pub mod Margins
+pub mod Optimal
+pub mod Relation
 pub mod Sums
 pub mod Touches

@@ -1,6 +1,6 @@
 -- The margin of a reuse: its value on either side of 0, its range, and that it is 0 or more exactly when the reuse is kept.
 -- Assumes nothing.
-use Prim.Native.Nat.{ℕ, zero, suc, _+_, _-_, _≤_, _<_, _^_}
+use Prim.Native.Nat.{ℕ, zero, suc, _-_, _*_, _≤_, _<_, _^_}
 use mathlib.Core.Path.{_≡_, refl, ap, _∙_}
 use mathlib.Core.Bool.{Bool, true, false, cond}
 use native.Mathlib.Omega.{arith}
@@ -11,6 +11,8 @@ use mir.Syntax.{w64}
 use mir.Val.{SFits}
 use borrow.Author.Tests.{le-ltb, lt-ltb, le-leb, lt-leb, leb-true, leb-false}
 use Rattle.model.specs.Costs.{keeps, marginOf}
+use Rattle.model.specs.Traces.{Trace, swapOf, unreferenced}
+use Rattle.model.specs.Figures.{isReuse, kept, retentionOf, marginAt}
 
 pub margin-kept : (dR hw : ℕ) → dR ≤ hw → marginOf dR hw ≡ pos (hw - dR)
 margin-kept zero hw le = ap pos (omega arith)
@@ -27,6 +29,11 @@ margin-sign dR hw = go (leb dR hw) refl
     go : (b : Bool) → leb dR hw ≡ b → nonNeg (marginOf dR hw) ≡ keeps dR hw
     go true e = rw (margin-kept dR hw (leb-true dR hw e), e)
     go false e = rw (margin-removed dR hw (leb-false dR hw e), e)
+
+-- so it is of a touch that is a reuse
+pub reuse-margin : (T : Trace) (h d t i : ℕ) → isReuse (unreferenced T t i) ≡ true → nonNeg (marginAt T h d t i) ≡ kept T h d t i
+unfolding kept
+reuse-margin T h d t i e = rw e (margin-sign (d * retentionOf T t i) (h * swapOf T i))
 
 -- it fits a signed 64-bit number where both prices are below 2 ^ 62
 pub margin-fits : (dR hw : ℕ) → dR < 2 ^ 62 → hw < 2 ^ 62 → SFits w64 (marginOf dR hw)

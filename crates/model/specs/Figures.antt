@@ -4,7 +4,8 @@ use Prim.Native.Nat.{ℕ, _+_, _*_, _/_, min}
 use mathlib.Core.Bool.{Bool, true, false, cond}
 use mathlib.Core.Option.{Option, none, some}
 use lib.Dec.{eqb}
-use Rattle.model.specs.Costs.{keeps, totalCost, retention}
+use lib.IntN.{ℤ}
+use Rattle.model.specs.Costs.{keeps, totalCost, retention, marginOf}
 use Rattle.model.specs.Traces.{Trace, steps, sizeOf, swapOf, unitOf, overTouches, overSegments, unreferenced}
 use Rattle.model.specs.declared.Kind.{Kind}
 use Rattle.model.specs.declared.Kind.the-variants.{Time, Space}
@@ -39,6 +40,10 @@ isReuse (some k) = true
 unfoldable pub kept : Trace → ℕ → ℕ → ℕ → ℕ → Bool
 kept T h d t i =
     cond (isReuse (unreferenced T t i)) (keeps (d * retentionOf T t i) (h * swapOf T i)) false
+
+-- the margin of a touch of segment i in the step at place t: h × w − d × R, signed. A first touch has none
+abbrev pub marginAt : Trace → ℕ → ℕ → ℕ → ℕ → ℤ
+marginAt T h d t i = marginOf (d * retentionOf T t i) (h * swapOf T i)
 
 -- misses: references not kept, first touches included
 unfoldable pub misses : Trace → ℕ → ℕ → ℕ

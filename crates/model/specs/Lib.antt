@@ -1,9 +1,10 @@
 pub mod Costs
+pub mod Demand
+pub mod Figures
 pub mod Places
 pub mod Refusals
 pub mod Rows
-pub mod Sums
-pub mod Traces
-pub mod Figures
 pub mod Schedules
 pub mod Sheets
+pub mod Sums
+pub mod Traces
