@@ -6,6 +6,7 @@ pub mod DoubleSums
 pub mod Empty
 pub mod Examples
 pub mod Growth
+pub mod LastTouches
 pub mod LeastLoad
 pub mod Loads
 pub mod LowerBound

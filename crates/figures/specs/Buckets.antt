@@ -1,0 +1,77 @@
+-- The 65 buckets: one per row and the last, which the single pass fills. Each reuse goes to the first row that keeps it; a reuse that
+-- no row keeps, and each first touch (with retention 0), goes to the last bucket. End intervals are counted apart. Assumes nothing.
+use Prim.Native.Nat.{ℕ, zero, suc, _+_, _*_}
+use mathlib.Core.Bool.{Bool, true, false, cond}
+use mathlib.Core.List.{List, [], _∷_, _++_}
+use lib.Dec.{eqb}
+use Rattle.model.specs.Costs.{keeps}
+use Rattle.model.specs.Sums.{sum}
+use Rattle.model.specs.Traces.{Trace, steps, sizeOf, swapOf, touching, overSegments, unreferenced}
+use Rattle.model.specs.Figures.{retentionOf, isReuse, refCost, refVolume}
+use Rattle.model.specs.declared.PriceRow.{PriceRow}
+use Rattle.figures.specs.declared.Bucket.{Bucket}
+use Rattle.figures.specs.declared.Tally.{Tally}
+
+-- the last bucket, and how many there are
+abbrev pub lastBucket : ℕ
+lastBucket = 64
+
+abbrev pub bucketCount : ℕ
+bucketCount = 65
+
+-- the first row, counted from r, that keeps a reuse of retention R and swap cost w; the last bucket where none does
+unfoldable pub firstRow : List PriceRow → ℕ → ℕ → ℕ → ℕ
+firstRow [] r R w = lastBucket
+firstRow (q ∷ qs) r R w = cond (keeps (q .d * R) (q .h * w)) r (firstRow qs (suc r) R w)
+
+-- the bucket of a touch of segment i after t steps
+unfoldable pub bucketOf : List PriceRow → Trace → ℕ → ℕ → ℕ
+bucketOf rows T t i = cond (isReuse (unreferenced T t i)) (firstRow rows 0 (retentionOf T t i) (swapOf T i)) lastBucket
+
+-- the sum of g t i over the touches of the first n steps that go to bucket k
+unfoldable pub filed : List PriceRow → Trace → ℕ → ℕ → (ℕ → ℕ → ℕ) → ℕ
+filed rows T n k g = sum n (touching T (λ t i. cond (eqb (bucketOf rows T t i) k) (g t i) 0))
+
+-- bucket k after n steps: count, volume, retention and swap sums, the last two also with each item multiplied by z
+unfoldable pub bucketAfter : List PriceRow → Trace → ℕ → ℕ → Bucket
+bucketAfter rows T n k =
+    record {
+      count = filed rows T n k (λ t i. 1);
+      volume = filed rows T n k (λ t i. sizeOf T i);
+      retention = filed rows T n k (λ t i. retentionOf T t i);
+      swap = filed rows T n k (λ t i. swapOf T i);
+      retentionz = filed rows T n k (λ t i. retentionOf T t i * sizeOf T i);
+      swapz = filed rows T n k (λ t i. swapOf T i * sizeOf T i);
+    }
+
+-- the sum of g i over the first m segments whose end interval goes to bucket k; a never-touched segment has none
+unfoldable pub ended : List PriceRow → Trace → ℕ → ℕ → (ℕ → ℕ) → ℕ
+ended rows T m k g =
+    sum m (λ i. cond (isReuse (unreferenced T (steps T) i)) (cond (eqb (bucketOf rows T (steps T) i) k) (g i) 0) 0)
+
+-- bucket k of the end intervals of the first m segments
+unfoldable pub endBucket : List PriceRow → Trace → ℕ → ℕ → Bucket
+endBucket rows T m k =
+    record {
+      count = ended rows T m k (λ i. 1);
+      volume = ended rows T m k (λ i. sizeOf T i);
+      retention = ended rows T m k (λ i. retentionOf T (steps T) i);
+      swap = ended rows T m k (λ i. swapOf T i);
+      retentionz = ended rows T m k (λ i. retentionOf T (steps T) i * sizeOf T i);
+      swapz = ended rows T m k (λ i. swapOf T i * sizeOf T i);
+    }
+
+-- f 0, f 1, .., f (n - 1)
+unfoldable pub tabulate : {A : Type 0} → ℕ → (ℕ → A) → List A
+tabulate zero f = []
+tabulate (suc n) f = tabulate n f ++ (f n ∷ [])
+
+-- what the single pass hands over: the buckets of the touches and of the end intervals, Q and V
+unfoldable pub tallyOf : List PriceRow → Trace → Tally
+tallyOf rows T =
+    record {
+      buckets = tabulate bucketCount (bucketAfter rows T (steps T));
+      ends = tabulate bucketCount (endBucket rows T (Rattle.model.specs.Traces.segs T));
+      cost = refCost T;
+      volume = refVolume T;
+    }

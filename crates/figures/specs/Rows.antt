@@ -1,0 +1,24 @@
+-- The figures of all rows of a sheet, as they are held by value. Assumes nothing.
+use Prim.Native.Nat.{ℕ}
+use mathlib.Core.Bool.{cond}
+use mathlib.Core.List.{List}
+use lib.ListN.{length}
+use lib.Dec.{ltb}
+use Rattle.model.specs.Sheets.{SheetValue, traceOf, rowAt, mostRows}
+use Rattle.model.specs.Rows.{rowFigures, zeroFigures}
+use Rattle.model.specs.declared.Kind.{Kind}
+use Rattle.model.specs.declared.PriceRow.{PriceRow}
+use Rattle.model.specs.declared.RowFigures.{RowFigures}
+use Rattle.figures.specs.Buckets.{tabulate}
+
+-- a sheet's value from its parts
+abbrev pub partsOf : Kind → ℕ → List ℕ → List PriceRow → List ℕ → SheetValue
+partsOf kind a sizes rows refs = record { kind = kind; a = a; sizes = sizes; rows = rows; refs = refs }
+
+-- the figures of row r of a sheet
+abbrev pub figuresAt : SheetValue → ℕ → RowFigures
+figuresAt s r = rowFigures (traceOf s) (rowAt s r .h) (rowAt s r .d)
+
+-- the figures of every row, and zeros beyond the rows
+unfoldable pub allFigures : SheetValue → List RowFigures
+allFigures s = tabulate mostRows (λ r. cond (ltb r (length (s .rows))) (figuresAt s r) zeroFigures)

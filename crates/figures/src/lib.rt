@@ -1,0 +1,30 @@
+// The figures of all rows of a sheet from one pass over its references.
+// Every item is the definition's of crate `model`; nothing is assumed.
+use model::Kind;
+use model::PriceRow;
+use model::RowFigures;
+ghost use mathlib.Core.Path.{_≡_};
+ghost use Prim.Native.Nat.{ℕ, _+_, _*_, _≤_, _<_, _^_};
+ghost use lib.ListN.{length, take};
+ghost use Rattle.model.specs.Sheets.{Valid, traceOf, mostRows};
+ghost use Rattle.figures.specs.Buckets.{tallyOf};
+ghost use Rattle.figures.specs.Rows.{partsOf, allFigures};
+
+// A bucket: how many touches it holds, their sizes, retentions and swap costs added, the last two also with each item multiplied by
+// its size.
+pub struct Bucket {
+    pub count: u64,
+    pub volume: u64,
+    pub retention: u64,
+    pub swap: u64,
+    pub retentionz: u64,
+    pub swapz: u64,
+}
+
+// What the pass hands over: a bucket per row and the last, for touches and for end intervals; Q and V.
+pub struct Tally {
+    pub buckets: [Bucket; 65],
+    pub ends: [Bucket; 65],
+    pub cost: u64,
+    pub volume: u64,
+}

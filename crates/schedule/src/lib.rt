@@ -1,0 +1,45 @@
+// Schedules: writing the optimal one of a row, and checking and pricing one handed in.
+// What a schedule is and costs is written in crate `model`; nothing is assumed.
+use model::LoadUnits;
+use model::MemoryUnits;
+use model::Verdict;
+ghost use mathlib.Core.Path.{_≡_};
+ghost use Prim.Native.Nat.{ℕ, _+_, _*_, _/_, _%_, _^_, _≤_, _<_};
+
+// The shape of a schedule of so many steps: 32 bytes a step, segment i at bit i % 8 of byte i / 8.
+pub struct Schedule {
+    pub steps: usize,
+}
+
+impl Schedule {
+    // The bytes of a step.
+    pub const STEP_BYTES: usize = 32;
+    // The most steps.
+    pub const MAX_STEPS: usize = 2_048;
+    // The bytes of the largest schedule.
+    pub const MAX_BYTES: usize = 65_536;
+
+    // The schedule of a run of so many steps.
+    pub fn of_steps(steps: usize) -> Schedule
+        requires { ⌜ steps ≤ 2048 ⌝ }
+        ensures { λ r. ⌜ r .steps ≡ steps ⌝ }
+    {
+        Schedule { steps }
+    }
+
+    // How many bytes it has.
+    pub fn length(self) -> usize
+        requires { ⌜ self .steps ≤ 2048 ⌝ }
+        ensures { λ r. ⌜ (r ≡ 32 * self .steps) × (r ≤ 65536) ⌝ }
+    {
+        Schedule::STEP_BYTES * self.steps
+    }
+}
+
+// What pricing a schedule gives: its memory, load and total, all zero where it is refused.
+pub struct PriceAnswer {
+    pub verdict: Verdict,
+    pub memory: MemoryUnits,
+    pub load: LoadUnits,
+    pub total: u64,
+}

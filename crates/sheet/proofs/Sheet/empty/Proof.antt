@@ -1,0 +1,12 @@
+-- `Sheet::empty` meets its contract: the arrays of zeros are those of the definition. Assumes nothing.
+use borrow.Author.Needs.{needs}
+use Rattle.sheet.specs.Values.{emptySheet, zeros, zeroRows}
+use Rattle.sheet.proofs.Sheet.empty.Statement.{statement}
+use Rattle.sheet.proofs.Sheet.empty.Tie as tie
+
+returns : tie.Need-returns
+unfolding emptySheet zeros zeroRows
+returns c = search needs
+
+pub empty-spec : {M : Type 1} → statement M
+empty-spec = tie.close (tie.spec returns)

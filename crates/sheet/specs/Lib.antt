@@ -1,0 +1,5 @@
+pub mod Keys
+pub mod Lines
+pub mod Reading
+pub mod Values
+pub mod Writing
