@@ -1,1 +1,10 @@
+pub mod Accepted
 pub mod Examples
+pub mod Held
+pub mod Lengths
+pub mod Parsing
+pub mod Refusals
+pub mod RoundTrip
+pub mod Runs
+pub mod SheetLines
+pub mod Words

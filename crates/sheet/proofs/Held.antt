@@ -1,0 +1,24 @@
+-- The sheet that holds a value has that value; so what is written of a sheet that was read is what was read. Assumes nothing.
+use Prim.Native.Nat.{ℕ}
+use mathlib.Core.Path.{_≡_, ap, _∙_}
+use mathlib.Core.List.{List}
+use lib.ListN.{length, take, drop}
+use lib.Seq.{take-append-seam}
+use Rattle.model.specs.Sheets.{SheetValue, mostSegs, mostRows, mostRefs}
+use Rattle.sheet.specs.Reading.{accepted, readSheet}
+use Rattle.sheet.specs.Values.{zeros, zeroRows, padded, sheetOf, valueOf}
+use Rattle.sheet.specs.Writing.{sheetText}
+use Rattle.sheet.proofs.RoundTrip.{read-then-written}
+
+-- a list at the front of blanks is the front
+front : {A : Type 0} (xs blank : List A) → take (length xs) (padded xs blank) ≡ xs
+unfolding padded
+front xs blank = take-append-seam xs (drop (length xs) blank)
+
+pub held : (v : SheetValue) → valueOf (sheetOf v) ≡ v
+unfolding valueOf sheetOf
+held v = rw (front (v .sizes) (zeros mostSegs), front (v .rows) (zeroRows mostRows), front (v .refs) (zeros mostRefs))
+
+-- the text of an accepted sheet, as it is held, is the bytes that were read
+pub held-text : (s : List ℕ) (v : SheetValue) → readSheet s ≡ accepted v → sheetText (valueOf (sheetOf v)) ≡ s
+held-text s v e = ap sheetText (held v) ∙ read-then-written s v e

@@ -1,0 +1,218 @@
+-- The text of a valid value has at most 20,012 bytes, and that of one valid value has as many. Assumes nothing.
+use Prim.Native.Nat.{ℕ, zero, suc, _+_, _-_, _*_, _^_, _≤_, _<_}
+use mathlib.Core.Path.{_≡_, refl, ap, _∙_}
+use mathlib.Core.Bool.{true}
+use mathlib.Core.List.{List, [], _∷_, _++_}
+use mathlib.Core.Option.{Option, none, some}
+use native.Mathlib.Omega.{arith}
+use borrow.Author.Tests.{lt-ltb}
+use lib.ListN.{length, length-append, replicate, length-replicate}
+use Rattle.decimal.specs.Decimal.{written, writtenIn}
+use Rattle.decimal.proofs.Written.{written-length, written-longer}
+use Rattle.model.specs.Sheets.{SheetValue, Valid, largestA, mostSegs, largestSize, mostRows, mostRefs}
+use Rattle.model.specs.declared.Kind.{Kind}
+use Rattle.model.specs.declared.Kind.the-variants.{Time, Space}
+use Rattle.model.specs.declared.PriceRow.{PriceRow}
+use Rattle.sheet.specs.Keys.{lineFeed, kindKey, aKey, segsKey, sizeKey, rowsKey, refsKey, refKey, kindWord}
+use Rattle.sheet.specs.Reading.{mostBytes, above, inPrices}
+use Rattle.sheet.specs.Writing.{lineText, numberText, numbersText, rowText, rowsText, sheetText}
+use Rattle.sheet.proofs.Runs.{Each, each-map, linesText, numbers-text, rows-text, lines-length}
+use Rattle.sheet.proofs.Words.{RowFits}
+use Rattle.sheet.proofs.SheetLines.{From, Readable}
+use Rattle.sheet.proofs.Accepted.{readable-valid, valid-readable, prices-within, within-prices}
+
+-- ---- the length of a text is that of its lines
+
+-- a line: its key and its value, and one
+line-length : (key v : List ℕ) → length (lineText key v) ≡ length key + (length v + 1)
+line-length key v = rw (length-append key (v ++ (lineFeed ∷ [])), length-append v (lineFeed ∷ []))
+
+eight : (a b c d e f g h : List ℕ) → length (a ++ (b ++ (c ++ (d ++ (e ++ (f ++ (g ++ h)))))))
+    ≡ length a + (length b + (length c + (length d + (length e + (length f + (length g + length h))))))
+eight a b c d e f g h = simp length-append
+
+text-length : (v : SheetValue) → length (sheetText v)
+    ≡ length (lineText kindKey (kindWord (v .kind)))
+    + (length (numberText aKey (v .a))
+    + (length (numberText segsKey (length (v .sizes)))
+    + (length (linesText (numberText sizeKey) (v .sizes))
+    + (length (numberText rowsKey (length (v .rows)))
+    + (length (linesText rowText (v .rows))
+    + (length (numberText refsKey (length (v .refs)))
+    + length (linesText (numberText refKey) (v .refs))))))))
+unfolding sheetText
+text-length v =
+    rw (← numbers-text sizeKey (v .sizes), ← rows-text (v .rows), ← numbers-text refKey (v .refs))
+    (eight
+    (lineText kindKey (kindWord (v .kind)))
+    (numberText aKey (v .a))
+    (numberText segsKey (length (v .sizes)))
+    (numbersText sizeKey (v .sizes))
+    (numberText rowsKey (length (v .rows)))
+    (rowsText (v .rows))
+    (numberText refsKey (length (v .refs)))
+    (numbersText refKey (v .refs)))
+
+-- ---- at most 20,012 bytes
+
+-- the line of a number below 10 ^ suc k, and the lines of such numbers
+number-within : (key : List ℕ) (k n : ℕ) → n < 10 ^ suc k → length (numberText key n) ≤ length key + (suc k + 1)
+number-within key k n h = rw (line-length key (written n)) (omega (arith, written-length k n h))
+
+numbers-within : (key : List ℕ) (lo hi k : ℕ) → hi < 10 ^ suc k → (xs : List ℕ) → Each (From lo hi) none xs
+    → length (linesText (numberText key) xs) ≤ length xs * (length key + (suc k + 1))
+numbers-within key lo hi k h xs c =
+    lines-length (numberText key) (From lo hi) 0 (length key + (suc k + 1))
+    (λ prev x f. (omega arith, number-within key k x (omega arith))) none xs c .1
+
+-- the line of a row, and the lines of rows
+row-length : (q : PriceRow) → length (rowText q) ≡ 6 + (length (written (q .h)) + length (written (q .d)))
+row-length q = simp length-append (omega arith)
+
+row-within : (prev : Option PriceRow) (q : PriceRow) → RowFits prev q → length (rowText q) ≤ 16
+row-within prev q f =
+    let (h, _, d) = prices-within (q .h) (q .d) (f .0) in
+    rw (row-length q) (omega (arith, written-length 4 (q .h) (omega arith), written-length 4 (q .d) (omega arith)))
+
+rows-within : (qs : List PriceRow) → Each RowFits none qs → length (linesText rowText qs) ≤ length qs * 16
+rows-within qs c = lines-length rowText RowFits 0 16 (λ prev q f. (omega arith, row-within prev q f)) none qs c .1
+
+kind-within : (k : Kind) → length (lineText kindKey (kindWord k)) ≤ 11
+kind-within Time = omega arith
+kind-within Space = omega arith
+
+pub text-within : (v : SheetValue) → Valid v → length (sheetText v) ≤ mostBytes
+text-within v c =
+    let r = valid-readable v c in
+    rw (text-length v)
+    (omega (
+      arith,
+      kind-within (v .kind),
+      number-within aKey 2 (v .a) (omega (arith, c .a-within)),
+      number-within segsKey 2 (length (v .sizes)) (omega (arith, c .segs-within)),
+      numbers-within sizeKey 1 largestSize 3 (omega arith) (v .sizes) (r .sizes-fit),
+      number-within rowsKey 1 (length (v .rows)) (omega (arith, c .rows-within)),
+      rows-within (v .rows) (r .prices-fit),
+      number-within refsKey 3 (length (v .refs)) (omega (arith, c .refs-within)),
+      numbers-within refKey 0 (length (v .sizes) - 1) 2 (omega (arith, c .segs-within)) (v .refs) (r .touches-fit),
+    ))
+
+-- ---- and one valid value with as many
+
+-- the row (10000 + k)/10000, and n such rows from k on
+abbrev wideRow : ℕ → PriceRow
+wideRow k = record { h = 10000 + k; d = 10000 }
+
+wideRows : ℕ → ℕ → List PriceRow
+wideRows k zero = []
+wideRows k (suc n) = wideRow k ∷ wideRows (suc k) n
+
+-- n sizes 4095, m rows from 10000/10000 on and k references 255
+filled : ℕ → ℕ → ℕ → SheetValue
+filled n m k =
+    record {
+      kind = Space;
+      a = largestA;
+      sizes = replicate n largestSize;
+      rows = wideRows 0 m;
+      refs = replicate k 255;
+    }
+
+-- the largest sheet: 256 sizes, 64 rows and 2,048 references
+pub largest : SheetValue
+largest = filled mostSegs mostRows mostRefs
+
+-- the same element again and again, where it fits after any
+each-same : {A : Type 0} (F : Option A → A → Type 0) (x : A) → ((prev : Option A) → F prev x)
+    → (n : ℕ) (prev : Option A) → Each F prev (replicate n x)
+each-same F x f zero prev = tt
+each-same F x f (suc n) prev = (f prev, each-same F x f n (some x))
+
+wide-length : (k n : ℕ) → length (wideRows k n) ≡ n
+unfolding wideRows
+wide-length k zero = refl
+wide-length k (suc n) = ap suc (wide-length (suc k) n)
+
+-- the rows fit, each with 16 bytes
+abbrev WideFits : Option PriceRow → PriceRow → Type 0
+WideFits prev q = RowFits prev q × (16 ≤ length (rowText q))
+
+wide-each : (k n : ℕ) (prev : Option PriceRow) → k + n ≤ mostRows → above prev (wideRow k) ≡ true → Each WideFits prev (wideRows k n)
+unfolding wideRows
+wide-each k zero prev h e = tt
+wide-each k (suc n) prev h e = (((prices, e), long), wide-each (suc k) n (some (wideRow k)) (omega arith) next)
+  where
+    prices : inPrices (10000 + k) 10000 ≡ true
+    prices = within-prices (10000 + k) 10000 (omega arith) (omega arith) (omega arith)
+
+    long : 16 ≤ length (rowText (wideRow k))
+    long = rw (row-length (wideRow k)) (omega (arith, written-longer 4 (10000 + k) (omega arith), written-longer 4 10000 (omega arith)))
+
+    next : above (some (wideRow k)) (wideRow (suc k)) ≡ true
+    next = lt-ltb ((10000 + k) * 10000) ((10000 + suc k) * 10000) (omega arith)
+
+filled-readable : (n m k : ℕ) → 256 ≤ n → n ≤ mostSegs → 1 ≤ m → m ≤ mostRows → k ≤ mostRefs → Readable (filled n m k)
+unfolding filled
+filled-readable n m k n₁ n₂ m₁ m₂ k₂ =
+    record {
+      a-fits = omega arith;
+      segs-fit = rw length-replicate (omega arith);
+      sizes-fit = each-same (From 1 largestSize) largestSize (λ prev. omega arith) n none;
+      rows-fit = rw wide-length (omega arith);
+      prices-fit = each-map WideFits RowFits (λ prev q f. f .0) none (wideRows 0 m) (wide-each 0 m none (omega arith) refl);
+      refs-fit = rw length-replicate (omega arith);
+      touches-fit = each-same (From 0 (length (replicate n largestSize) - 1)) 255 (λ prev. rw length-replicate (omega arith)) k none;
+    }
+
+pub largest-valid : Valid largest
+unfolding largest
+largest-valid =
+    readable-valid _
+    (filled-readable mostSegs mostRows mostRefs (omega arith) (omega arith) (omega arith) (omega arith) (omega arith))
+
+-- n lines of one number, each of w bytes
+same-lines : (key : List ℕ) (x w n : ℕ) → length (numberText key x) ≡ w → length (linesText (numberText key) (replicate n x)) ≡ n * w
+same-lines key x w n e =
+    let l = lines-length (numberText key) Exact w w (λ prev y f. f) none (replicate n x) (each-same Exact x (λ prev. omega arith) n none) in
+    omega (arith, rw length-replicate at l)
+  where
+    Exact : Option ℕ → ℕ → Type 0
+    Exact prev y = (w ≤ length (numberText key y)) × (length (numberText key y) ≤ w)
+
+wide-lines : (m : ℕ) → m ≤ mostRows → length (linesText rowText (wideRows 0 m)) ≡ m * 16
+wide-lines m h =
+    let w = wide-each 0 m none (omega arith) refl in
+    let l = lines-length rowText WideFits 16 16 (λ prev q f. (f .1, row-within prev q (f .0))) none (wideRows 0 m) w in
+    omega (arith, rw (wide-length 0 m) at l)
+
+a-length : length (numberText aKey largestA) ≡ 6
+unfolding written writtenIn
+a-length = refl
+
+size-length : length (numberText sizeKey largestSize) ≡ 10
+unfolding written writtenIn
+size-length = refl
+
+touch-length : length (numberText refKey 255) ≡ 8
+unfolding written writtenIn
+touch-length = refl
+
+filled-length : (n m k : ℕ) → m ≤ mostRows → length (sheetText (filled n m k))
+    ≡ 11 + (6 + (length (numberText segsKey n) + (n * 10
+    + (length (numberText rowsKey m) + (m * 16 + (length (numberText refsKey k) + k * 8))))))
+unfolding filled
+filled-length n m k h =
+    text-length (filled n m k)
+    ∙ rw (
+      length-replicate {A = ℕ} n largestSize,
+      length-replicate {A = ℕ} k 255,
+      wide-length 0 m,
+      a-length,
+      wide-lines m h,
+      same-lines sizeKey largestSize 10 n size-length,
+      same-lines refKey 255 8 k touch-length,
+    )
+
+pub largest-length : length (sheetText largest) ≡ mostBytes
+unfolding largest written writtenIn
+largest-length = filled-length mostSegs mostRows mostRefs (omega arith)
