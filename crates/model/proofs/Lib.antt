@@ -5,6 +5,7 @@ pub mod Demand
 pub mod DoubleSums
 pub mod Empty
 pub mod Examples
+pub mod FirstTouches
 pub mod Growth
 pub mod LastTouches
 pub mod LeastLoad

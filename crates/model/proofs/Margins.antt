@@ -1,15 +1,15 @@
 -- The margin of a reuse: its value on either side of 0, its range, and that it is 0 or more exactly when the reuse is kept.
 -- Assumes nothing.
 use Prim.Native.Nat.{ℕ, zero, suc, _-_, _*_, _≤_, _<_, _^_}
-use mathlib.Core.Path.{_≡_, refl, ap, _∙_}
-use mathlib.Core.Bool.{Bool, true, false, cond}
+use mathlib.Core.Path.{_≡_, refl, ap}
+use mathlib.Core.Bool.{Bool, true, false}
 use native.Mathlib.Omega.{arith}
-use lib.Dec.{leb, ltb}
-use lib.IntN.{ℤ, pos, negsuc, _-ℤ_}
+use lib.Dec.{leb}
+use lib.IntN.{pos, negsuc}
 use lib.Signed.{nonNeg}
 use mir.Syntax.{w64}
 use mir.Val.{SFits}
-use borrow.Author.Tests.{le-ltb, lt-ltb, le-leb, lt-leb, leb-true, leb-false}
+use borrow.Author.Tests.{le-ltb, lt-ltb, leb-true, leb-false}
 use Rattle.model.specs.Costs.{keeps, marginOf}
 use Rattle.model.specs.Traces.{Trace, swapOf, unreferenced}
 use Rattle.model.specs.Figures.{isReuse, kept, retentionOf, marginAt}

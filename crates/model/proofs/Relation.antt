@@ -1,28 +1,26 @@
 -- The relation between GWS and GOPT of document 002, exactly and in bounds: wsmem is d × optmem + h × (load − W) and the cost of the
 -- end intervals, which is at most h × W; W is the swap costs of the touched segments, added. Assumes nothing.
-use Prim.Native.Nat.{ℕ, zero, suc, _+_, _-_, _*_, _≤_, min}
+use Prim.Native.Nat.{ℕ, _+_, _-_, _*_, _≤_, min}
 use mathlib.Core.Path.{_≡_, refl, ap}
 use mathlib.Core.Bool.{Bool, true, false, cond}
-use mathlib.Core.Option.{Option, none, some}
 use native.Mathlib.Omega.{arith}
 use native.Mathlib.Nat.{mul-le-mul-left, mul-sub}
 use lib.Dec.{leb}
 use borrow.Author.Tests.{leb-true, leb-false}
 use Rattle.model.specs.Costs.{keeps, totalCost}
-use Rattle.model.specs.Sums.{sum}
-use Rattle.model.specs.Traces.{Trace, segs, steps, swapOf, touched, touching, overSegments, later, unreferenced}
+use Rattle.model.specs.Traces.{Trace, segs, steps, swapOf, overSegments, unreferenced}
 use Rattle.model.specs.Figures.{isReuse, retentionOf, kept, load, optmem, opttotal, smaller, wsmem}
-use Rattle.model.proofs.Sums.{sum-none, sum-suc, sum-eq, sum-le, sum-add, sum-mul, sum-zero}
-use Rattle.model.proofs.Touches.{touching-sum, unreferenced-none}
+use Rattle.model.proofs.Sums.{sum-le, sum-mul}
+use Rattle.model.proofs.FirstTouches.{touchedOf, firstOf, first-touches}
 use Rattle.model.proofs.Loads.{overTouches-eq, overTouches-total, load-swaps, overTouches-le}
 
 -- w of segment i where it was touched within t steps, 0 where it was not
 abbrev pub touchedSwap : Trace → ℕ → ℕ → ℕ
-touchedSwap T t i = cond (isReuse (unreferenced T t i)) (swapOf T i) 0
+touchedSwap T t i = touchedOf T (swapOf T) t i
 
 -- w of a first touch, 0 of a reuse
 abbrev pub firstSwap : Trace → ℕ → ℕ → ℕ
-firstSwap T t i = cond (isReuse (unreferenced T t i)) 0 (swapOf T i)
+firstSwap T t i = firstOf T (swapOf T) t i
 
 -- W: the swap costs of the touched segments, added
 abbrev pub touchedSwaps : Trace → ℕ
@@ -31,38 +29,6 @@ touchedSwaps T = overSegments T (touchedSwap T (steps T))
 -- what the end intervals add to wsmem
 abbrev pub endCosts : Trace → ℕ → ℕ → ℕ
 endCosts T h d = overSegments T (λ i. smaller T h d (steps T) i)
-
--- one step adds w to the swap costs of the touched segments at a first touch, and nothing else
-first-touch : (T : Trace) (t i : ℕ) → touchedSwap T (suc t) i ≡ touchedSwap T t i + cond (touched T t i) (firstSwap T t i) 0
-unfolding unreferenced later
-first-touch T t i = go (touched T t i) (unreferenced T t i) (swapOf T i)
-  where
-    go : (b : Bool) (o : Option ℕ) (w : ℕ)
-        → cond (isReuse (cond b (some 0) (later o))) w 0 ≡ cond (isReuse o) w 0 + cond b (cond (isReuse o) 0 w) 0
-    go true none w = omega arith
-    go true (some k) w = omega arith
-    go false none w = omega arith
-    go false (some k) w = omega arith
-
--- so the swap costs of the segments touched within n steps are those of the first touches in them
-first-swaps : (T : Trace) → ((i : ℕ) → T .start i ≡ false) → (n : ℕ)
-    → sum (segs T) (touchedSwap T n) ≡ sum n (touching T (firstSwap T))
-first-swaps T fresh zero =
-    omega (
-      arith,
-      sum-zero (segs T) (touchedSwap T 0) (λ i lt. rw (unreferenced-none T i, fresh i)),
-      sum-none (touching T (firstSwap T)),
-    )
-first-swaps T fresh (suc n) =
-    let new : ℕ → ℕ = λ i. cond (touched T n i) (firstSwap T n i) 0 in
-    omega (
-      arith,
-      sum-eq (segs T) (touchedSwap T (suc n)) (λ i. touchedSwap T n i + new i) (λ i lt. first-touch T n i),
-      sum-add (segs T) (touchedSwap T n) new,
-      touching-sum T (firstSwap T) n,
-      sum-suc n (touching T (firstSwap T)),
-      first-swaps T fresh n,
-    )
 
 -- a touch costs the optimal policy the smaller value, and h × w besides where it is a first touch
 touch-costs : (T : Trace) (h d t i : ℕ)
@@ -123,7 +89,7 @@ module _ (T : Trace) (fresh : (i : ℕ) → T .start i ≡ false) (h d : ℕ) wh
         overTouches-total T h d retained loaded,
         overTouches-total T h 1 least (firstSwap T),
         ap (λ l. h * l) (load-swaps T h d),
-        ap (λ w. h * w) (first-swaps T fresh (steps T)),
+        ap (λ w. h * w) (first-touches T (swapOf T) fresh (steps T)),
       )
 
   -- every touched segment was loaded
@@ -132,7 +98,7 @@ module _ (T : Trace) (fresh : (i : ℕ) → T .start i ≡ false) (h d : ℕ) wh
       let loaded : ℕ → ℕ → ℕ = λ t i. cond (kept T h d t i) 0 (swapOf T i) in
       omega (
         arith,
-        first-swaps T fresh (steps T),
+        first-touches T (swapOf T) fresh (steps T),
         load-swaps T h d,
         overTouches-le T (firstSwap T) loaded (λ t i. first-missed T h d t i),
       )

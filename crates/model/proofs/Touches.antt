@@ -1,13 +1,13 @@
 -- What one step adds, as a sum over the segments: each segment by itself. Laws of `touched` and `unreferenced`. Assumes nothing.
-use Prim.Native.Nat.{ℕ, zero, suc, _+_, _*_, _≤_, _<_}
-use mathlib.Core.Path.{_≡_, refl, ap, sym, _∙_}
-use mathlib.Core.Bool.{Bool, true, false, cond, _&&_}
-use mathlib.Core.Option.{Option, none, some}
+use Prim.Native.Nat.{ℕ, suc, _≤_, _<_}
+use mathlib.Core.Path.{_≡_, refl, sym, _∙_}
+use mathlib.Core.Bool.{true, false, cond}
+use mathlib.Core.Option.{none, some}
 use native.Mathlib.Omega.{arith}
-use lib.Dec.{eqb, ltb}
-use borrow.Author.Tests.{lt-ltb, le-ltb, ltb-true, eqb-true, eq-eqb}
+use lib.Dec.{eqb}
+use borrow.Author.Tests.{lt-ltb, le-ltb, eq-eqb}
 use Rattle.model.specs.Sums.{sum}
-use Rattle.model.specs.Traces.{Trace, segs, steps, entry, touched, touching, later, unreferenced}
+use Rattle.model.specs.Traces.{Trace, segs, entry, touched, touching, later, unreferenced}
 use Rattle.model.proofs.Sums.{sum-eq, sum-at}
 
 -- of a segment, touched is whether it is the entry

@@ -7,7 +7,6 @@ use lib.Dec.{eqb}
 use lib.IntN.{ℤ}
 use Rattle.model.specs.Costs.{keeps, totalCost, retention, marginOf}
 use Rattle.model.specs.Traces.{Trace, steps, sizeOf, swapOf, unitOf, overTouches, overSegments, unreferenced}
-use Rattle.model.specs.declared.Kind.{Kind}
 use Rattle.model.specs.declared.Kind.the-variants.{Time, Space}
 
 -- Q: each reference costs 1 memory unit (kind time) or z (kind space)

@@ -1,7 +1,7 @@
 -- What a call leaves in a lent place, and what it answers: the result and then the old contents, or refusal 11 and no change.
 -- Assumes nothing.
 use Prim.Native.Nat.{ℕ}
-use mathlib.Core.Bool.{Bool, true, false, cond}
+use mathlib.Core.Bool.{cond}
 use mathlib.Core.List.{List, _++_}
 use lib.ListN.{length, drop}
 use lib.Dec.{leb}

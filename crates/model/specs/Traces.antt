@@ -1,7 +1,7 @@
 -- What a run of the aligner is: its segments, and the segment touched in each step. Step t + 1 of document 01, which counts from 1,
 -- is the step at place t here; after t steps is the moment just before it. Assumes nothing.
-use Prim.Native.Nat.{ℕ, zero, suc, _*_}
-use mathlib.Core.Bool.{Bool, true, false, cond, _&&_}
+use Prim.Native.Nat.{ℕ, zero, suc}
+use mathlib.Core.Bool.{Bool, cond, _&&_}
 use mathlib.Core.List.{List}
 use mathlib.Core.Option.{Option, none, some}
 use lib.ListN.{length, getD}

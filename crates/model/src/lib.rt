@@ -1,8 +1,7 @@
 // The cost rules of the segment trace analyser as functions on numbers, and the numbers of its refusals.
 // What each means is written in specs/; nothing is assumed.
 ghost use mathlib.Core.Path.{_≡_};
-ghost use mathlib.Core.Bool.{Bool};
-ghost use Prim.Native.Nat.{ℕ, _+_, _*_, _≤_, _<_, _^_};
+ghost use Prim.Native.Nat.{_+_, _*_, _<_, _^_};
 ghost use Rattle.model.specs.Costs.{swapCost, retention, keeps, totalCost, marginOf};
 ghost use Rattle.model.specs.Rows.{zeroFigures};
 ghost use Rattle.model.specs.Refusals.{numberOf, verdictNumber};

@@ -1,6 +1,5 @@
 -- `model::margin` meets its contract: both prices are below 2 ^ 62, so each is itself as a signed number and the difference fits.
 -- Assumes nothing.
-use Prim.Native.Nat.{_^_, _<_}
 use mathlib.Core.Path.{_≡_, _∙_}
 use native.Mathlib.Omega.{arith}
 use borrow.Author.Needs.{needs}
@@ -8,7 +7,6 @@ use lib.IntN.{pos}
 use mir.Syntax.{w64}
 use mir.Val.{toZ}
 use mir.ValLaws.{toZ-ofZ, toZ-pos}
-use Rattle.model.specs.Costs.{marginOf}
 use Rattle.model.proofs.Margins.{margin-fits}
 use Rattle.model.proofs.margin.Statement.{statement}
 use Rattle.model.proofs.margin.Tie as tie

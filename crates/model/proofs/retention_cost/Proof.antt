@@ -2,7 +2,7 @@ use borrow.Author.Needs.{needs}
 use mathlib.Core.Path.{_≡_, refl}
 use Rattle.model.specs.declared.Kind.the-variants.{Time, Space}
 use native.Mathlib.Omega.{arith}
-use Prim.Native.Nat.{_*_, _^_, _≤_}
+use Prim.Native.Nat.{_^_}
 use Rattle.model.proofs.Bounds.{product-within}
 use Rattle.model.proofs.retention_cost.Statement.{statement}
 use Rattle.model.proofs.retention_cost.Tie as tie
