@@ -1,2 +1,4 @@
 pub mod Buckets
+pub mod Pass
 pub mod Rows
+pub mod Sweep

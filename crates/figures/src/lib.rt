@@ -1,5 +1,8 @@
 // The figures of all rows of a sheet from one pass over its references.
 // Every item is the definition's of crate `model`; nothing is assumed.
+pub mod pass;
+pub mod rows;
+
 use model::Kind;
 use model::PriceRow;
 use model::RowFigures;
@@ -27,4 +30,13 @@ pub struct Tally {
     pub ends: [Bucket; 65],
     pub cost: u64,
     pub volume: u64,
+}
+
+// The figures of every row of a sheet, given by its parts; zeros beyond the rows.
+pub fn figures(kind: Kind, a: u8, prices: [PriceRow; 64], rows: usize, sizes: &[u16], refs: &[u16]) -> [RowFigures; 64]
+    requires { ⌜ (rows ≤ 64) × Valid (partsOf kind a (now sizes) (take rows prices) (now refs)) ⌝ }
+    ensures { λ r. ⌜ r ≡ allFigures (partsOf kind a (now (sizes .entry)) (take rows prices) (now (refs .entry))) ⌝ }
+{
+    let tally = pass::tally(kind, a, prices, rows, sizes, refs);
+    rows::all_rows(kind, a, prices, rows, sizes, refs, tally)
 }

@@ -1,0 +1,16 @@
+pub mod BucketRows
+pub mod Ending
+pub mod Filed
+pub mod Filling
+pub mod FirstRow
+pub mod Growing
+pub mod Limits
+pub mod Marks
+pub mod Passing
+pub mod PriceRows
+pub mod Sweeps
+pub mod SweptRows
+pub mod SweptSheets
+pub mod Tables
+pub mod Touches
+pub mod WorkingSets

@@ -1,0 +1,193 @@
+-- How large the sums of a sheet within the limits can be, so that no figure exceeds 64 bits. Assumes nothing.
+use Prim.Native.Nat.{ℕ, zero, suc, _+_, _*_, _^_, _≤_, _<_, min}
+use mathlib.Core.Path.{_≡_, refl, ap}
+use mathlib.Core.Bool.{Bool, true, false, cond}
+use mathlib.Core.Option.{Option, none, some}
+use native.Mathlib.Omega.{arith}
+use native.Mathlib.Nat.{mul-le-mul-left}
+use lib.Dec.{ltb}
+use borrow.Author.Tests.{ltb-true}
+use Rattle.model.specs.Costs.{unitCost}
+use Rattle.model.specs.Sums.{sum}
+use Rattle.model.specs.Traces.{Trace, segs, steps, entry, sizeOf, swapOf, unitOf, touching, overTouches, overSegments, unreferenced}
+use Rattle.model.specs.Figures.{refCost, refVolume, isReuse, ofTime, retentionOf, spaceOf, smaller, wsmem, wsspace, wsocc}
+use Rattle.model.specs.Sheets.{SheetValue, Valid, traceOf}
+use Rattle.model.specs.Sheets.{largestA, mostSegs, largestSize, largestPrice, mostRefs}
+use Rattle.model.specs.declared.Kind.{Kind}
+use Rattle.model.specs.declared.Kind.the-variants.{Time, Space}
+use Rattle.model.proofs.Bounds.{product-within}
+use Rattle.model.proofs.LastTouches.{unreferenced-below}
+use Rattle.figures.specs.Buckets.{bucketCount, bucketOf, filed, ended, tallyOf}
+use Rattle.figures.specs.Sweep.{summed, byKind, largestSwap, retentionBound, Holds}
+use Rattle.figures.proofs.Filed.{filed-below, ended-below}
+use Rattle.figures.proofs.Sweeps.{bucketBy, space-of, summed-buckets, summed-ends}
+
+-- a sum of n terms within m
+sum-within : (n m : ℕ) (f : ℕ → ℕ) → ((t : ℕ) → t < n → f t ≤ m) → sum n f ≤ n * m
+unfolding sum
+sum-within zero m f le = omega arith
+sum-within (suc n) m f le = omega (arith, sum-within n m f (λ t lt. le t (omega arith)), le n (omega arith))
+
+-- a number that may be left out
+left-out : (b : Bool) (x m : ℕ) → x ≤ m → cond b x 0 ≤ m
+left-out true x m le = le
+left-out false x m le = omega arith
+
+-- a sum over touches of terms within m
+touches-within : (T : Trace) (m : ℕ) (g : ℕ → ℕ → ℕ) → ((t i : ℕ) → t < steps T → i < segs T → g t i ≤ m) → overTouches T g ≤ steps T * m
+unfolding touching
+touches-within T m g le = sum-within (steps T) m (touching T g) (λ t lt. go t lt (ltb (entry T t) (segs T)) refl)
+  where
+    go : (t : ℕ) → t < steps T → (b : Bool) → ltb (entry T t) (segs T) ≡ b → cond (ltb (entry T t) (segs T)) (g t (entry T t)) 0 ≤ m
+    go t lt true e = rw e (le t (entry T t) lt (ltb-true (entry T t) (segs T) e))
+    go t lt false e = rw e (omega arith)
+
+module _ (s : SheetValue) (v : Valid s) where
+  unit-within : (i : ℕ) → i < segs (traceOf s) → unitOf (traceOf s) i ≤ largestSize
+  unit-within i lt = go (s .kind) (v .size-within i lt)
+    where
+      go : (kind : Kind) {z : ℕ} → z ≤ largestSize → unitCost kind z ≤ largestSize
+      go Time le = omega arith
+      go Space le = le
+
+  swap-within : (i : ℕ) → i < segs (traceOf s) → swapOf (traceOf s) i ≤ largestSwap
+  swap-within i lt =
+      omega (arith, product-within (s .a) (sizeOf (traceOf s) i) largestA largestSize (v .a-within) (v .size-within i lt))
+
+  -- the unreferenced time, each step counted with at most the largest size
+  times-within : (t i x : ℕ) → t ≤ mostRefs → x ≤ largestSize → ofTime (λ k. k * x) (unreferenced (traceOf s) t i) ≤ retentionBound
+  times-within t i x le fit = go (unreferenced (traceOf s) t i) (λ k e. unreferenced-below (traceOf s) (λ j. refl) t i k e)
+    where
+      go : (o : Option ℕ) → ((k : ℕ) → o ≡ some k → k < t) → ofTime (λ k. k * x) o ≤ retentionBound
+      go none below = omega arith
+      go (some k) below = product-within k x mostRefs largestSize (omega (arith, below k refl)) fit
+
+  retention-within : (t i : ℕ) → t ≤ mostRefs → i < segs (traceOf s) → retentionOf (traceOf s) t i ≤ retentionBound
+  retention-within t i le lt = times-within t i (unitOf (traceOf s) i) le (unit-within i lt)
+
+  -- a bucket whose sums are within n times any bound of the items
+  bucket-holds : (n : ℕ) (S : (ℕ → ℕ → ℕ) → ℕ)
+      → ((g : ℕ → ℕ → ℕ) (m : ℕ) → ((t i : ℕ) → t ≤ mostRefs → i < segs (traceOf s) → g t i ≤ m) → S g ≤ n * m)
+      → Holds n (bucketBy (traceOf s) S)
+  bucket-holds n S within =
+      let T = traceOf s in
+      record {
+        counts = omega (arith, within (λ t i. 1) 1 (λ t i le lt. omega arith));
+        volumes = within (λ t i. sizeOf T i) largestSize (λ t i le lt. v .size-within i lt);
+        retentions = within (retentionOf T) retentionBound retention-within;
+        swaps = within (λ t i. swapOf T i) largestSwap (λ t i le lt. swap-within i lt);
+        retentionzs =
+            within (λ t i. retentionOf T t i * sizeOf T i) (retentionBound * largestSize)
+            (λ t i le lt.
+            product-within (retentionOf T t i) (sizeOf T i) retentionBound largestSize (retention-within t i le lt)
+            (v .size-within i lt));
+        swapzs =
+            within (λ t i. swapOf T i * sizeOf T i) (largestSwap * largestSize)
+            (λ t i le lt. product-within (swapOf T i) (sizeOf T i) largestSwap largestSize (swap-within i lt) (v .size-within i lt));
+      }
+
+  -- the first n buckets of the touches hold at most 2,048 items
+  pub buckets-hold : (n : ℕ) → n ≤ bucketCount → Holds mostRefs (summed (tallyOf (s .rows) (traceOf s) .buckets) n)
+  buckets-hold n le =
+      let T = traceOf s in
+      rw (summed-buckets (s .rows) T n le)
+      (bucket-holds mostRefs (λ g. sum n (λ k. filed (s .rows) T (steps T) k g))
+      (λ g m each.
+      rw (filed-below (s .rows) T (steps T) n g)
+      (omega (
+        arith,
+        touches-within T m (λ t i. cond (ltb (bucketOf (s .rows) T t i) n) (g t i) 0)
+            (λ t i lt l. left-out (ltb (bucketOf (s .rows) T t i) n) (g t i) m (each t i (omega (arith, v .refs-within)) l)),
+        product-within (steps T) m mostRefs m (v .refs-within) (omega arith),
+      ))))
+
+  -- those of the end intervals at most 256
+  pub ends-hold : (n : ℕ) → n ≤ bucketCount → Holds mostSegs (summed (tallyOf (s .rows) (traceOf s) .ends) n)
+  ends-hold n le =
+      let T = traceOf s in
+      rw (summed-ends (s .rows) T n le)
+      (bucket-holds mostSegs (λ g. sum n (λ k. ended (s .rows) T (segs T) k (g (steps T))))
+      (λ g m each.
+      rw (ended-below (s .rows) T (segs T) n (g (steps T)))
+      (omega (
+        arith,
+        sum-within (segs T) m
+            (λ i. cond (isReuse (unreferenced T (steps T) i)) (cond (ltb (bucketOf (s .rows) T (steps T) i) n) (g (steps T) i) 0) 0)
+            (λ i lt.
+            left-out (isReuse (unreferenced T (steps T) i)) (cond (ltb (bucketOf (s .rows) T (steps T) i) n) (g (steps T) i) 0) m
+            (left-out (ltb (bucketOf (s .rows) T (steps T) i) n) (g (steps T) i) m (each (steps T) i (v .refs-within) lt))),
+        product-within (segs T) m mostSegs m (v .segs-within) (omega arith),
+      ))))
+
+  pub cost-within : refCost (traceOf s) ≤ mostRefs * largestSize
+  unfolding refCost
+  cost-within =
+      let T = traceOf s in
+      omega (
+        arith,
+        touches-within T largestSize (λ t i. unitOf T i) (λ t i lt l. unit-within i l),
+        product-within (steps T) largestSize mostRefs largestSize (v .refs-within) (omega arith),
+      )
+
+  pub volume-within : refVolume (traceOf s) ≤ mostRefs * largestSize
+  unfolding refVolume
+  volume-within =
+      let T = traceOf s in
+      omega (
+        arith,
+        touches-within T largestSize (λ t i. sizeOf T i) (λ t i lt l. v .size-within i l),
+        product-within (steps T) largestSize mostRefs largestSize (v .refs-within) (omega arith),
+      )
+
+  module _ (h d : ℕ) (fit : d ≤ largestPrice) where
+    -- the smaller value is within d × R, so what a touch adds to wsocc is within d × (u − 1) × z
+    occupied-within : (t i : ℕ) → t ≤ mostRefs → i < segs (traceOf s)
+        → byKind (s .kind) (sizeOf (traceOf s) i * smaller (traceOf s) h d t i) (smaller (traceOf s) h d t i)
+        ≤ largestPrice * retentionBound
+    unfolding smaller
+    occupied-within t i le lt =
+        let T = traceOf s in
+        omega (
+          arith,
+          item (s .kind) (isReuse (unreferenced T t i)) (retentionOf T t i) (h * swapOf T i) (sizeOf T i),
+          ap (λ n. d * n) (space-of (s .kind) (sizeOf T i) (unreferenced T t i)),
+          product-within d (spaceOf T t i) largestPrice retentionBound fit (times-within t i (sizeOf T i) le (v .size-within i lt)),
+        )
+      where
+        item : (kind : Kind) (b : Bool) (R hw z : ℕ)
+            → byKind kind (z * cond b (min (d * R) hw) 0) (cond b (min (d * R) hw) 0) ≤ d * byKind kind (R * z) R
+        item Time true R hw z =
+            let least : min (d * R) hw ≤ d * R = omega arith in
+            omega (arith, mul-le-mul-left z least)
+        item Time false R hw z = omega arith
+        item Space true R hw z = omega arith
+        item Space false R hw z = omega arith
+
+    -- the references' cost or volume, and S over all touches and end intervals
+    total-within : (S : ℕ → ℕ → ℕ) (base : ℕ) → base ≤ mostRefs * largestSize
+        → ((t i : ℕ) → t ≤ mostRefs → i < segs (traceOf s) → S t i ≤ largestPrice * retentionBound)
+        → d * base + overTouches (traceOf s) S + overSegments (traceOf s) (S (steps (traceOf s))) < 2 ^ 53
+    total-within S base small each =
+        let T = traceOf s in
+        let B = largestPrice * retentionBound in
+        omega (
+          arith,
+          product-within d base largestPrice (mostRefs * largestSize) fit small,
+          touches-within T B S (λ t i lt l. each t i (omega (arith, v .refs-within)) l),
+          product-within (steps T) B mostRefs B (v .refs-within) (omega arith),
+          sum-within (segs T) B (S (steps T)) (λ i lt. each (steps T) i (v .refs-within) lt),
+          product-within (segs T) B mostSegs B (v .segs-within) (omega arith),
+        )
+
+    pub wsocc-within : wsocc (traceOf s) h d < 2 ^ 53
+    unfolding wsocc wsspace wsmem
+    wsocc-within = go (s .kind) occupied-within
+      where
+        go : (kind : Kind)
+            → ((t i : ℕ) → t ≤ mostRefs → i < segs (traceOf s)
+            → byKind kind (sizeOf (traceOf s) i * smaller (traceOf s) h d t i) (smaller (traceOf s) h d t i)
+            ≤ largestPrice * retentionBound)
+            → elim kind [ Time ↦ wsspace (traceOf s) h d | Space ↦ wsmem (traceOf s) h d ] < 2 ^ 53
+        go Time each =
+            total-within (λ t i. sizeOf (traceOf s) i * smaller (traceOf s) h d t i) (refVolume (traceOf s)) volume-within each
+        go Space each = total-within (λ t i. smaller (traceOf s) h d t i) (refCost (traceOf s)) cost-within each

@@ -1,0 +1,65 @@
+-- One touch: its limits, what the mark of its segment tells, and the buckets of the definitions as those of touches.
+-- Assumes nothing.
+use Prim.Native.Nat.{ℕ, _-_, _^_, _≤_, _<_}
+use mathlib.Core.Path.{_≡_, refl}
+use mathlib.Core.Bool.{Bool, true, false}
+use mathlib.Core.List.{List}
+use native.Mathlib.Omega.{arith}
+use lib.Dec.{ltb}
+use borrow.Author.Tests.{le-leb, lt-leb}
+use Rattle.model.specs.Costs.{unitCost, retention, swapCost}
+use Rattle.model.specs.Traces.{Trace, segs, steps, entry, sizeOf, touching, unreferenced}
+use Rattle.model.specs.declared.Kind.{Kind}
+use Rattle.model.specs.declared.Kind.the-variants.{Time, Space}
+use Rattle.model.specs.declared.PriceRow.{PriceRow}
+use Rattle.model.proofs.Bounds.{product-within}
+use Rattle.figures.specs.Buckets.{lastBucket, firstRow, bucketOf, filed, bucketAfter, ended, endBucket}
+use Rattle.figures.specs.Pass.{touchOf, gathered, bucketOver, timeOf}
+use Rattle.figures.specs.declared.pass.Touch.{Touch}
+
+-- a step costs less than 2 ^ 16 memory units
+pub unit-within : (kind : Kind) (z : ℕ) → z < 2 ^ 16 → unitCost kind z < 2 ^ 16
+unit-within Time z lt = omega arith
+unit-within Space z lt = lt
+
+-- retention and swap cost of a segment whose size is a 16-bit number
+pub retention-within : (kind : Kind) (z k : ℕ) → z < 2 ^ 16 → k < 2 ^ 16 → retention kind z k < 2 ^ 32
+retention-within kind z k lz lk =
+    let unit = unit-within kind z lz in
+    omega (arith, product-within k (unitCost kind z) (2 ^ 16 - 1) (2 ^ 16) (omega arith) (omega arith))
+
+pub swap-within : (a z : ℕ) → a < 2 ^ 8 → z < 2 ^ 16 → swapCost a z < 2 ^ 32
+swap-within a z la lz = omega (arith, product-within a z (2 ^ 8) (2 ^ 16) (omega arith) (omega arith))
+
+module _ (kind : Kind) (a : ℕ) (rows : List PriceRow) (z n mark w : ℕ) (swap : w ≡ swapCost a z) where
+  -- a segment with a mark up to step n was touched
+  pub reuse-is : mark ≤ n → (R : ℕ) → R ≡ retention kind z (n - mark) → (k : ℕ) → k ≡ firstRow rows 0 R w
+      → record { reuse = true; size = z; retention = R; swap = w; bucket = k } ≡ touchOf kind a rows z (timeOf n mark)
+  unfolding touchOf
+  reuse-is le R retained k row = rw (le-leb mark n le, row, retained, swap) refl
+
+  -- with a later one it was not
+  pub first-is : n < mark
+      → record { reuse = false; size = z; retention = 0; swap = w; bucket = lastBucket } ≡ touchOf kind a rows z (timeOf n mark)
+  unfolding touchOf
+  first-is lt = rw (lt-leb mark n lt, swap) refl
+
+-- the touch of segment i after t steps
+abbrev pub touchAt : List PriceRow → Trace → ℕ → ℕ → Touch
+touchAt rows T t i = touchOf (T .kind) (T .a) rows (sizeOf T i) (unreferenced T t i)
+
+-- the step at place t touches a segment
+abbrev pub touches : Trace → ℕ → Bool
+touches T t = ltb (entry T t) (segs T)
+
+-- the buckets of the definitions are those of the touches in the steps, and of the end intervals of the segments
+pub bucketAfter-over : (rows : List PriceRow) (T : Trace) (n k : ℕ)
+    → bucketAfter rows T n k ≡ bucketOver (touches T) (λ t. touchAt rows T t (entry T t)) n k
+unfolding bucketAfter bucketOver filed gathered touching bucketOf touchOf
+bucketAfter-over rows T n k = refl
+
+pub endBucket-over : (rows : List PriceRow) (T : Trace) (m k : ℕ)
+    → endBucket rows T m k
+    ≡ bucketOver (λ i. touchAt rows T (steps T) i .reuse) (λ i. touchAt rows T (steps T) i) m k
+unfolding endBucket bucketOver ended gathered bucketOf touchOf
+endBucket-over rows T m k = refl

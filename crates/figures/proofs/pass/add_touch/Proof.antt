@@ -1,0 +1,52 @@
+-- `pass::add_touch` meets its contract: the sums and products are within their bounds. Assumes nothing.
+use borrow.Author.Needs.{needs}
+use Prim.Native.Nat.{_*_, _^_, _≤_}
+use native.Mathlib.Omega.{arith}
+use Rattle.model.proofs.Bounds.{product-within}
+use Rattle.figures.proofs.pass.add_touch.Statement.{statement}
+use Rattle.figures.proofs.pass.add_touch.Tie as tie
+
+products : (c : tie.Start) → (c .args .x .retention * c .args .x .size ≤ 2 ^ 48) × (c .args .x .swap * c .args .x .size ≤ 2 ^ 48)
+products c =
+    let x = c .args .x in (
+      product-within (x .retention) (x .size) (2 ^ 32) (2 ^ 16) (omega arith) (omega arith),
+      product-within (x .swap) (x .size) (2 ^ 32) (2 ^ 16) (omega arith) (omega arith),
+    )
+
+cast-z : tie.Need-cast-z
+cast-z c = omega arith
+
+add-t4 : tie.Need-add-t4
+add-t4 c = omega arith
+
+add-t5 : tie.Need-add-t5
+add-t5 c = omega arith
+
+add-t6 : tie.Need-add-t6
+add-t6 c = omega arith
+
+add-t7 : tie.Need-add-t7
+add-t7 c = omega arith
+
+mul-t8 : tie.Need-mul-t8
+mul-t8 c = let s = c .before .before .before .before .before .before .before .before in omega (arith, products s)
+
+add-t9 : tie.Need-add-t9
+add-t9 c = let s = c .before .before .before .before .before .before .before .before .before in omega (arith, products s, s .pre)
+
+mul-t10 : tie.Need-mul-t10
+mul-t10 c =
+    let s = c .before .before .before .before .before .before .before .before .before .before in
+    omega (arith, products s)
+
+add-t11 : tie.Need-add-t11
+add-t11 c =
+    let s = c .before .before .before .before .before .before .before .before .before .before .before in
+    omega (arith, products s, s .pre)
+
+returns : tie.Need-returns
+returns c = search needs
+
+pub add-touch-spec : {M : Type 1} → statement M
+add-touch-spec =
+    tie.close (tie.spec cast-z add-t4 add-t5 add-t6 add-t7 mul-t8 add-t9 mul-t10 add-t11 returns)

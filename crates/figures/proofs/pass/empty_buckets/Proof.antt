@@ -1,0 +1,12 @@
+-- `pass::empty_buckets` meets its contract. Assumes nothing.
+use borrow.Author.Needs.{needs}
+use Rattle.figures.specs.Pass.{allEmpty}
+use Rattle.figures.proofs.pass.empty_buckets.Statement.{statement}
+use Rattle.figures.proofs.pass.empty_buckets.Tie as tie
+
+returns : tie.Need-returns
+unfolding allEmpty
+returns c = search needs
+
+pub empty-buckets-spec : {M : Type 1} → statement M
+empty-buckets-spec = tie.close (tie.spec returns)

@@ -1,0 +1,166 @@
+-- `pass::references` meets its contract. The loop's invariant: the buckets, the table of last touches, Q and V are those after t steps. The
+-- measure is what is left of the references. Assumes nothing.
+use borrow.Author.Needs.{needs}
+use Prim.Native.Nat.{_-_, _<_}
+use native.Mathlib.Omega.{arith}
+use lib.ListN.{length, getD}
+use Rattle.model.specs.Sheets.{traceOf}
+use Rattle.figures.specs.Pass.{rowsOf, sheetApart}
+use Rattle.figures.proofs.Filling.{filling-room}
+use Rattle.figures.proofs.Passing.{valid-run, valid-ascending, Passing, passing-start, passing-step, passing-end}
+use Rattle.figures.proofs.Passing.{cost-room, volume-room}
+use Rattle.figures.proofs.pass.references.Statement.{statement}
+use Rattle.figures.proofs.pass.references.Tie as tie
+
+abbrev Inv-loop : tie.InvT-loop
+Inv-loop kind a hs ds sizes refs buckets₀ last₀ cost₀ volume₀ t₀ buckets last cost volume t =
+    Passing (rowsOf hs ds) (traceOf (sheetApart kind a sizes hs ds refs)) t buckets last cost volume
+
+abbrev μ-loop : tie.MeasureT-loop
+μ-loop kind a hs ds sizes refs buckets₀ last₀ cost₀ volume₀ t₀ buckets last cost volume t = length refs - t
+
+empty-buckets-requires : tie.Need-empty-buckets-requires Inv-loop μ-loop
+empty-buckets-requires c κs = search needs
+
+untouched-requires : tie.Need-untouched-requires Inv-loop μ-loop
+untouched-requires c κs = search needs
+
+-- the touched segment is among those of the table
+in-table : (c : tie.In-loop Inv-loop μ-loop)
+    → getD (c .before .before .before .before .before .before .before .before .args .refs .now) (c .before .loop .t) 0 < 256
+in-table c =
+    let v = c .before .before .before .before .before .before .before .before .pre .1 in
+    omega (arith, v .ref-within (c .before .loop .t) (c .loop-test .taken), v .segs-within)
+
+loop-holds : tie.Need-loop-holds Inv-loop μ-loop
+loop-holds c =
+    let s = c .before .before .before .before .before .before in
+    rw (c .before .empty-buckets .ensures, c .untouched .ensures) (passing-start _ _ (valid-run _ (s .pre .1)))
+
+mul-i : tie.Need-mul-i Inv-loop μ-loop
+mul-i c = omega arith
+
+shared-slice-read-i : tie.Need-shared-slice-read-i Inv-loop μ-loop
+shared-slice-read-i c = omega arith
+
+cast-i : tie.Need-cast-i Inv-loop μ-loop
+cast-i c = omega (arith, in-table (c .before))
+
+mul-z : tie.Need-mul-z Inv-loop μ-loop
+mul-z c = omega (arith, in-table (c .before))
+
+shared-slice-read-z : tie.Need-shared-slice-read-z Inv-loop μ-loop
+shared-slice-read-z c =
+    let d = c .before .before in
+    d .before .before .before .before .before .before .before .before .pre .1 .ref-within _ (d .loop-test .taken)
+
+mul-touch-of : tie.Need-mul-touch-of Inv-loop μ-loop
+mul-touch-of c = omega (arith, in-table (c .before .before))
+
+array-read-touch-of : tie.Need-array-read-touch-of Inv-loop μ-loop
+array-read-touch-of c = in-table (c .before .before)
+
+cast-touch-of : tie.Need-cast-touch-of Inv-loop μ-loop
+cast-touch-of c = omega arith
+
+touch-of-requires : tie.Need-touch-of-requires Inv-loop μ-loop
+touch-of-requires c κs = c .before .before .before .before .before .before .before .before .before .before .pre .0
+
+mul-b : tie.Need-mul-b Inv-loop μ-loop
+mul-b c = omega arith
+
+array-copy-out-b : tie.Need-array-copy-out-b Inv-loop μ-loop
+array-copy-out-b c = omega arith
+
+add-touch-requires : tie.Need-add-touch-requires Inv-loop μ-loop
+add-touch-requires c κs =
+    let d = c .before in
+    let l = d .before .before .before .before in
+    (filling-room _ _ _ _ (l .loop .inv .filling) _ (d .touch-of .ensures .0 .is-bucket) _, d .touch-of .ensures .0)
+
+mul-buckets : tie.Need-mul-buckets Inv-loop μ-loop
+mul-buckets c = omega arith
+
+array-set-from-buckets : tie.Need-array-set-from-buckets Inv-loop μ-loop
+array-set-from-buckets c = omega arith
+
+add-t : tie.Need-add-t Inv-loop μ-loop
+add-t c = omega arith
+
+cast-last : tie.Need-cast-last Inv-loop μ-loop
+cast-last c = omega arith
+
+mul-last : tie.Need-mul-last Inv-loop μ-loop
+mul-last c = omega (arith, in-table (c .before .before .before .before .before))
+
+array-write-last : tie.Need-array-write-last Inv-loop μ-loop
+array-write-last c = in-table (c .before .before .before .before .before)
+
+unit-cost-requires : tie.Need-unit-cost-requires Inv-loop μ-loop
+unit-cost-requires c κs = search needs
+
+add-cost : tie.Need-add-cost Inv-loop μ-loop
+add-cost c =
+    let e = c .before .before .before .before .before .before in
+    let v = e .before .before .before .before .before .before .before .before .pre .1 in
+    record { fits = cost-room _ _ (valid-run _ v) _ _ _ _ _ (e .before .loop .inv) (e .loop-test .taken) _ (c .unit-cost .ensures) }
+
+add-volume : tie.Need-add-volume Inv-loop μ-loop
+add-volume c =
+    let e = c .before .before .before .before .before .before in
+    let v = e .before .before .before .before .before .before .before .before .pre .1 in
+    record { fits = volume-room _ _ (valid-run _ v) _ _ _ _ _ (e .before .loop .inv) (e .loop-test .taken) }
+
+cast-volume : tie.Need-cast-volume Inv-loop μ-loop
+cast-volume c = omega (arith, add-volume c)
+
+loop-less : tie.Need-loop-less Inv-loop μ-loop
+loop-less c = omega arith
+
+loop-again : tie.Need-loop-again Inv-loop μ-loop
+loop-again c =
+    let d = c .before .before .before in
+    let e = d .before .before .before in
+    let s = e .before .before .before .before .before .before .before .before in
+    passing-step _ _ (valid-run _ (s .pre .1)) _ _ _ _ _ (e .before .loop .inv) (e .loop-test .taken) _ (d .touch-of .ensures .0)
+    (d .touch-of .ensures .1 (valid-ascending _ (s .pre .1))) _ _ (c .before .add-touch .ensures) _ (c .unit-cost .ensures)
+
+returns : tie.Need-returns Inv-loop μ-loop
+returns c =
+    let s = c .before .before .before .before .before .before .before .before in
+    passing-end _ _ (valid-run _ (s .pre .1)) _ _ _ _ _ (c .before .loop .inv) (c .loop-test .left)
+
+pub references-spec : {M : Type 1} → statement M
+references-spec =
+    tie.close
+    (tie.spec
+    Inv-loop
+    μ-loop
+    empty-buckets-requires
+    untouched-requires
+    loop-holds
+    mul-i
+    shared-slice-read-i
+    cast-i
+    mul-z
+    shared-slice-read-z
+    mul-touch-of
+    array-read-touch-of
+    cast-touch-of
+    touch-of-requires
+    mul-b
+    array-copy-out-b
+    add-touch-requires
+    mul-buckets
+    array-set-from-buckets
+    add-t
+    cast-last
+    mul-last
+    array-write-last
+    unit-cost-requires
+    add-cost
+    cast-volume
+    add-volume
+    loop-less
+    loop-again
+    returns)

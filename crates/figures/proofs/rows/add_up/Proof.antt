@@ -1,0 +1,65 @@
+-- `figures::rows::add_up` meets its contract. The loop's invariant: the sum is that of the buckets passed. Assumes nothing.
+use Prim.Native.Nat.{suc, _-_, _≤_}
+use mathlib.Core.Path.{_≡_, _∙_, sym}
+use native.Mathlib.Numerals.{add-one}
+use native.Mathlib.Omega.{arith}
+use borrow.Author.Needs.{needs}
+use Rattle.figures.specs.Sweep.{summed}
+use Rattle.figures.proofs.Sweeps.{summed-none, summed-suc, summed-more}
+use Rattle.figures.proofs.rows.add_up.Statement.{statement}
+use Rattle.figures.proofs.rows.add_up.Tie as tie
+
+abbrev Inv-loop : tie.InvT-loop
+Inv-loop buckets all₀ k₀ all k = (k ≤ 65) × (all ≡ summed buckets k)
+
+abbrev μ-loop : tie.MeasureT-loop
+μ-loop buckets all₀ k₀ all k = 65 - k
+
+none-requires : tie.Need-none-requires Inv-loop μ-loop
+none-requires c κs = search needs
+
+loop-holds : tie.Need-loop-holds Inv-loop μ-loop
+loop-holds c = (omega arith, c .none .ensures ∙ sym (summed-none (c .before .args .t1)))
+
+mul-b : tie.Need-mul-b Inv-loop μ-loop
+mul-b c = omega arith
+
+array-copy-out-b : tie.Need-array-copy-out-b Inv-loop μ-loop
+array-copy-out-b c = omega arith
+
+add-requires : tie.Need-add-requires Inv-loop μ-loop
+add-requires c κs =
+    let s = c .before .before .before .before in
+    let k = c .before .before .loop .k in
+    rw (c .before .before .loop .inv .1, ← summed-suc (s .args .t1) k) (s .pre (suc k) (omega arith))
+
+add-k : tie.Need-add-k Inv-loop μ-loop
+add-k c = omega arith
+
+loop-less : tie.Need-loop-less Inv-loop μ-loop
+loop-less c = omega arith
+
+loop-again : tie.Need-loop-again Inv-loop μ-loop
+loop-again c =
+    let buckets = c .before .before .before .before .before .args .t1 in
+    let k = c .before .before .before .loop .k in
+    (omega arith, rw (add-one k) (summed-more buckets k (c .before .before .before .loop .inv .1) (c .add .ensures)))
+
+returns : tie.Need-returns Inv-loop μ-loop
+returns c = let whole : c .before .loop .k ≡ 65 = omega arith in c .before .loop .inv .1 ∙ rw whole
+
+pub add-up-spec : {M : Type 1} → statement M
+add-up-spec =
+    tie.close
+    (tie.spec
+    Inv-loop
+    μ-loop
+    none-requires
+    loop-holds
+    mul-b
+    array-copy-out-b
+    add-requires
+    add-k
+    loop-less
+    loop-again
+    returns)

@@ -1,0 +1,274 @@
+// The single pass over the references of a sheet, which fills the 65 buckets, and one over its segments for the end intervals.
+// What each function gives is written in specs/; nothing is assumed.
+use crate::Bucket;
+use crate::Tally;
+use model::Kind;
+use model::PriceRow;
+ghost use mathlib.Core.Path.{_≡_};
+ghost use mathlib.Core.Bool.{Bool, cond};
+ghost use Prim.Native.Nat.{ℕ, _+_, _*_, _≤_, _<_, _^_};
+ghost use lib.ListN.{length, take};
+ghost use Rattle.model.specs.Costs.{unitCost, keeps};
+ghost use Rattle.model.specs.Sheets.{Valid, traceOf, mostSegs};
+ghost use Rattle.figures.specs.Buckets.{tallyOf, lastBucket};
+ghost use Rattle.figures.specs.Rows.{partsOf};
+ghost use Rattle.figures.specs.Pass.{rowsOf, pricesOf, sheetApart, Ascending, Paired, IsFirstRow, IsTouch, Limited};
+ghost use Rattle.figures.specs.Pass.{withTouch, withEnd, Within, allUntouched, allEmpty, sheetPassed, sheetTally, endsOf};
+
+// The mark of a segment that was not touched yet. It is past every step.
+pub const UNTOUCHED: u16 = 65535;
+
+// The largest number whose top bit is clear.
+const BELOW_TOP: u64 = 9_223_372_036_854_775_807;
+
+// The prices of rows, apart: of one load unit and of one memory unit.
+pub struct Prices {
+    pub h: [u16; 64],
+    pub d: [u16; 64],
+}
+
+// A touch: whether it is a reuse, the segment's size, retention, swap cost, and the bucket that it goes to.
+pub struct Touch {
+    pub reuse: bool,
+    pub size: u16,
+    pub retention: u64,
+    pub swap: u64,
+    pub bucket: usize,
+}
+
+// What the pass over the references gives: the buckets, the table of last touches, Q and V.
+pub struct Passed {
+    pub buckets: [Bucket; 65],
+    pub last: [u16; 256],
+    pub cost: u64,
+    pub volume: u64,
+}
+
+// The table of last touches before step 1.
+pub fn untouched() -> [u16; 256]
+    ensures { λ r. ⌜ r ≡ allUntouched ⌝ }
+{
+    [UNTOUCHED; 256]
+}
+
+// 65 buckets without a touch.
+pub fn empty_buckets() -> [Bucket; 65]
+    ensures { λ r. ⌜ r ≡ allEmpty ⌝ }
+{
+    [Bucket {
+        count: 0,
+        volume: 0,
+        retention: 0,
+        swap: 0,
+        retentionz: 0,
+        swapz: 0,
+    }; 65]
+}
+
+// The prices of the rows, apart.
+pub fn split(rows: [PriceRow; 64]) -> Prices
+    ensures { λ r. ⌜ r ≡ pricesOf rows ⌝ }
+{
+    let mut h = [0u16; 64];
+    let mut d = [0u16; 64];
+    let mut i = 0;
+    while i < 64 {
+        let row = rows[i];
+        h[i] = row.h;
+        d[i] = row.d;
+        i += 1;
+    }
+    Prices { h: h, d: d }
+}
+
+// What one step of a segment of size z costs in memory units.
+pub fn unit_cost(kind: Kind, z: u16) -> u64
+    ensures { λ r. ⌜ r ≡ unitCost kind z ⌝ }
+{
+    match kind {
+        Kind::Time => 1,
+        Kind::Space => z as u64,
+    }
+}
+
+// Where the rows that keep a reuse may begin: at `lo` still where the row h/d keeps it, and else `half` rows later. The test is the top
+// bit of a sum: a branch on it would often be mispredicted.
+fn narrowed(h: u16, d: u16, retention: u64, swap: u64, lo: usize, half: usize) -> usize
+    requires { ⌜ (retention < 2 ^ 40) × (swap < 2 ^ 40) ⌝ }
+    requires { ⌜ lo + half ≤ lastBucket ⌝ }
+    ensures { λ r. ⌜ r ≡ cond (keeps (d * retention) (h * swap)) lo (lo + half) ⌝ }
+{
+    let memory = (d as u64) * retention;
+    let load = (h as u64) * swap;
+    let dropped = (memory + BELOW_TOP - load) >> 63;
+    lo + half * (dropped as usize)
+}
+
+// The first row that keeps a reuse, found by halving the rows; the last bucket where none does.
+pub fn first_row(hs: &[u16], ds: &[u16], retention: u64, swap: u64) -> usize
+    requires { ⌜ Paired (now hs) (now ds) ⌝ }
+    requires { ⌜ (retention < 2 ^ 40) × (swap < 2 ^ 40) ⌝ }
+    ensures within { λ r. ⌜ r ≤ lastBucket ⌝ }
+    ensures exact { λ r. ⌜ IsFirstRow (now (hs .entry)) (now (ds .entry)) retention swap r ⌝ }
+{
+    let mut lo = 0;
+    let mut n = hs.len();
+    while 0 < n {
+        let rest = n / 2;
+        let half = n - rest;
+        let m = lo + half - 1;
+        lo = narrowed(hs[m], ds[m], retention, swap, lo, half);
+        n = rest;
+    }
+    if lo < hs.len() { lo } else { 64 }
+}
+
+// A touch, after so many steps, of a segment of size z with that mark; or its end interval.
+pub fn touch_of(kind: Kind, a: u8, hs: &[u16], ds: &[u16], z: u16, mark: u16, steps: u16) -> Touch
+    requires { ⌜ Paired (now hs) (now ds) ⌝ }
+    ensures within { λ r. ⌜ Limited r ⌝ }
+    ensures exact { λ r. ⌜ IsTouch kind a (now (hs .entry)) (now (ds .entry)) z mark steps r ⌝ }
+{
+    let w = model::swap_cost(a, z).0;
+    if mark <= steps {
+        let r = model::retention_cost(kind, z, steps - mark).0;
+        let k = first_row(hs, ds, r, w);
+        Touch {
+            reuse: true,
+            size: z,
+            retention: r,
+            swap: w,
+            bucket: k,
+        }
+    } else {
+        Touch {
+            reuse: false,
+            size: z,
+            retention: 0,
+            swap: w,
+            bucket: 64,
+        }
+    }
+}
+
+// The bucket with one more touch.
+pub fn add_touch(b: Bucket, x: Touch) -> Bucket
+    requires { ⌜ Within b (2 ^ 60) ⌝ }
+    requires { ⌜ Limited x ⌝ }
+    ensures { λ r. ⌜ r ≡ withTouch b x ⌝ }
+{
+    let z = x.size as u64;
+    Bucket {
+        count: b.count + 1,
+        volume: b.volume + z,
+        retention: b.retention + x.retention,
+        swap: b.swap + x.swap,
+        retentionz: b.retentionz + x.retention * z,
+        swapz: b.swapz + x.swap * z,
+    }
+}
+
+// The bucket with one more end interval; a never-touched segment has none.
+pub fn add_end(b: Bucket, x: Touch) -> Bucket
+    requires { ⌜ Within b (2 ^ 60) ⌝ }
+    requires { ⌜ Limited x ⌝ }
+    ensures { λ r. ⌜ r ≡ withEnd b x ⌝ }
+{
+    if x.reuse { add_touch(b, x) } else { b }
+}
+
+// The pass over the references.
+pub fn references(kind: Kind, a: u8, hs: &[u16], ds: &[u16], sizes: &[u16], refs: &[u16]) -> Passed
+    requires { ⌜ Paired (now hs) (now ds) ⌝ }
+    requires { ⌜ Valid (sheetApart kind a (now sizes) (now hs) (now ds) (now refs)) ⌝ }
+    ensures { λ r. ⌜ r ≡ sheetPassed (sheetApart kind a (now (sizes .entry)) (now (hs .entry)) (now (ds .entry)) (now (refs .entry))) ⌝ }
+{
+    let mut buckets = empty_buckets();
+    let mut last = untouched();
+    let mut cost: u64 = 0;
+    let mut volume: u64 = 0;
+    let mut t: usize = 0;
+    while t < refs.len() {
+        let i = refs[t] as usize;
+        let z = sizes[i];
+        let x = touch_of(kind, a, hs, ds, z, last[i], t as u16);
+        let k = x.bucket;
+        let mut b = buckets[k];
+        b = add_touch(b, x);
+        buckets[k] = b;
+        t += 1;
+        last[i] = t as u16;
+        cost += unit_cost(kind, z);
+        volume += z as u64;
+    }
+    Passed {
+        buckets: buckets,
+        last: last,
+        cost: cost,
+        volume: volume,
+    }
+}
+
+// The buckets of the end intervals after so many steps, from the table of last touches.
+pub fn ends(
+    kind: Kind,
+    a: u8,
+    hs: &[u16],
+    ds: &[u16],
+    sizes: &[u16],
+    last: &[u16],
+    steps: u16,
+) -> [Bucket; 65]
+    requires { ⌜ Paired (now hs) (now ds) ⌝ }
+    requires { ⌜ Ascending (rowsOf (now hs) (now ds)) ⌝ }
+    requires { ⌜ (length (now sizes) ≤ length (now last)) × (length (now sizes) ≤ mostSegs) ⌝ }
+    ensures { λ r. ⌜ r ≡ endsOf kind a (rowsOf (now (hs .entry)) (now (ds .entry))) (now (sizes .entry)) (now (last .entry)) steps ⌝ }
+{
+    let mut buckets = empty_buckets();
+    let mut i = 0;
+    while i < sizes.len() {
+        let x = touch_of(kind, a, hs, ds, sizes[i], last[i], steps);
+        let k = x.bucket;
+        let mut b = buckets[k];
+        b = add_end(b, x);
+        buckets[k] = b;
+        i += 1;
+    }
+    buckets
+}
+
+// The tally of a run whose prices stand apart.
+fn tally_apart(kind: Kind, a: u8, hs: &[u16], ds: &[u16], sizes: &[u16], refs: &[u16]) -> Tally
+    requires { ⌜ Paired (now hs) (now ds) ⌝ }
+    requires { ⌜ Valid (sheetApart kind a (now sizes) (now hs) (now ds) (now refs)) ⌝ }
+    ensures { λ r. ⌜ r ≡ sheetTally (sheetApart kind a (now (sizes .entry)) (now (hs .entry)) (now (ds .entry)) (now (refs .entry))) ⌝ }
+{
+    let p = references(kind, a, hs, ds, sizes, refs);
+    let buckets = p.buckets;
+    let last = p.last;
+    let ended = ends(kind, a, hs, ds, sizes, &last, refs.len() as u16);
+    Tally {
+        buckets: buckets,
+        ends: ended,
+        cost: p.cost,
+        volume: p.volume,
+    }
+}
+
+// One pass over the references, then one over the segments for the end intervals.
+pub fn tally(
+    kind: Kind,
+    a: u8,
+    prices: [PriceRow; 64],
+    rows: usize,
+    sizes: &[u16],
+    refs: &[u16],
+) -> Tally
+    requires { ⌜ (rows ≤ 64) × Valid (partsOf kind a (now sizes) (take rows prices) (now refs)) ⌝ }
+    ensures { λ r. ⌜ r ≡ tallyOf (take rows prices) (traceOf (partsOf kind a (now (sizes .entry)) (take rows prices) (now (refs .entry)))) ⌝ }
+{
+    let apart = split(prices);
+    let h = apart.h;
+    let d = apart.d;
+    tally_apart(kind, a, &h[..rows], &d[..rows], sizes, refs)
+}
