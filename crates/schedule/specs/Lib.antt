@@ -1,1 +1,4 @@
 pub mod Checking
+pub mod Pricing
+pub mod Requires
+pub mod Writing

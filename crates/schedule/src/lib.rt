@@ -1,5 +1,8 @@
 // Schedules: writing the optimal one of a row, and checking and pricing one handed in.
 // What a schedule is and costs is written in crate `model`; nothing is assumed.
+pub mod pricing;
+pub mod writing;
+
 use model::LoadUnits;
 use model::MemoryUnits;
 use model::Verdict;

@@ -1,0 +1,11 @@
+pub mod Changes
+pub mod Copying
+pub mod Costs
+pub mod Filling
+pub mod Lists
+pub mod Marks
+pub mod Masks
+pub mod Runs
+pub mod StepBytes
+pub mod Verdicts
+pub mod Words

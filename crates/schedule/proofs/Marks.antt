@@ -1,0 +1,94 @@
+-- Which touches are kept, told by the table of last touches, and the loop that marks them. Assumes nothing.
+use Prim.Native.Nat.{ℕ, zero, suc, _+_, _-_, _^_, _≤_, _<_}
+use mathlib.Core.Path.{_≡_, refl, sym, _∙_}
+use mathlib.Core.Bool.{Bool, false}
+use mathlib.Core.List.{List, [], _∷_}
+use mathlib.Core.Option.{Option, none, some}
+use native.Mathlib.Omega.{arith}
+use native.Mathlib.Numerals.{add-one}
+use lib.ListN.{length, getD, set, length-set, length-replicate}
+use lib.Seq.{getD-set-same, getD-set-other}
+use borrow.Author.Count.{below-more}
+use borrow.Author.Tests.{le-leb, lt-leb}
+use Rattle.model.specs.Costs.{retention, unitCost}
+use Rattle.model.specs.Traces.{Trace, steps, entry, sizeOf, unreferenced}
+use Rattle.model.specs.Figures.{kept}
+use Rattle.model.specs.declared.Kind.{Kind}
+use Rattle.model.specs.declared.PriceRow.{PriceRow}
+use Rattle.model.specs.declared.Kind.the-variants.{Time, Space}
+use Rattle.model.proofs.Bounds.{product-within}
+use Rattle.model.proofs.LastTouches.{lastFrom, lastTable, lastTable-at, lastTable-start, lastTable-step, unreferenced-below}
+use Rattle.schedule.specs.Requires.{runOf, Limits}
+use Rattle.schedule.specs.Writing.{allUntouched, noMarks, keptBy}
+
+-- within a list it is of no account what stands beyond it
+pub getD-within : (l : List ℕ) (n d e : ℕ) → n < length l → getD l n d ≡ getD l n e
+getD-within [] n d e lt = absurd (omega arith)
+getD-within (x ∷ xs) zero d e lt = refl
+getD-within (x ∷ xs) (suc n) d e lt = getD-within xs n d e (omega arith)
+
+-- the retention of a 16-bit size over a 16-bit time
+pub retention-within : (kind : Kind) (z k : ℕ) → z < 65536 → k < 65536 → retention kind z k < 2 ^ 40
+retention-within kind z k lz lk = omega (arith, product-within k (unitCost kind z) 65536 65536 (omega arith) (within kind))
+  where
+    within : (q : Kind) → unitCost q z ≤ 65536
+    within Time = omega arith
+    within Space = omega arith
+
+-- a run in which nothing was touched before step 1
+module _ (T : Trace) (fresh : (i : ℕ) → T .start i ≡ false) (row : PriceRow) where
+  -- the mark in the table tells whether a touch is kept
+  pub kept-mark : (t i : ℕ) → i < 256 → t < 65535
+      → keptBy (T .kind) (T .a) row (sizeOf T i) (getD (lastTable T t) i 0) t ≡ kept T (row .h) (row .d) t i
+  unfolding kept
+  kept-mark t i li lt = rw (lastTable-at T t i 0 li) (go (unreferenced T t i) refl)
+    where
+      go : (o : Option ℕ) → unreferenced T t i ≡ o
+          → keptBy (T .kind) (T .a) row (sizeOf T i) (lastFrom t o) t ≡ kept T (row .h) (row .d) t i
+      go none e = rw (e, lt-leb 65535 t lt)
+      go (some k) e =
+          let below = unreferenced-below T fresh t i k e in
+          let back : t - (t - k) ≡ k = omega arith in
+          rw (e, le-leb (t - k) t (omega arith), back)
+
+-- after t steps: the steps before are marked, and the table of last touches is that of t steps
+pub record Marked (T : Trace) (row : PriceRow) (marks : List Bool) (last : List ℕ) (t : ℕ) : Type 0 where
+  pub within : t ≤ steps T
+  pub whole : length marks ≡ 2048
+  pub marked : (k : ℕ) → k < t → getD marks k false ≡ kept T (row .h) (row .d) k (entry T k)
+  pub last-is : last ≡ lastTable T t
+
+module _ (kind : Kind) (a : ℕ) (row : PriceRow) (sizes refs : List ℕ) (ok : Limits (runOf kind a sizes refs)) where
+  abbrev run : Trace
+  run = runOf kind a sizes refs
+
+  pub marked-start : Marked run row noMarks allUntouched 0
+  unfolding noMarks allUntouched
+  marked-start =
+      record {
+        within = omega arith;
+        whole = length-replicate 2048 false;
+        marked = λ k lt. absurd (omega arith);
+        last-is = sym (lastTable-start run (λ i. refl));
+      }
+
+  pub marked-step : (marks : List Bool) (last : List ℕ) (t i : ℕ) (x : Bool) → Marked run row marks last t → t < length refs
+      → i ≡ getD refs t 0 → x ≡ keptBy kind a row (getD sizes i 0) (getD last i 0) t
+      → Marked run row (set marks t x) (set last i (t + 1)) (t + 1)
+  marked-step marks last t i x v lt ei ex =
+      let is-segment = ok .ref-within t lt in
+      let e : entry run t ≡ i = getD-within refs t (length sizes) 0 lt ∙ sym ei in
+      let here : x ≡ kept run (row .h) (row .d) t (entry run t) =
+      ex ∙ rw (v .last-is, e) (kept-mark run (λ i. refl) row t i (omega arith) (omega arith))
+      in
+      record {
+        within = omega arith;
+        whole = length-set marks t x ∙ v .whole;
+        marked =
+            below-more
+            (λ k. getD (set marks t x) k false ≡ kept run (row .h) (row .d) k (entry run k))
+            t
+            (λ k l. getD-set-other marks t k x false (λ s. omega arith) ∙ v .marked k l)
+            (getD-set-same marks t x false (omega (arith, v .whole)) ∙ here);
+        last-is = rw (v .last-is, add-one t, ← e) (lastTable-step run t (omega (arith, e)) (ok .segs-within));
+      }

@@ -1,0 +1,31 @@
+-- `pricing::pass` meets its contract, case by case. Assumes nothing.
+use Rattle.schedule.proofs.Changes.{pass-same, pass-leaves, pass-touched, pass-enters}
+use borrow.Author.Needs.{needs}
+use Rattle.schedule.proofs.pricing.pass.Statement.{statement}
+use Rattle.schedule.proofs.pricing.pass.Tie as tie
+
+returns : tie.Need-returns
+returns c = pass-same _ _ _ _ _ _ _ (c .before .if1 .taken) (c .if2 .taken)
+
+unit-at-requires : tie.Need-unit-at-requires
+unit-at-requires c κs = search needs
+
+add-t11 : tie.Need-add-t11
+add-t11 c = search needs
+
+returns-2 : tie.Need-returns-2
+returns-2 c =
+    pass-leaves _ _ _ _ _ _ _ (c .before .before .before .if1 .taken) (c .before .before .if2 .left) (c .before .unit-at .ensures .0)
+
+returns-3 : tie.Need-returns-3
+returns-3 c = pass-touched _ _ _ _ _ _ (c .before .before .if1 .left) (c .before .if3 .taken) (c .if4 .taken)
+
+returns-4 : tie.Need-returns-4
+returns-4 c = pass-enters _ _ _ _ _ _ (c .before .before .if1 .left) (c .before .if3 .taken) (c .if4 .left)
+
+returns-5 : tie.Need-returns-5
+returns-5 c = pass-same _ _ _ _ _ _ _ (c .before .if1 .left) (c .if3 .left)
+
+pub pass-spec : {M : Type 1} → statement M
+pass-spec =
+    tie.close (tie.spec returns unit-at-requires add-t11 returns-2 returns-3 returns-4 returns-5)

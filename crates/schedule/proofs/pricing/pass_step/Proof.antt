@@ -1,0 +1,44 @@
+-- `pricing::pass_step` meets its contract. The loop's invariant: the segments of the first m words are passed. Assumes nothing.
+use Prim.Native.Nat.{_+_, _-_, _*_, _≤_}
+use mathlib.Core.Path.{_≡_}
+use native.Mathlib.Omega.{arith}
+use borrow.Author.Needs.{needs}
+use Rattle.schedule.specs.Requires.{runOf}
+use Rattle.schedule.specs.Pricing.{Passed}
+use Rattle.schedule.proofs.Changes.{passed-none}
+use Rattle.schedule.proofs.pricing.pass_step.Statement.{statement}
+use Rattle.schedule.proofs.pricing.pass_step.Tie as tie
+
+abbrev Inv-loop : tie.InvT-loop
+Inv-loop kind a sizes refs schedule t c₀ m₀ c m = (m ≤ 4) × Passed (runOf kind a sizes refs) schedule t (64 * m) c
+
+abbrev μ-loop : tie.MeasureT-loop
+μ-loop kind a sizes refs schedule t c₀ m₀ c m = 4 - m
+
+loop-holds : tie.Need-loop-holds Inv-loop μ-loop
+loop-holds c = (omega arith, passed-none _ _ _)
+
+pass-word-requires : tie.Need-pass-word-requires Inv-loop μ-loop
+pass-word-requires c κs = (c .before .before .before .before .before .pre, (c .loop-test .taken, c .before .loop .inv .1))
+
+add-m : tie.Need-add-m Inv-loop μ-loop
+add-m c = search needs
+
+loop-less : tie.Need-loop-less Inv-loop μ-loop
+loop-less c = search needs
+
+loop-again : tie.Need-loop-again Inv-loop μ-loop
+loop-again c =
+    let m = c .before .before .loop .m in
+    let next : 64 * (m + 1) ≡ 64 * m + 64 = omega arith in
+    (omega arith, rw next (c .pass-word .ensures))
+
+returns : tie.Need-returns Inv-loop μ-loop
+returns c =
+    let last : 64 * c .before .loop .m ≡ 256 = omega arith in
+    rw last at (c .before .loop .inv .1)
+
+pub pass-step-spec : {M : Type 1} → statement M
+pass-step-spec =
+    tie.close
+    (tie.spec Inv-loop μ-loop loop-holds pass-word-requires add-m loop-less loop-again returns)

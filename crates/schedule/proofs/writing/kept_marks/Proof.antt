@@ -1,0 +1,138 @@
+-- `kept_marks` meets its contract: the invariant of its loop is `Marked`, the measure the steps that are left. Assumes nothing.
+use Prim.Native.Nat.{_-_, _<_}
+use mathlib.Core.Path.{refl}
+use native.Mathlib.Omega.{arith}
+use lib.ListN.{length, getD}
+use denote.Ref.{now}
+use borrow.Author.Needs.{needs}
+use Rattle.schedule.specs.Requires.{runOf}
+use Rattle.schedule.proofs.Marks.{Marked, marked-start, marked-step}
+use Rattle.schedule.proofs.writing.kept_marks.Statement.{statement}
+use Rattle.schedule.proofs.writing.kept_marks.Tie as tie
+
+abbrev Inv-loop : tie.InvT-loop
+Inv-loop kind a row sizes refs marks₀ last₀ t₀ marks last t = Marked (runOf kind a sizes refs) row marks last t
+
+abbrev μ-loop : tie.MeasureT-loop
+μ-loop kind a row sizes refs marks₀ last₀ t₀ marks last t = length refs - t
+
+no-marks-requires : tie.Need-no-marks-requires Inv-loop μ-loop
+no-marks-requires c κs = search needs
+
+untouched-requires : tie.Need-untouched-requires Inv-loop μ-loop
+untouched-requires c κs = search needs
+
+-- where the function begins
+abbrev Entry : tie.In-loop Inv-loop μ-loop → tie.Start Inv-loop μ-loop
+Entry c = c .before .before .before .before .before .before
+
+-- the reference of a turn is a segment
+is-segment : (c : tie.In-loop Inv-loop μ-loop) → getD (now (Entry c .args .refs)) (c .before .loop .t) 0 < length (now (Entry c .args .sizes))
+is-segment c = Entry c .pre .ref-within (c .before .loop .t) (omega arith)
+
+loop-holds : tie.Need-loop-holds Inv-loop μ-loop
+loop-holds c =
+    let s = c .before .before .before .before in
+    let a = s .args in
+    rw (c .before .no-marks .ensures, c .untouched .ensures)
+    (marked-start (a .kind) (a .a) (a .row) (now (a .sizes)) (now (a .refs)) (s .pre))
+
+mul-i : tie.Need-mul-i Inv-loop μ-loop
+mul-i c = search needs
+
+shared-slice-read-i : tie.Need-shared-slice-read-i Inv-loop μ-loop
+shared-slice-read-i c = search needs
+
+cast-i : tie.Need-cast-i Inv-loop μ-loop
+cast-i c = omega (arith, is-segment (c .before), Entry (c .before) .pre)
+
+mul-touch-kept : tie.Need-mul-touch-kept Inv-loop μ-loop
+mul-touch-kept c = omega (arith, is-segment (c .before), Entry (c .before) .pre)
+
+shared-slice-read-touch-kept : tie.Need-shared-slice-read-touch-kept Inv-loop μ-loop
+shared-slice-read-touch-kept c = omega (arith, is-segment (c .before .before), Entry (c .before .before) .pre)
+
+mul-touch-kept-2 : tie.Need-mul-touch-kept-2 Inv-loop μ-loop
+mul-touch-kept-2 c = omega (arith, is-segment (c .before .before), Entry (c .before .before) .pre)
+
+array-read-touch-kept : tie.Need-array-read-touch-kept Inv-loop μ-loop
+array-read-touch-kept c = omega (arith, is-segment (c .before .before), Entry (c .before .before) .pre)
+
+cast-touch-kept : tie.Need-cast-touch-kept Inv-loop μ-loop
+cast-touch-kept c = omega (arith, Entry (c .before .before) .pre)
+
+touch-kept-requires : tie.Need-touch-kept-requires Inv-loop μ-loop
+touch-kept-requires c κs = search needs
+
+array-write-marks : tie.Need-array-write-marks Inv-loop μ-loop
+array-write-marks c = omega (arith, Entry (c .before .before .before) .pre)
+
+add-t : tie.Need-add-t Inv-loop μ-loop
+add-t c = search needs
+
+cast-last : tie.Need-cast-last Inv-loop μ-loop
+cast-last c = omega (arith, Entry (c .before .before .before) .pre)
+
+mul-last : tie.Need-mul-last Inv-loop μ-loop
+mul-last c = omega (arith, is-segment (c .before .before .before), Entry (c .before .before .before) .pre)
+
+array-write-last : tie.Need-array-write-last Inv-loop μ-loop
+array-write-last c = omega (arith, is-segment (c .before .before .before), Entry (c .before .before .before) .pre)
+
+loop-less : tie.Need-loop-less Inv-loop μ-loop
+loop-less c = search needs
+
+loop-again : tie.Need-loop-again Inv-loop μ-loop
+loop-again c =
+    let turn = c .before .before .before in
+    let s = Entry turn in
+    let a = s .args in
+    let l = turn .before .loop in
+    marked-step
+    (a .kind)
+    (a .a)
+    (a .row)
+    (now (a .sizes))
+    (now (a .refs))
+    (s .pre)
+    (l .marks)
+    (l .last)
+    (l .t)
+    (getD (now (a .refs)) (l .t) 0)
+    (c .touch-kept .result)
+    (l .inv)
+    (turn .loop-test .taken)
+    refl
+    (c .touch-kept .ensures)
+
+returns : tie.Need-returns Inv-loop μ-loop
+returns c =
+    let l = c .before .loop in
+    λ t lt. l .inv .marked t (omega arith)
+
+pub kept-marks-spec : {M : Type 1} → statement M
+kept-marks-spec =
+    tie.close
+    (tie.spec
+    Inv-loop
+    μ-loop
+    no-marks-requires
+    untouched-requires
+    loop-holds
+    mul-i
+    shared-slice-read-i
+    cast-i
+    mul-touch-kept
+    shared-slice-read-touch-kept
+    mul-touch-kept-2
+    array-read-touch-kept
+    cast-touch-kept
+    touch-kept-requires
+    array-write-marks
+    add-t
+    cast-last
+    mul-last
+    array-write-last
+    loop-less
+    loop-again
+    returns)

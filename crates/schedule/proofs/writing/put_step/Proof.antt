@@ -1,0 +1,125 @@
+-- `put_step` meets its contract: the invariant of its loop is `Copied`, the measure the bytes that are left. Assumes nothing.
+use Prim.Native.Nat.{_-_}
+use mathlib.Core.Path.{_≡_}
+use native.Mathlib.Omega.{arith}
+use denote.Ref.{now}
+use borrow.Author.Needs.{needs}
+use Rattle.schedule.proofs.Copying.{Copied, copied-start, copied-length, copied-step, copied-next}
+use Rattle.schedule.proofs.writing.put_step.Statement.{statement}
+use Rattle.schedule.proofs.writing.put_step.Tie as tie
+
+abbrev Inv-loop : tie.InvT-loop
+Inv-loop masks i on at next₀ out₀ j₀ next out j = Copied next₀ out₀ i on at next out j
+
+abbrev μ-loop : tie.MeasureT-loop
+μ-loop masks i on at next₀ out₀ j₀ next out j = 32 - j
+
+loop-holds : tie.Need-loop-holds Inv-loop μ-loop
+loop-holds c =
+    let a = c .before .args in
+    let p = c .before .pre in
+    copied-start (now (a .next)) (now (a .out)) (a .i) (a .on) (a .at) (p .2) (p .3)
+
+mul-mask : tie.Need-mul-mask Inv-loop μ-loop
+mul-mask c = search needs
+
+add-mask : tie.Need-add-mask Inv-loop μ-loop
+add-mask c = search needs
+
+element-copy-out-mask : tie.Need-element-copy-out-mask Inv-loop μ-loop
+element-copy-out-mask c = search needs
+
+element-copy-out-byte : tie.Need-element-copy-out-byte Inv-loop μ-loop
+element-copy-out-byte c = search needs
+
+masked-requires : tie.Need-masked-requires Inv-loop μ-loop
+masked-requires c κs = search needs
+
+add-out : tie.Need-add-out Inv-loop μ-loop
+add-out c = search needs
+
+slice-write-out : tie.Need-slice-write-out Inv-loop μ-loop
+slice-write-out c =
+    let s = c .before .before .before .before .before .before in
+    let a = s .args in
+    let l = c .before .before .before .before .loop in
+    omega (
+      arith,
+      copied-length (now (a .next)) (now (a .out)) (a .i) (a .on) (a .at) (s .pre .2) (s .pre .3) (l .next) (l .out) (l .j) (l .inv),
+    )
+
+masked-requires-2 : tie.Need-masked-requires-2 Inv-loop μ-loop
+masked-requires-2 c κs = search needs
+
+element-write-next : tie.Need-element-write-next Inv-loop μ-loop
+element-write-next c = omega arith
+
+add-j : tie.Need-add-j Inv-loop μ-loop
+add-j c = search needs
+
+loop-less : tie.Need-loop-less Inv-loop μ-loop
+loop-less c = search needs
+
+loop-again : tie.Need-loop-again Inv-loop μ-loop
+loop-again c =
+    let s = c .before .before .before .before .before .before .before in
+    let a = s .args in
+    let l = c .before .before .before .before .before .loop in
+    copied-step
+    (now (a .next))
+    (now (a .out))
+    (a .i)
+    (a .on)
+    (a .at)
+    (s .pre .2)
+    (s .pre .3)
+    (now (a .masks))
+    (l .next)
+    (l .out)
+    (l .j)
+    (c .before .masked .result)
+    (c .masked2 .result)
+    (s .pre .0)
+    (s .pre .1)
+    (l .inv)
+    (omega arith)
+    (c .before .masked .ensures)
+    (c .masked2 .ensures)
+
+same-length : tie.Need-same-length Inv-loop μ-loop
+same-length c =
+    let s = c .before .before .before in
+    let a = s .args in
+    let l = c .before .loop in
+    copied-length (now (a .next)) (now (a .out)) (a .i) (a .on) (a .at) (s .pre .2) (s .pre .3) (l .next) (l .out) (l .j) (l .inv)
+
+returns : tie.Need-returns Inv-loop μ-loop
+returns c =
+    let s = c .before .before .before in
+    let a = s .args in
+    let l = c .before .loop in
+    let all : l .j ≡ 32 = omega arith in
+    let v = rw all at (l .inv) in
+    (copied-next (now (a .next)) (now (a .out)) (a .i) (a .on) (a .at) (s .pre .2) (s .pre .3) (l .next) (l .out) v, v .out-is)
+
+pub put-step-spec : {M : Type 1} → statement M
+put-step-spec =
+    tie.close
+    (tie.spec
+    Inv-loop
+    μ-loop
+    loop-holds
+    mul-mask
+    add-mask
+    element-copy-out-mask
+    element-copy-out-byte
+    masked-requires
+    add-out
+    slice-write-out
+    masked-requires-2
+    element-write-next
+    add-j
+    loop-less
+    loop-again
+    same-length
+    returns)

@@ -1,0 +1,135 @@
+// Writing the optimal schedule of a row: a pass over the references tells which touches are kept, and the steps are then written from
+// the last to the first, with a running set of the segments whose next touch is kept. Nothing is assumed.
+use model::Kind;
+use model::PriceRow;
+ghost use mathlib.Core.Path.{_≡_};
+ghost use mathlib.Core.Bool.{cond};
+ghost use mathlib.Core.List.{_++_};
+ghost use Prim.Native.Nat.{_+_, _*_, _≤_, _<_};
+ghost use lib.ListN.{length, drop};
+ghost use lib.Seq.{paste};
+ghost use Rattle.model.specs.Schedules.{optimalSchedule};
+ghost use Rattle.schedule.specs.Requires.{runOf, Limits};
+ghost use Rattle.schedule.specs.Writing.{allUntouched, noMarks, noSegments, noMasks, maskTable, masked, stepWith, keptBy, KeptMarks};
+
+// The mark of a segment that was not touched yet. It is past every step.
+const UNTOUCHED: u16 = 65535;
+
+// The table of last touches before step 1.
+fn untouched() -> [u16; 256]
+    ensures { λ r. ⌜ r ≡ allUntouched ⌝ }
+{
+    [UNTOUCHED; 256]
+}
+
+// No touch is kept.
+fn no_marks() -> [bool; 2048]
+    ensures { λ r. ⌜ r ≡ noMarks ⌝ }
+{
+    [false; 2048]
+}
+
+// The bytes of a step that holds no segment.
+fn no_segments() -> [u8; 32]
+    ensures { λ r. ⌜ r ≡ noSegments ⌝ }
+{
+    [0; 32]
+}
+
+// A table of masks without a bit.
+fn no_masks() -> [u8; 8192]
+    ensures { λ r. ⌜ r ≡ noMasks ⌝ }
+{
+    [0; 8192]
+}
+
+// Whether a touch, after so many steps, of a segment of size z with that mark in the table of last touches is kept.
+fn touch_kept(kind: Kind, a: u8, row: PriceRow, z: u16, mark: u16, steps: u16) -> bool
+    ensures { λ r. ⌜ r ≡ keptBy kind a row z mark steps ⌝ }
+{
+    if mark <= steps {
+        let held = model::retention_cost(kind, z, steps - mark).priced(row.d);
+        model::kept(held, model::swap_cost(a, z).priced(row.h))
+    } else {
+        false
+    }
+}
+
+// For each step whether its touch is kept: one pass over the references.
+fn kept_marks(kind: Kind, a: u8, row: PriceRow, sizes: &[u16], refs: &[u16]) -> [bool; 2048]
+    requires { ⌜ Limits (runOf kind a (now sizes) (now refs)) ⌝ }
+    ensures { λ r. ⌜ KeptMarks (runOf kind a (now (sizes .entry)) (now (refs .entry))) row r ⌝ }
+{
+    let mut marks = no_marks();
+    let mut last = untouched();
+    let mut t: usize = 0;
+    while t < refs.len() {
+        let i = refs[t] as usize;
+        marks[t] = touch_kept(kind, a, row, sizes[i], last[i], t as u16);
+        t += 1;
+        last[i] = t as u16;
+    }
+    marks
+}
+
+// For each segment the bytes of a step that holds this one alone.
+fn mask_table() -> [u8; 8192]
+    ensures { λ r. ⌜ r ≡ maskTable ⌝ }
+{
+    let mut masks = no_masks();
+    let mut i = 0;
+    while i < 256 {
+        masks[32 * i + i / 8] = 1 << (i % 8);
+        i += 1;
+    }
+    masks
+}
+
+// The byte with its bits in `mask` replaced by those of `on`.
+fn masked(byte: u8, mask: u8, on: u8) -> u8
+    ensures { λ r. ⌜ r ≡ masked byte mask on ⌝ }
+{
+    byte - (byte & mask) + (mask & on)
+}
+
+// All bits, or none.
+fn all_bits(on: bool) -> u8
+    ensures { λ r. ⌜ r ≡ cond on 255 0 ⌝ }
+{
+    if on { 255 } else { 0 }
+}
+
+// One step: the bytes of `next` with segment i held go to `out` from `at` on, and in `next` i is held where `on` is 255, not where it is 0.
+fn put_step(masks: &[u8; 8192], i: usize, on: u8, at: usize, next: &mut [u8; 32], out: &mut [u8])
+    requires { ⌜ (now masks ≡ maskTable) × (i < 256) × (length (now next) ≡ 32) × (at + 32 ≤ length (now out)) ⌝ }
+    ensures { λ _. ⌜ now (next .exit) ≡ stepWith (now (next .entry)) i on ⌝ }
+    ensures { λ _. ⌜ now (out .exit) ≡ paste (now (out .entry)) at (stepWith (now (next .entry)) i 255) 32 ⌝ }
+{
+    let mut j = 0;
+    while j < 32 {
+        let mask = masks[32 * i + j];
+        let byte = next[j];
+        out[at + j] = masked(byte, mask, 255);
+        next[j] = masked(byte, mask, on);
+        j += 1;
+    }
+}
+
+// The optimal schedule of a row at the head of a lent place, whatever stood there; what stands beyond it stays.
+pub fn write_optimal(kind: Kind, a: u8, row: PriceRow, sizes: &[u16], refs: &[u16], out: &mut [u8])
+    requires { ⌜ Limits (runOf kind a (now sizes) (now refs)) ⌝ }
+    requires { ⌜ 32 * length (now refs) ≤ length (now out) ⌝ }
+    ensures { λ _.
+        ⌜ now (out .exit) ≡ optimalSchedule (runOf kind a (now (sizes .entry)) (now (refs .entry))) (row .h) (row .d)
+        ++ drop (32 * length (now (refs .entry))) (now (out .entry)) ⌝ }
+{
+    let marks = kept_marks(kind, a, row, sizes, refs);
+    let masks = mask_table();
+    let mut next = no_segments();
+    let mut t = refs.len();
+    while 0 < t {
+        t -= 1;
+        let i = refs[t] as usize;
+        put_step(&masks, i, all_bits(marks[t]), 32 * t, &mut next, out);
+    }
+}
