@@ -9,6 +9,10 @@ use Rattle.model.specs.Rows.{rowFigures, zeroFigures}
 use Rattle.model.specs.declared.Kind.{Kind}
 use Rattle.model.specs.declared.PriceRow.{PriceRow}
 use Rattle.model.specs.declared.RowFigures.{RowFigures}
+use Rattle.model.specs.declared.Refusal.{Refusal}
+use Rattle.model.specs.declared.Refusal.the-variants.{NoSuchRow}
+use Rattle.model.specs.declared.Verdict.the-variants.{Accepted, Refused}
+use Rattle.figures.specs.declared.FiguresAnswer.{FiguresAnswer}
 use Rattle.figures.specs.Buckets.{tabulate}
 
 -- a sheet's value from its parts
@@ -22,3 +26,11 @@ figuresAt s r = rowFigures (traceOf s) (rowAt s r .h) (rowAt s r .d)
 -- the figures of every row, and zeros beyond the rows
 unfoldable pub allFigures : SheetValue → List RowFigures
 allFigures s = tabulate mostRows (λ r. cond (ltb r (length (s .rows))) (figuresAt s r) zeroFigures)
+
+-- no figures: zeros beside the refusal
+abbrev pub noFigures : Refusal → FiguresAnswer
+noFigures r = record { verdict = Refused r; figures = zeroFigures }
+
+-- the figures of row r of a sheet: 7 where there is no such row
+unfoldable pub figuresOf : SheetValue → ℕ → FiguresAnswer
+figuresOf v r = cond (ltb r (length (v .rows))) (record { verdict = Accepted; figures = figuresAt v r }) (noFigures NoSuchRow)

@@ -6,6 +6,7 @@ pub mod rows;
 use model::Kind;
 use model::PriceRow;
 use model::RowFigures;
+use model::Verdict;
 ghost use mathlib.Core.Path.{_≡_};
 ghost use Prim.Native.Nat.{ℕ, _+_, _*_, _≤_, _<_, _^_};
 ghost use lib.ListN.{length, take};
@@ -32,8 +33,21 @@ pub struct Tally {
     pub volume: u64,
 }
 
+// The figures of a row, all zero where a call is refused.
+pub struct FiguresAnswer {
+    pub verdict: Verdict,
+    pub figures: RowFigures,
+}
+
 // The figures of every row of a sheet, given by its parts; zeros beyond the rows.
-pub fn figures(kind: Kind, a: u8, prices: [PriceRow; 64], rows: usize, sizes: &[u16], refs: &[u16]) -> [RowFigures; 64]
+pub fn figures(
+    kind: Kind,
+    a: u8,
+    prices: [PriceRow; 64],
+    rows: usize,
+    sizes: &[u16],
+    refs: &[u16],
+) -> [RowFigures; 64]
     requires { ⌜ (rows ≤ 64) × Valid (partsOf kind a (now sizes) (take rows prices) (now refs)) ⌝ }
     ensures { λ r. ⌜ r ≡ allFigures (partsOf kind a (now (sizes .entry)) (take rows prices) (now (refs .entry))) ⌝ }
 {

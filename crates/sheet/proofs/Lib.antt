@@ -1,10 +1,17 @@
 pub mod Accepted
+pub mod Blanks
 pub mod Examples
 pub mod Held
+pub mod KeyedLines
 pub mod Lengths
+pub mod LinesPassed
 pub mod Parsing
+pub mod ReadRows
+pub mod ReadStages
 pub mod Refusals
 pub mod RoundTrip
 pub mod Runs
 pub mod SheetLines
+pub mod Splits
+pub mod Tails
 pub mod Words

@@ -1,3 +1,4 @@
+pub mod AtPlace
 pub mod Keys
 pub mod Lines
 pub mod Reading

@@ -1,0 +1,42 @@
+-- `reading::find` meets its contract. The loop's invariant: none of the bytes passed is `c`. Assumes nothing.
+use Prim.Native.Nat.{ℕ, _-_, _≤_, _<_}
+use mathlib.Core.Path.{_≡_}
+use native.Mathlib.Omega.{arith}
+use borrow.Author.Count.{below-more}
+use borrow.Author.Needs.{needs}
+use lib.ListN.{length, getD}
+use Rattle.sheet.proofs.Splits.{split-first}
+use Rattle.sheet.proofs.reading.find.Statement.{statement}
+use Rattle.sheet.proofs.reading.find.Tie as tie
+
+abbrev Inv-loop : tie.InvT-loop
+Inv-loop s c i₀ i = (i ≤ length s) × ((k : ℕ) → k < i → getD s k 0 ≡ c → ⊥)
+
+abbrev μ-loop : tie.MeasureT-loop
+μ-loop s c i₀ i = length s - i
+
+loop-holds : tie.Need-loop-holds Inv-loop μ-loop
+loop-holds c = search needs
+
+shared-slice-read-if1 : tie.Need-shared-slice-read-if1 Inv-loop μ-loop
+shared-slice-read-if1 c = search needs
+
+returns : tie.Need-returns Inv-loop μ-loop
+returns c =
+    let i = c .before .before .before .loop in
+    (i .inv .0, split-first _ _ _ (i .inv .0) (i .inv .1) (λ l. c .if1 .taken))
+
+add-i : tie.Need-add-i Inv-loop μ-loop
+add-i c = search needs
+
+loop-less : tie.Need-loop-less Inv-loop μ-loop
+loop-less c = search needs
+
+loop-again : tie.Need-loop-again Inv-loop μ-loop
+loop-again c = (search needs, below-more _ _ (c .before .before .before .loop .inv .1) (c .if1 .left))
+
+returns-2 : tie.Need-returns-2 Inv-loop μ-loop
+returns-2 c = let i = c .before .loop in (i .inv .0, split-first _ _ _ (i .inv .0) (i .inv .1) (λ l. absurd (omega arith)))
+
+pub find-spec : {M : Type 1} → statement M
+find-spec = tie.close (tie.spec Inv-loop μ-loop loop-holds shared-slice-read-if1 returns add-i loop-less loop-again returns-2)

@@ -1,0 +1,77 @@
+-- `reading::from_refs` meets its contract: the line refs=, and what `from_touches` answers to the rest. Assumes nothing.
+use mathlib.Core.Path.{refl, sym, ap, _∙_}
+use native.Mathlib.Omega.{arith}
+use borrow.Author.Needs.{needs}
+use Rattle.sheet.specs.Lines.{splitAt}
+use Rattle.sheet.specs.AtPlace.{parsedNumber, numberNext, fromRefs}
+use Rattle.sheet.proofs.ReadRows.{number-bounds}
+use Rattle.sheet.proofs.ReadStages.{stage-read, stage-refused}
+use Rattle.sheet.proofs.reading.from_refs.Statement.{statement}
+use Rattle.sheet.proofs.reading.from_refs.Tie as tie
+
+slice-aggregate-number-line : tie.Need-slice-aggregate-number-line
+slice-aggregate-number-line c = search needs
+
+number-line-requires : tie.Need-number-line-requires
+unfolding splitAt
+number-line-requires c κs = refl
+
+enum-known-why : tie.Need-enum-known-why
+enum-known-why c = search needs
+
+refused-requires : tie.Need-refused-requires
+refused-requires c κs = search needs
+
+enum-known-n : tie.Need-enum-known-n
+enum-known-n c = search needs
+
+sub-from-touches : tie.Need-sub-from-touches
+sub-from-touches c = let w = c .before in omega (arith, w .before .before .number-line .ensures .1, ap numberNext (w .n .given .1))
+
+part-from-touches-start : tie.Need-part-from-touches-start
+part-from-touches-start c = sub-from-touches c
+
+part-from-touches-end : tie.Need-part-from-touches-end
+part-from-touches-end c = search needs
+
+cast-from-touches : tie.Need-cast-from-touches
+cast-from-touches c = search needs
+
+from-touches-requires : tie.Need-from-touches-requires
+from-touches-requires c κs =
+    let w = c .before .before in
+    let p = w .before .before .before .before .before .pre in
+    let e = sym (w .before .before .number-line .ensures .0) ∙ ap (parsedNumber _) (w .n .given .1) in
+    (p .0, (p .1 .0, (p .1 .1, number-bounds _ _ _ _ _ _ e .1)))
+
+returns : tie.Need-returns
+unfolding fromRefs
+returns c =
+    let w = c .before .before in
+    let e = sym (w .before .before .number-line .ensures .0) ∙ ap (parsedNumber _) (w .why .given .1) in
+    stage-refused _ _ _ _ (c .refused .ensures) e
+
+returns-2 : tie.Need-returns-2
+unfolding fromRefs
+returns-2 c =
+    let w = c .before .before .before in
+    let s = w .before .before .before .before .before .args .s .now in
+    let e = sym (w .before .before .number-line .ensures .0) ∙ ap (parsedNumber _) (w .n .given .1) in
+    stage-read _ _ _ s (w .n .given .0 .1 .0) _ (c .from-touches .ensures) e
+
+pub from-refs-spec : {M : Type 1} → statement M
+from-refs-spec =
+    tie.close
+    (tie.spec
+    slice-aggregate-number-line
+    number-line-requires
+    enum-known-why
+    refused-requires
+    enum-known-n
+    sub-from-touches
+    part-from-touches-start
+    part-from-touches-end
+    cast-from-touches
+    from-touches-requires
+    returns
+    returns-2)

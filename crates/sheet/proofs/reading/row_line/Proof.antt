@@ -1,0 +1,72 @@
+-- `reading::row_line` meets its contract: the line's value is read as a row. Assumes nothing.
+use Prim.Native.Nat.{_≤_, _<_}
+use mathlib.Core.Path.{refl, sym, _∙_}
+use native.Mathlib.Omega.{arith}
+use borrow.Author.Needs.{needs}
+use lib.ListN.{length}
+use Rattle.sheet.specs.Lines.{splitAt}
+use Rattle.sheet.specs.Reading.{rowLine}
+use Rattle.sheet.proofs.KeyedLines.{line-missing, line-value, value-within}
+use Rattle.sheet.proofs.reading.row_line.Statement.{statement}
+use Rattle.sheet.proofs.reading.row_line.Tie as tie
+
+-- where the value stands
+within : (c : tie.After-start) → (c .start .given .0 .0 ≤ c .start .given .0 .1 .0)
+    × (c .start .given .0 .1 .0 < length (c .before .before .before .before .before .args .s .now))
+within c = value-within _ _ _ _ (c .before .before .value-line .ensures .1) (c .start .given .1)
+
+slice-aggregate-value-line : tie.Need-slice-aggregate-value-line
+slice-aggregate-value-line c = search needs
+
+value-line-requires : tie.Need-value-line-requires
+unfolding splitAt
+value-line-requires c κs = refl
+
+enum-told : tie.Need-enum-told
+enum-told c = search needs
+
+enum-known-start : tie.Need-enum-known-start
+enum-known-start c = search needs
+
+sub-row-value : tie.Need-sub-row-value
+sub-row-value c = within (c .before) .0
+
+part-row-value-start : tie.Need-part-row-value-start
+part-row-value-start c = within (c .before) .0
+
+part-row-value-end : tie.Need-part-row-value-end
+part-row-value-end c = omega (arith, within (c .before))
+
+add-row-value : tie.Need-add-row-value
+add-row-value c = omega (arith, within (c .before .before))
+
+row-value-requires : tie.Need-row-value-requires
+row-value-requires c κs = search needs
+
+returns : tie.Need-returns
+unfolding rowLine
+returns c = (sym (line-missing _ _ _ (c .before .before .value-line .ensures .0) _ (c .enum-told .given .1)), omega arith)
+
+returns-2 : tie.Need-returns-2
+unfolding rowLine
+returns-2 c =
+    let d = c .before .before .before in (
+      c .row-value .ensures .0 _ ∙ sym (line-value _ _ _ (d .before .before .value-line .ensures .0) _ _ _ (d .start .given .1)),
+      omega (arith, c .row-value .ensures .1, within d),
+    )
+
+pub row-line-spec : {M : Type 1} → statement M
+row-line-spec =
+    tie.close
+    (tie.spec
+    slice-aggregate-value-line
+    value-line-requires
+    enum-told
+    enum-known-start
+    sub-row-value
+    part-row-value-start
+    part-row-value-end
+    add-row-value
+    row-value-requires
+    returns
+    returns-2)

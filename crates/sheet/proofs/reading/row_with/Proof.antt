@@ -1,0 +1,43 @@
+-- `reading::row_with` meets its contract, one answer for each case of the reading. Assumes nothing.
+use native.Mathlib.Omega.{arith}
+use borrow.Author.Needs.{needs}
+use Rattle.sheet.proofs.ReadRows.{number-in}
+use Rattle.sheet.proofs.reading.row_with.Statement.{statement}
+use Rattle.sheet.proofs.reading.row_with.Tie as tie
+
+enum-told : tie.Need-enum-told
+enum-told c = search needs
+
+enum-told-2 : tie.Need-enum-told-2
+enum-told-2 c = search needs
+
+enum-known-y : tie.Need-enum-known-y
+enum-known-y c = search needs
+
+cast-t10 : tie.Need-cast-t10
+cast-t10 c = let y = c .before in omega (arith, number-in _ _ _ (y .before .before .pre) (y .y .given .1))
+
+row-after-requires : tie.Need-row-after-requires
+row-after-requires c κs = search needs
+
+returns : tie.Need-returns
+returns c = (λ s. rw (c .enum-told .given .1), omega arith)
+
+returns-2 : tie.Need-returns-2
+returns-2 c = (λ s. rw (c .enum-told2 .given .1), omega arith)
+
+returns-3 : tie.Need-returns-3
+returns-3 c = (λ s. rw (c .before .before .y .given .1) (c .row-after .ensures .0 s), c .row-after .ensures .1)
+
+pub row-with-spec : {M : Type 1} → statement M
+row-with-spec =
+    tie.close
+    (tie.spec
+    enum-told
+    enum-told-2
+    enum-known-y
+    cast-t10
+    row-after-requires
+    returns
+    returns-2
+    returns-3)
