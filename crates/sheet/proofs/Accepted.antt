@@ -22,20 +22,24 @@ use Rattle.sheet.proofs.SheetLines.{From, Readable, sheet-reads}
 
 -- ---- the prices of a row
 
+-- prices that pass the test lie within their ranges
 pub prices-within : (h d : ℕ) → inPrices h d ≡ true → (h ≤ largestPrice) × (1 ≤ d) × (d ≤ largestPrice)
 prices-within h d e =
     let (a, b) = both (leb h largestPrice) (leb 1 d && leb d largestPrice) e in
     let (l, u) = both (leb 1 d) (leb d largestPrice) b in
     (leb-true h largestPrice a, leb-true 1 d l, leb-true d largestPrice u)
 
+-- and prices within their ranges pass it
 pub within-prices : (h d : ℕ) → h ≤ largestPrice → 1 ≤ d → d ≤ largestPrice → inPrices h d ≡ true
 within-prices h d a l u = rw (le-leb h largestPrice a, le-leb 1 d l, le-leb d largestPrice u)
 
 -- ---- readable is valid, and valid is readable
 
+-- the row that stands for one beyond the list
 zeroRow : PriceRow
 zeroRow = record { h = 0; d = 0 }
 
+-- what the lines ask is all that the limits ask
 pub readable-valid : (v : SheetValue) → Readable v → Valid v
 unfolding zeroRow
 readable-valid v c =
@@ -60,6 +64,7 @@ readable-valid v c =
       ref-within = λ t l. omega (arith, touch t l .1, c .segs-fit .0);
     }
 
+-- and the limits ask all that the lines do
 pub valid-readable : (v : SheetValue) → Valid v → Readable v
 unfolding zeroRow
 valid-readable v c =

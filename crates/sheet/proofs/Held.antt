@@ -15,6 +15,7 @@ front : {A : Type 0} (xs blank : List A) → take (length xs) (padded xs blank) 
 unfolding padded
 front xs blank = take-append-seam xs (drop (length xs) blank)
 
+-- so is each list of the sheet, and the value is the same
 pub held : (v : SheetValue) → valueOf (sheetOf v) ≡ v
 unfolding valueOf sheetOf
 held v = rw (front (v .sizes) (zeros mostSegs), front (v .rows) (zeroRows mostRows), front (v .refs) (zeros mostRefs))

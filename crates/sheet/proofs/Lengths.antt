@@ -24,13 +24,15 @@ use Rattle.sheet.proofs.Accepted.{readable-valid, valid-readable, price
 -- ---- the length of a text is that of its lines
 
 -- a line: its key and its value, and one
-line-length : (key v : List ℕ) → length (lineText key v) ≡ length key + (length v + 1)
+pub line-length : (key v : List ℕ) → length (lineText key v) ≡ length key + (length v + 1)
 line-length key v = rw (length-append key (v ++ (lineFeed ∷ [])), length-append v (lineFeed ∷ []))
 
+-- eight parts one after another
 eight : (a b c d e f g h : List ℕ) → length (a ++ (b ++ (c ++ (d ++ (e ++ (f ++ (g ++ h)))))))
     ≡ length a + (length b + (length c + (length d + (length e + (length f + (length g + length h))))))
 eight a b c d e f g h = simp length-append
 
+-- a sheet: its eight parts
 text-length : (v : SheetValue) → length (sheetText v)
     ≡ length (lineText kindKey (kindWord (v .kind)))
     + (length (numberText aKey (v .a))
@@ -55,32 +57,37 @@ text-length v =
 
 -- ---- at most 20,012 bytes
 
--- the line of a number below 10 ^ suc k, and the lines of such numbers
+-- the line of a number below 10 ^ suc k
 number-within : (key : List ℕ) (k n : ℕ) → n < 10 ^ suc k → length (numberText key n) ≤ length key + (suc k + 1)
 number-within key k n h = rw (line-length key (written n)) (omega (arith, written-length k n h))
 
+-- the lines of numbers below 10 ^ suc k
 numbers-within : (key : List ℕ) (lo hi k : ℕ) → hi < 10 ^ suc k → (xs : List ℕ) → Each (From lo hi) none xs
     → length (linesText (numberText key) xs) ≤ length xs * (length key + (suc k + 1))
 numbers-within key lo hi k h xs c =
     lines-length (numberText key) (From lo hi) 0 (length key + (suc k + 1))
     (λ prev x f. (omega arith, number-within key k x (omega arith))) none xs c .1
 
--- the line of a row, and the lines of rows
-row-length : (q : PriceRow) → length (rowText q) ≡ 6 + (length (written (q .h)) + length (written (q .d)))
+-- the line of a row: its two numbers, and six bytes
+pub row-length : (q : PriceRow) → length (rowText q) ≡ 6 + (length (written (q .h)) + length (written (q .d)))
 row-length q = simp length-append (omega arith)
 
+-- a row whose prices lie within their ranges has at most 16 bytes
 row-within : (prev : Option PriceRow) (q : PriceRow) → RowFits prev q → length (rowText q) ≤ 16
 row-within prev q f =
     let (h, _, d) = prices-within (q .h) (q .d) (f .0) in
     rw (row-length q) (omega (arith, written-length 4 (q .h) (omega arith), written-length 4 (q .d) (omega arith)))
 
+-- so do the lines of n such rows have at most 16 n
 rows-within : (qs : List PriceRow) → Each RowFits none qs → length (linesText rowText qs) ≤ length qs * 16
 rows-within qs c = lines-length rowText RowFits 0 16 (λ prev q f. (omega arith, row-within prev q f)) none qs c .1
 
+-- the line of a kind
 kind-within : (k : Kind) → length (lineText kindKey (kindWord k)) ≤ 11
 kind-within Time = omega arith
 kind-within Space = omega arith
 
+-- no valid sheet is longer than a sheet may be
 pub text-within : (v : SheetValue) → Valid v → length (sheetText v) ≤ mostBytes
 text-within v c =
     let r = valid-readable v c in
@@ -99,10 +106,11 @@ text-within v c =
 
 -- ---- and one valid value with as many
 
--- the row (10000 + k)/10000, and n such rows from k on
+-- the row (10000 + k)/10000
 abbrev wideRow : ℕ → PriceRow
 wideRow k = record { h = 10000 + k; d = 10000 }
 
+-- n such rows, from k on
 wideRows : ℕ → ℕ → List PriceRow
 wideRows k zero = []
 wideRows k (suc n) = wideRow k ∷ wideRows (suc k) n
@@ -128,6 +136,7 @@ each-same : {A : Type 0} (F : Option A → A → Type 0) (x : A) → ((prev : Op
 each-same F x f zero prev = tt
 each-same F x f (suc n) prev = (f prev, each-same F x f n (some x))
 
+-- n rows are n
 wide-length : (k n : ℕ) → length (wideRows k n) ≡ n
 unfolding wideRows
 wide-length k zero = refl
@@ -137,6 +146,7 @@ wide-length k (suc n) = ap suc (wide-length (suc k) n)
 abbrev WideFits : Option PriceRow → PriceRow → Type 0
 WideFits prev q = RowFits prev q × (16 ≤ length (rowText q))
 
+-- the rows from k on fit, each with 16 bytes
 wide-each : (k n : ℕ) (prev : Option PriceRow) → k + n ≤ mostRows → above prev (wideRow k) ≡ true → Each WideFits prev (wideRows k n)
 unfolding wideRows
 wide-each k zero prev h e = tt
@@ -151,6 +161,7 @@ wide-each k (suc n) prev h e = (((prices, e), long), wide-each (suc k) n (some (
     next : above (some (wideRow k)) (wideRow (suc k)) ≡ true
     next = lt-ltb ((10000 + k) * 10000) ((10000 + suc k) * 10000) (omega arith)
 
+-- such a value meets what the lines ask, where its counts do
 filled-readable : (n m k : ℕ) → 256 ≤ n → n ≤ mostSegs → 1 ≤ m → m ≤ mostRows → k ≤ mostRefs → Readable (filled n m k)
 unfolding filled
 filled-readable n m k n₁ n₂ m₁ m₂ k₂ =
@@ -164,6 +175,7 @@ filled-readable n m k n₁ n₂ m₁ m₂ k₂ =
       touches-fit = each-same (From 0 (length (replicate n largestSize) - 1)) 255 (λ prev. rw length-replicate (omega arith)) k none;
     }
 
+-- the largest sheet is valid
 pub largest-valid : Valid largest
 unfolding largest
 largest-valid =
@@ -179,24 +191,29 @@ same-lines key x w n e =
     Exact : Option ℕ → ℕ → Type 0
     Exact prev y = (w ≤ length (numberText key y)) × (length (numberText key y) ≤ w)
 
+-- the lines of m rows from 10000/10000 on
 wide-lines : (m : ℕ) → m ≤ mostRows → length (linesText rowText (wideRows 0 m)) ≡ m * 16
 wide-lines m h =
     let w = wide-each 0 m none (omega arith) refl in
     let l = lines-length rowText WideFits 16 16 (λ prev q f. (f .1, row-within prev q (f .0))) none (wideRows 0 m) w in
     omega (arith, rw (wide-length 0 m) at l)
 
+-- the line of the largest a
 a-length : length (numberText aKey largestA) ≡ 6
 unfolding written writtenIn
 a-length = refl
 
+-- the line of the largest size
 size-length : length (numberText sizeKey largestSize) ≡ 10
 unfolding written writtenIn
 size-length = refl
 
+-- the line of the last segment of 256
 touch-length : length (numberText refKey 255) ≡ 8
 unfolding written writtenIn
 touch-length = refl
 
+-- the length of such a value's text, by its counts
 filled-length : (n m k : ℕ) → m ≤ mostRows → length (sheetText (filled n m k))
     ≡ 11 + (6 + (length (numberText segsKey n) + (n * 10
     + (length (numberText rowsKey m) + (m * 16 + (length (numberText refsKey k) + k * 8))))))
@@ -213,6 +230,7 @@ filled-length n m k h =
       same-lines refKey 255 8 k touch-length,
     )
 
+-- the largest sheet has 20,012 bytes
 pub largest-length : length (sheetText largest) ≡ mostBytes
 unfolding largest written writtenIn
 largest-length = filled-length mostSegs mostRows mostRefs (omega arith)

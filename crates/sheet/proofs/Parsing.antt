@@ -49,6 +49,7 @@ abbrev pub lacks : ℕ → List ℕ → Bool
 lacks c [] = true
 lacks c (b ∷ s) = not (eqb b c) && lacks c s
 
+-- what two lists lack, the two together lack
 pub lacks-append : (c : ℕ) (s t : List ℕ) → lacks c s ≡ true → lacks c t ≡ true → lacks c (s ++ t) ≡ true
 lacks-append c [] t e f = f
 lacks-append c (b ∷ s) t e f = let (n, r) = both (not (eqb b c)) (lacks c s) e in rw (n, lacks-append c s t r f)
@@ -92,6 +93,7 @@ unfolding afterKey
 after-forth [] line rest = refl
 after-forth (k ∷ key) line rest = rw (eq-eqb k k refl, after-forth key line rest)
 
+-- and what is read stood after the key
 after-back : (key line rest v end : List ℕ) → afterKey key line rest ≡ read v end → (line ≡ key ++ v) × (rest ≡ end)
 unfolding afterKey
 after-back [] line rest v end e = ((cc), (cc))

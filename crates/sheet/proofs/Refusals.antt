@@ -32,16 +32,20 @@ Refuses m p = (r : Refusal) → p ≡ refused r → (2 ≤ numberOf r) × (numbe
 
 -- ---- a value, a refusal, a test, and two steps
 
+-- a value is no refusal
 reading : {A : Type 0} (m : ℕ) (a : A) (s : List ℕ) → Refuses m (read a s)
 reading m a s r e = let z : _≡_ {A = ℕ} 0 1 = cc in absurd (omega arith)
 
+-- a refusal by its number
 refusing : {A : Type 0} (m : ℕ) (x : Refusal) → 2 ≤ numberOf x → numberOf x ≤ m → Refuses {A = A} m (refused x)
 refusing m x l u r e = let q : x ≡ r = cc in rw (← q) (l, u)
 
+-- a test between two answers
 testing : {A : Type 0} (m : ℕ) (t : Bool) (x y : Parsed A) → Refuses m x → Refuses m y → Refuses m (cond t x y)
 testing m true x y f g = f
 testing m false x y f g = g
 
+-- two steps, the second from what the first reads
 stepping : {A B : Type 0} (m : ℕ) (p : Parsed A) (f : A → List ℕ → Parsed B) → Refuses m p
     → ((a : A) (rest : List ℕ) → Refuses m (f a rest)) → Refuses m (andThen p f)
 stepping m (read a rest) f g h r e = h a rest r e
@@ -50,6 +54,7 @@ stepping m (refused x) f g h r e = let q : x ≡ r = cc in g r (ap refused q)
 -- ---- the lines: 2 for the key, 3 for a kind, 4 for a number, 5 for a row
 
 module _ (m : ℕ) where
+  -- the key of a line
   key-refuses : 2 ≤ m → (key line rest : List ℕ) → Refuses m (afterKey key line rest)
   unfolding afterKey
   key-refuses h [] line rest = reading m line rest
@@ -57,6 +62,7 @@ module _ (m : ℕ) where
   key-refuses h (k ∷ key) (b ∷ line) rest =
       testing m (eqb b k) _ _ (key-refuses h key line rest) (refusing m LineMalformed (omega arith) h)
 
+  -- the value of a line
   line-refuses : 2 ≤ m → (key s : List ℕ) → Refuses m (valueLine key s)
   unfolding valueLine
   line-refuses h key s = go (splitAt lineFeed s)
@@ -65,6 +71,7 @@ module _ (m : ℕ) where
       go (parts line rest) = key-refuses h key line rest
       go unsplit = refusing m LineMalformed (omega arith) h
 
+  -- the line kind=
   kind-refuses : 3 ≤ m → (s : List ℕ) → Refuses m (kindLine s)
   unfolding kindLine
   kind-refuses h s =
@@ -72,6 +79,7 @@ module _ (m : ℕ) where
       testing m (sameBytes v (kindWord Time)) _ _ (reading m Time rest)
       (testing m (sameBytes v (kindWord Space)) _ _ (reading m Space rest) (refusing m ValueMalformed (omega arith) h))
 
+  -- the line of a number
   number-refuses : 4 ≤ m → (key : List ℕ) (lo hi : ℕ) (s : List ℕ) → Refuses m (numberLine key lo hi s)
   unfolding numberLine
   number-refuses h key lo hi s =
@@ -82,6 +90,7 @@ module _ (m : ℕ) where
       go Beyond rest = refusing m OutOfRange (omega arith) h
       go (Number n) rest = reading m n rest
 
+  -- the line row=
   row-refuses : 5 ≤ m → (prev : Option PriceRow) (s : List ℕ) → Refuses m (rowLine prev s)
   unfolding rowLine
   row-refuses h prev s =
@@ -108,10 +117,12 @@ module _ (m : ℕ) where
       stepping m (lines p n (some x) rest) _ (lines-refuse p f n (some x) rest) λ xs end.
       reading m (x ∷ xs) end
 
+  -- n lines of numbers
   numbers-refuse : 4 ≤ m → (key : List ℕ) (lo hi n : ℕ) (s : List ℕ) → Refuses m (numberLines key lo hi n s)
   numbers-refuse h key lo hi n s =
       rw (number-lines key lo hi n none s) (lines-refuse (λ _. numberLine key lo hi) (λ _. number-refuses h key lo hi) n none s)
 
+  -- n lines of rows
   rows-refuse : 5 ≤ m → (n : ℕ) (s : List ℕ) → Refuses m (rowLines n none s)
   rows-refuse h n s = rw (row-lines n none s) (lines-refuse rowLine (row-refuses h) n none s)
 
@@ -150,6 +161,7 @@ rejected-by s r e =
 pub too-long : (s : List ℕ) → readSheet s ≡ rejected SheetTooLong → mostBytes < length s
 too-long s e = ⊎-elim (λ w. w .0) (λ w. absurd (omega (arith, w .1))) (rejected-by s SheetTooLong e)
 
+-- and it is given there
 pub long-refused : (s : List ℕ) → mostBytes < length s → readSheet s ≡ rejected SheetTooLong
 unfolding readSheet
 long-refused s h = rw (lt-ltb mostBytes (length s) h)
@@ -166,6 +178,7 @@ Answer s =
     ((v : SheetValue) × (readSheet s ≡ accepted v) × Valid v)
     ⊎ ((r : Refusal) × (readSheet s ≡ rejected r) × (1 ≤ numberOf r) × (numberOf r ≤ 6))
 
+-- every run of bytes has such an answer
 pub answered : (s : List ℕ) → Answer s
 answered s = go (readSheet s) refl
   where
@@ -173,12 +186,14 @@ answered s = go (readSheet s) refl
     go (accepted v) e = inl (v, e, accepted-valid s v e)
     go (rejected r) e = let (l, u) = refusals-1-to-6 s r e in inr (r, e, l, u)
 
--- as one value, with one refusal, and not both
+-- an accepted one has one value
 pub one-value : (s : List ℕ) (v w : SheetValue) → readSheet s ≡ accepted v → readSheet s ≡ accepted w → v ≡ w
 one-value s v w e f = cc
 
+-- a refused one is refused with one number
 pub one-refusal : (s : List ℕ) (r q : Refusal) → readSheet s ≡ rejected r → readSheet s ≡ rejected q → r ≡ q
 one-refusal s r q e f = cc
 
+-- and none is accepted and refused
 pub not-both : (s : List ℕ) (v : SheetValue) (r : Refusal) → readSheet s ≡ accepted v → readSheet s ≡ rejected r → ⊥
 not-both s v r e f = let z : _≡_ {A = ℕ} 0 1 = cc in omega arith

@@ -1,12 +1,14 @@
 -- Lines one after another, one for each element of a list: reading and writing them, what each of them says, and how long they are.
 -- The lines of numbers and the lines of rows are such runs. Assumes nothing.
-use Prim.Native.Nat.{ℕ, zero, suc, _*_, _≤_, _<_}
+use Prim.Native.Nat.{ℕ, zero, suc, _+_, _*_, _≤_, _<_}
 use mathlib.Core.Path.{_≡_, refl, ap, _∙_}
-use mathlib.Core.List.{List, [], _∷_, _++_, append-assoc}
+use mathlib.Core.List.{List, [], _∷_, _++_, append-assoc, append-nil}
 use mathlib.Core.Option.{Option, some}
 use native.Mathlib.Nat.{le-of-suc-le-suc, not-suc-le-zero}
+use native.Mathlib.Numerals.{add-one}
 use native.Mathlib.Omega.{arith}
-use lib.ListN.{length, getD, length-append}
+use lib.ListN.{length, getD, take, length-append, take-append-drop}
+use lib.Seq.{take-suc, take-take}
 use Rattle.model.specs.declared.PriceRow.{PriceRow}
 use Rattle.sheet.specs.Lines.{Parsed, read, andThen, numberLine}
 use Rattle.sheet.specs.Reading.{numberLines, rowLine, rowLines}
@@ -29,12 +31,14 @@ Each F prev [] = Unit {0}
 Each F prev (x ∷ xs) = F prev x × Each F (some x) xs
 
 module _ {A : Type 0} (p : Option A → List ℕ → Parsed A) (text : A → List ℕ) (F : Option A → A → Type 0) where
+  -- the lines of elements that fit are read back
   forth : ((prev : Option A) → Reads (p prev) text (F prev)) → (xs : List A) (prev : Option A) (rest : List ℕ)
       → Each F prev xs → lines p (length xs) prev (linesText text xs ++ rest) ≡ read xs rest
   unfolding lines linesText
   forth r [] prev rest h = refl
   forth r (x ∷ xs) prev rest h = rw (append-assoc, r prev .forth x (linesText text xs ++ rest) (h .0), forth r xs (some x) rest (h .1))
 
+  -- what is read from n lines are n elements that fit, and the bytes were their lines
   back : ((prev : Option A) → Reads (p prev) text (F prev)) → (n : ℕ) (prev : Option A) (s : List ℕ) (xs : List A) (rest : List ℕ)
       → lines p n prev s ≡ read xs rest → (s ≡ linesText text xs ++ rest) × (length xs ≡ n) × Each F prev xs
   unfolding lines linesText
@@ -61,22 +65,26 @@ module _ {A : Type 0} (p : Option A → List ℕ → Parsed A) (text : A → Lis
 
 -- ---- the lines of numbers and of rows
 
+-- n lines of numbers are such a run, whatever stands before them
 pub number-lines : (key : List ℕ) (lo hi n : ℕ) (prev : Option ℕ) (s : List ℕ)
     → numberLines key lo hi n s ≡ lines (λ _. numberLine key lo hi) n prev s
 unfolding numberLines lines
 number-lines key lo hi zero prev s = refl
 number-lines key lo hi (suc n) prev s = simp (← number-lines key lo hi n)
 
+-- and so are n lines of rows
 pub row-lines : (n : ℕ) (prev : Option PriceRow) (s : List ℕ) → rowLines n prev s ≡ lines rowLine n prev s
 unfolding rowLines lines
 row-lines zero prev s = refl
 row-lines (suc n) prev s = simp (row-lines n)
 
+-- the lines of numbers are those of such a run
 pub numbers-text : (key xs : List ℕ) → numbersText key xs ≡ linesText (numberText key) xs
 unfolding numbersText linesText
 numbers-text key [] = refl
 numbers-text key (x ∷ xs) = rw (numbers-text key xs)
 
+-- and so are the lines of rows
 pub rows-text : (qs : List PriceRow) → rowsText qs ≡ linesText rowText qs
 unfolding rowsText linesText
 rows-text [] = refl
@@ -89,6 +97,7 @@ abbrev pub before : {A : Type 0} → A → Option A → List A → ℕ → Optio
 before d prev xs zero = prev
 before d prev xs (suc i) = some (getD xs i d)
 
+-- after a first element, it is one further on in the list
 before-cons : {A : Type 0} (d x : A) (xs : List A) (i : ℕ) → before d (some x) xs i ≡ some (getD (x ∷ xs) i d)
 before-cons d x xs zero = refl
 before-cons d x xs (suc i) = refl
@@ -122,3 +131,33 @@ unfolding linesText
 lines-length text F lo hi f prev [] h = omega arith
 lines-length text F lo hi f prev (x ∷ xs) h =
     rw length-append (omega (arith, lines-length text F lo hi f (some x) xs (h .1), f prev x (h .0)))
+
+-- ---- one line more
+
+module _ {A : Type 0} (text : A → List ℕ) where
+  -- the lines of two lists one after the other
+  lines-append : (xs ys : List A) → linesText text (xs ++ ys) ≡ linesText text xs ++ linesText text ys
+  unfolding linesText
+  lines-append [] ys = refl
+  lines-append (x ∷ xs) ys = rw (lines-append xs ys, append-assoc)
+
+  -- the lines of one element more
+  pub lines-next : (xs : List A) (i : ℕ) (d : A) → i < length xs
+      → linesText text (take (i + 1) xs) ≡ linesText text (take i xs) ++ text (getD xs i d)
+  unfolding linesText
+  lines-next xs i d h = rw (add-one i, take-suc xs i d h, lines-append, append-nil)
+
+  -- the first lines are no longer than all
+  lines-first : (xs : List A) (i : ℕ) → length (linesText text (take i xs)) ≤ length (linesText text xs)
+  lines-first xs i = omega (arith, rw (lines-append, length-append) at (ap (λ l. length (linesText text l)) (take-append-drop i xs)))
+
+  -- the length of the lines passed, and of one more
+  pub lines-sum : (xs : List A) (i : ℕ) (d : A) {sum w : ℕ} → i < length xs → sum ≡ length (linesText text (take i xs))
+      → w ≡ length (text (getD xs i d)) → sum + w ≡ length (linesText text (take (i + 1) xs))
+  lines-sum xs i d h e f = rw (lines-next xs i d h, length-append, e, f)
+
+  -- the lines passed and one more are no longer than the first n
+  pub lines-room : (xs : List A) (i n : ℕ) (d : A) → i < n → i < length xs
+      → length (linesText text (take i xs)) + length (text (getD xs i d)) ≤ length (linesText text (take n xs))
+  lines-room xs i n d h l =
+      rw (lines-sum xs i d l refl refl) (rw (take-take (i + 1) n xs (omega arith)) at (lines-first (take n xs) (i + 1)))

@@ -31,7 +31,7 @@ pub record Readable (v : SheetValue) : Type 0 where
 
 -- ---- the lines
 
--- n lines of numbers, and n rows
+-- n lines of numbers
 numbers-reads : (key : List ℕ) (lo hi n : ℕ) → lacks lineFeed key ≡ true
     → Reads (numberLines key lo hi n) (numbersText key) (λ xs. (length xs ≡ n) × Each (From lo hi) none xs)
 numbers-reads key lo hi n k =
@@ -41,6 +41,7 @@ numbers-reads key lo hi n k =
       back = λ s xs rest e. rw (numbers-text key xs) (r .back s xs rest (sym (number-lines key lo hi n none s) ∙ e));
     }
 
+-- n rows
 rows-reads : (n : ℕ) → Reads (rowLines n none) rowsText (λ qs. (length qs ≡ n) × Each RowFits none qs)
 rows-reads n =
     let r = lines-reads rowLine rowText RowFits row-reads n none in
@@ -62,6 +63,7 @@ lines-of v rest =
     ++ (numbersText refKey (v .refs)
     ++ rest)))))))
 
+-- they are the text, and what follows it
 lines-text : (v : SheetValue) (rest : List ℕ) → sheetText v ++ rest ≡ lines-of v rest
 unfolding sheetText lines-of
 lines-text v rest = simp append-assoc

@@ -28,6 +28,7 @@ use Rattle.sheet.proofs.Parsing.{by-test, refused-read, passed, lacks, 
 pub written-lacks : (c n : ℕ) → c ≤ 47 → lacks c (written n) ≡ true
 written-lacks c n h = lacks-digits c (written n) (omega arith) (written-digits n)
 
+-- how the value of a number line is read
 number-words : (lo hi : ℕ) → Words (λ v rest. inRange (readingOf lo hi v) rest) written (λ n. (lo ≤ n) × (n ≤ hi))
 number-words lo hi =
     record {
@@ -44,6 +45,7 @@ number-words lo hi =
     number-read Beyond rest n end e = absurd (refused-read e)
     number-read (Number m) rest n end e = ((cc), (cc))
 
+-- so is the line, where the key has no line feed
 pub number-reads : (key : List ℕ) (lo hi : ℕ) → lacks lineFeed key ≡ true
     → Reads (numberLine key lo hi) (numberText key) (λ n. (lo ≤ n) × (n ≤ hi))
 unfolding numberLine
@@ -60,6 +62,7 @@ same-equal (a ∷ x) [] e = cc
 same-equal (a ∷ x) (b ∷ y) e =
     by-test (eqb a b) (sameBytes x y) false true e (λ h f. rw (eqb-true a b h, same-equal x y f)) (λ h f. cc)
 
+-- how the value of the line kind= is read
 kind-words : Words kindOf kindWord (λ k. Unit {0})
 unfolding sameBytes
 kind-words = record { plain = plain; forth = forth; back = back }
@@ -81,6 +84,7 @@ kind-words = record { plain = plain; forth = forth; back = back }
         let r : Space ≡ k = cc in
         rw (← r) (same-equal v (kindWord Space) h, (cc), tt))
 
+-- so is the line
 pub kind-reads : Reads kindLine (λ k. lineText kindKey (kindWord k)) (λ k. Unit {0})
 unfolding kindLine
 kind-reads = line-reads kindKey kindOf kindWord (λ k. Unit {0}) refl kind-words
@@ -107,6 +111,7 @@ module _ (prev : Option PriceRow) where
       let r : record { h = value x; d = value y } ≡ q = cc in
       rw (← r) (sym (written-of x i), sym (written-of y j), (cc), (p, a))
 
+  -- how the value of a line row= is read
   row-words : Words (λ v rest. rowParts prev (splitAt slash v) rest) rowWord (RowFits prev)
   row-words =
       record {
@@ -134,6 +139,7 @@ module _ (prev : Option PriceRow) where
           (split-back slash v x y s ∙ rw (i, j), m, f)
       go unsplit s rest q end e = absurd (refused-read e)
 
+  -- so is the line
   pub row-reads : Reads (rowLine prev) rowText (RowFits prev)
   unfolding rowLine
   row-reads = line-reads rowKey _ rowWord (RowFits prev) refl row-words

@@ -1,0 +1,71 @@
+-- `sheet::writing::numbers_length` meets its contract. The loop's invariant: `sum` is the length of the lines of the numbers passed.
+-- Assumes nothing.
+use mathlib.Core.Path.{_≡_, refl}
+use Prim.Native.Nat.{_*_, _-_, _≤_}
+use native.Mathlib.Omega.{arith}
+use borrow.Author.Needs.{needs}
+use lib.ListN.{length, take}
+use lib.Seq.{take-all}
+use Rattle.sheet.specs.Writing.{numberText}
+use Rattle.sheet.proofs.Runs.{linesText, numbers-text, lines-sum}
+use Rattle.sheet.proofs.writing.numbers_length.Statement.{statement}
+use Rattle.sheet.proofs.writing.numbers_length.Tie as tie
+
+abbrev Inv-loop : tie.InvT-loop
+Inv-loop key xs sum₀ i₀ sum i = (i ≤ length xs) × (sum ≡ length (linesText (numberText key) (take i xs))) × (sum ≤ 26 * i)
+
+abbrev μ-loop : tie.MeasureT-loop
+μ-loop key xs sum₀ i₀ sum i = length xs - i
+
+loop-holds : tie.Need-loop-holds Inv-loop μ-loop
+unfolding linesText
+loop-holds c = (omega arith, refl, omega arith)
+
+mul-number-length : tie.Need-mul-number-length Inv-loop μ-loop
+mul-number-length c = search needs
+
+shared-slice-read-number-length : tie.Need-shared-slice-read-number-length Inv-loop μ-loop
+shared-slice-read-number-length c = search needs
+
+cast-number-length : tie.Need-cast-number-length Inv-loop μ-loop
+cast-number-length c = omega (arith, c .shared-slice-known3 .given (c .before .before .loop .i))
+
+number-length-requires : tie.Need-number-length-requires Inv-loop μ-loop
+number-length-requires c κs = search needs
+
+add-sum : tie.Need-add-sum Inv-loop μ-loop
+add-sum c = search needs
+
+add-i : tie.Need-add-i Inv-loop μ-loop
+add-i c = search needs
+
+loop-less : tie.Need-loop-less Inv-loop μ-loop
+loop-less c = search needs
+
+loop-again : tie.Need-loop-again Inv-loop μ-loop
+loop-again c =
+    let t = c .before .before in
+    let l = t .before .loop in
+    (omega arith, lines-sum _ _ (l .i) 0 (t .loop-test .taken) (l .inv .1) (c .number-length .ensures .0), omega arith)
+
+returns : tie.Need-returns Inv-loop μ-loop
+returns c =
+    let l = c .before .loop in
+    (rw (take-all (l .i) _ (c .loop-test .left), ← numbers-text) at (l .inv .1), omega arith)
+
+pub numbers-length-spec : {M : Type 1} → statement M
+numbers-length-spec =
+    tie.close
+    (tie.spec
+    Inv-loop
+    μ-loop
+    loop-holds
+    mul-number-length
+    shared-slice-read-number-length
+    cast-number-length
+    number-length-requires
+    add-sum
+    add-i
+    loop-less
+    loop-again
+    returns)

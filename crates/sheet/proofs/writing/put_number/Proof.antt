@@ -1,0 +1,26 @@
+-- `sheet::writing::put_number` meets its contract: the key is put, and then the digits and the line feed. Assumes nothing.
+use native.Mathlib.Omega.{arith}
+use borrow.Author.Needs.{needs}
+use lib.ListN.{length-append}
+use Rattle.decimal.specs.Decimal.{written}
+use Rattle.sheet.proofs.Lengths.{line-length}
+use Rattle.sheet.proofs.Putting.{put-then}
+use Rattle.sheet.proofs.writing.put_number.Statement.{statement}
+use Rattle.sheet.proofs.writing.put_number.Tie as tie
+
+put-requires : tie.Need-put-requires
+put-requires c κs = let a = c .before .before .before .args in omega (arith, line-length (a .key .now) (written (a .n)))
+
+put-digits-requires : tie.Need-put-digits-requires
+put-digits-requires c κs =
+    let a = c .before .before .before .before .before .before .before .args in
+    rw length-append (omega (arith, line-length (a .key .now) (written (a .n))))
+
+same-length : tie.Need-same-length
+same-length c = search needs
+
+returns : tie.Need-returns
+returns c = put-then (c .before .before .before .before .before .before .put .ensures) (c .before .before .put-digits .ensures)
+
+pub put-number-spec : {M : Type 1} → statement M
+put-number-spec = tie.close (tie.spec put-requires put-digits-requires same-length returns)

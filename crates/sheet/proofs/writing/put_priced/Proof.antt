@@ -1,0 +1,35 @@
+-- `sheet::writing::put_priced` meets its contract: the count's line is put, and then the rows' lines. Assumes nothing.
+use native.Mathlib.Omega.{arith}
+use borrow.Author.Needs.{needs}
+use mathlib.Core.Path.{sym}
+use Rattle.sheet.proofs.Putting.{put-same, put-then}
+use Rattle.sheet.proofs.SheetParts.{priced-text, priced-length}
+use Rattle.sheet.proofs.writing.put_priced.Statement.{statement}
+use Rattle.sheet.proofs.writing.put_priced.Tie as tie
+
+slice-aggregate-put-number : tie.Need-slice-aggregate-put-number
+slice-aggregate-put-number c = search needs
+
+put-number-requires : tie.Need-put-number-requires
+put-number-requires c κs =
+    let a = c .before .before .before .args in
+    omega (arith, priced-length (a .prices) (a .n) (omega arith))
+
+put-rows-requires : tie.Need-put-rows-requires
+put-rows-requires c κs =
+    let a = c .before .before .before .before .before .before .before .args in
+    omega (arith, priced-length (a .prices) (a .n) (omega arith))
+
+same-length : tie.Need-same-length
+same-length c = search needs
+
+returns : tie.Need-returns
+returns c =
+    let p = c .before .before .before .before .before .before in
+    let a = p .before .before .before .before .args in
+    put-same (sym (priced-text (a .prices) (a .n) (omega arith))) (put-then (p .put-number .ensures) (c .before .before .put-rows .ensures))
+
+pub put-priced-spec : {M : Type 1} → statement M
+put-priced-spec =
+    tie.close
+    (tie.spec slice-aggregate-put-number put-number-requires put-rows-requires same-length returns)

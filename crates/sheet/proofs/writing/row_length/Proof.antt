@@ -1,0 +1,44 @@
+-- `sheet::writing::row_length` meets its contract: a price has at most five digits. Assumes nothing.
+use borrow.Author.Needs.{needs}
+use native.Mathlib.Omega.{arith}
+use Rattle.decimal.proofs.Written.{written-length}
+use Rattle.sheet.proofs.Lengths.{row-length}
+use Rattle.sheet.proofs.writing.row_length.Statement.{statement}
+use Rattle.sheet.proofs.writing.row_length.Tie as tie
+
+cast-width : tie.Need-cast-width
+cast-width c = search needs
+
+width-requires : tie.Need-width-requires
+width-requires c κs = search needs
+
+add-result : tie.Need-add-result
+add-result c = omega (arith, written-length 4 (c .before .before .args .q .h) (omega arith))
+
+cast-width-2 : tie.Need-cast-width-2
+cast-width-2 c = search needs
+
+width-requires-2 : tie.Need-width-requires-2
+width-requires-2 c κs = search needs
+
+add-result-2 : tie.Need-add-result-2
+add-result-2 c =
+    let q = c .before .before .before .before .args .q in
+    omega (arith, written-length 4 (q .h) (omega arith), written-length 4 (q .d) (omega arith))
+
+returns : tie.Need-returns
+returns c =
+    let q = c .before .before .before .before .args .q in
+    omega (arith, written-length 4 (q .h) (omega arith), written-length 4 (q .d) (omega arith), row-length q)
+
+pub row-length-spec : {M : Type 1} → statement M
+row-length-spec =
+    tie.close
+    (tie.spec
+    cast-width
+    width-requires
+    add-result
+    cast-width-2
+    width-requires-2
+    add-result-2
+    returns)
