@@ -1,0 +1,3 @@
+pub mod Demand
+pub mod Results
+pub mod Standings

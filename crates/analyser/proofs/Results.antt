@@ -1,0 +1,69 @@
+-- What a call answers and leaves in a lent place, by its tests. Assumes nothing.
+use Prim.Native.Nat.{ℕ, _*_, _≤_, _<_}
+use mathlib.Core.Path.{_≡_, refl, sym, ap, _∙_}
+use mathlib.Core.List.{List, _++_}
+use native.Mathlib.Omega.{arith}
+use lib.ListN.{length, drop, getD}
+use lib.Dec.{ltb}
+use borrow.Author.Tests.{le-ltb, lt-ltb, le-leb, lt-leb}
+use Rattle.model.specs.Demand.{rowSchedule}
+use Rattle.model.specs.Places.{placed, placeAnswer, nothingPlaced}
+use Rattle.model.specs.Schedules.{optimalSchedule, optimalByte}
+use Rattle.model.specs.Sheets.{SheetValue, traceOf, rowAt, mostRows}
+use Rattle.model.specs.declared.PlaceAnswer.{PlaceAnswer}
+use Rattle.model.specs.declared.Refusal.the-variants.{NoSuchRow, PlaceTooShort}
+use Rattle.model.specs.declared.RowFigures.{RowFigures}
+use Rattle.model.specs.declared.Verdict.the-variants.{Accepted}
+use Rattle.model.proofs.Sums.{length-listOf}
+use Rattle.figures.specs.Rows.{figuresAt, allFigures}
+use Rattle.figures.proofs.Tables.{getD-tabulate}
+use Rattle.schedule.specs.Checking.{noPrice, priceAnswer}
+use Rattle.analyser.specs.Answers.{answerFor, placeFor, scheduleFor, priceFor}
+
+-- the figures of a row among those of all rows
+pub figures-at : (v : SheetValue) (r : ℕ) (d : RowFigures) → r < length (v .rows) → length (v .rows) ≤ mostRows
+    → getD (allFigures v) r d ≡ figuresAt v r
+unfolding allFigures
+figures-at v r d lt most = getD-tabulate _ _ r d (omega arith) ∙ rw (lt-ltb r (length (v .rows)) lt)
+
+-- the optimal schedule has 32 bytes for each reference
+pub schedule-length : (v : SheetValue) (r : ℕ) → length (rowSchedule v r) ≡ 32 * length (v .refs)
+unfolding optimalSchedule
+schedule-length v r =
+    length-listOf (32 * length (v .refs)) (optimalByte (traceOf v) (rowAt v r .h) (rowAt v r .d))
+
+module _ (v : SheetValue) (r : ℕ) (place : List ℕ) where
+  -- what the schedule call answers, and what it leaves in the place
+  abbrev pub Leaves : PlaceAnswer → List ℕ → Type 0
+  Leaves answer after = (answer ≡ answerFor (scheduleFor v r) place) × (after ≡ placeFor (scheduleFor v r) place)
+
+  pub schedule-no-row : length (v .rows) ≤ r → Leaves (nothingPlaced NoSuchRow) place
+  unfolding scheduleFor
+  schedule-no-row le = rw (le-ltb r (length (v .rows)) le) (refl, refl)
+
+  pub schedule-short : r < length (v .rows) → length place < 32 * length (v .refs) → Leaves (nothingPlaced PlaceTooShort) place
+  unfolding scheduleFor placed placeAnswer
+  schedule-short lt short =
+      rw (lt-ltb r (length (v .rows)) lt, lt-leb (length (rowSchedule v r)) (length place) (omega (arith, schedule-length v r)))
+      (refl, refl)
+
+  pub schedule-placed : r < length (v .rows) → 32 * length (v .refs) ≤ length place
+      → Leaves (record { verdict = Accepted; length = 32 * length (v .refs) }) (rowSchedule v r ++ drop (32 * length (v .refs)) place)
+  unfolding scheduleFor placed placeAnswer
+  schedule-placed lt fits =
+      rw (
+        lt-ltb r (length (v .rows)) lt,
+        le-leb (length (rowSchedule v r)) (length place) (omega (arith, schedule-length v r)),
+        schedule-length v r,
+      )
+      (refl, refl)
+
+-- the price of a schedule at a row that there is, and at one that there is not
+module _ (v : SheetValue) (r : ℕ) (p : List ℕ) where
+  pub price-no-row : length (v .rows) ≤ r → priceFor v r p ≡ noPrice NoSuchRow
+  unfolding priceFor
+  price-no-row le = rw (le-ltb r (length (v .rows)) le)
+
+  pub price-at : r < length (v .rows) → priceFor v r p ≡ priceAnswer (traceOf v) (rowAt v r .h) (rowAt v r .d) p
+  unfolding priceFor
+  price-at lt = rw (lt-ltb r (length (v .rows)) lt)

@@ -1,0 +1,52 @@
+-- `analyser::figures` meets its contract: what the sheet reads as decides. Assumes nothing.
+use mathlib.Core.Path.{_≡_, sym, _∙_}
+use borrow.Author.Needs.{needs}
+use Rattle.model.specs.declared.Verdict.the-variants.{Accepted, Refused}
+use Rattle.figures.specs.Rows.{noFigures, figuresOf}
+use Rattle.analyser.specs.Answers.{figuresAnswer}
+use Rattle.analyser.proofs.Standings.{on-refused, on-accepted, stands}
+use Rattle.analyser.proofs.figures.Statement.{statement}
+use Rattle.analyser.proofs.figures.Tie as tie
+
+read-requires : tie.Need-read-requires
+read-requires c κs = search needs
+
+enum-known-verdict : tie.Need-enum-known-verdict
+enum-known-verdict c = search needs
+
+no-figures-requires : tie.Need-no-figures-requires
+no-figures-requires c κs = search needs
+
+enum-told : tie.Need-enum-told
+enum-told c = search needs
+
+sheet-figures-requires : tie.Need-sheet-figures-requires
+sheet-figures-requires c κs =
+    let r = c .before .before .before in
+    stands _ (r .read .result) (r .read .ensures) (cc)
+
+returns : tie.Need-returns
+unfolding figuresAnswer
+returns c =
+    let r = c .before .before .before .before .before in
+    let a = r .before .before .args in
+    c .no-figures .ensures ∙ sym (on-refused _ (r .read .result) (r .read .ensures) _ (cc) noFigures (λ v. figuresOf v (a .row)))
+
+returns-2 : tie.Need-returns-2
+unfolding figuresAnswer
+returns-2 c =
+    let r = c .before .before .before .before in
+    let a = r .before .before .args in
+    c .sheet-figures .ensures ∙ sym (on-accepted _ (r .read .result) (r .read .ensures) (cc) noFigures (λ v. figuresOf v (a .row)))
+
+pub figures-spec : {M : Type 1} → statement M
+figures-spec =
+    tie.close
+    (tie.spec
+    read-requires
+    enum-known-verdict
+    no-figures-requires
+    enum-told
+    sheet-figures-requires
+    returns
+    returns-2)

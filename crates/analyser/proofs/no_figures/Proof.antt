@@ -1,0 +1,13 @@
+-- `analyser::no_figures` meets its contract: the figures beside the refusal are zero. Assumes nothing.
+use borrow.Author.Needs.{needs}
+use Rattle.analyser.proofs.no_figures.Statement.{statement}
+use Rattle.analyser.proofs.no_figures.Tie as tie
+
+zero-requires : tie.Need-zero-requires
+zero-requires c κs = search needs
+
+returns : tie.Need-returns
+returns c = cc
+
+pub no-figures-spec : {M : Type 1} → statement M
+no-figures-spec = tie.close (tie.spec zero-requires returns)

@@ -1,0 +1,52 @@
+-- `analyser::price` meets its contract: what the sheet reads as decides. Assumes nothing.
+use mathlib.Core.Path.{_≡_, sym, _∙_}
+use borrow.Author.Needs.{needs}
+use Rattle.model.specs.declared.Verdict.the-variants.{Accepted, Refused}
+use Rattle.schedule.specs.Checking.{noPrice}
+use Rattle.analyser.specs.Answers.{priceFor, pricing}
+use Rattle.analyser.proofs.Standings.{on-refused, on-accepted, stands}
+use Rattle.analyser.proofs.price.Statement.{statement}
+use Rattle.analyser.proofs.price.Tie as tie
+
+read-requires : tie.Need-read-requires
+read-requires c κs = search needs
+
+enum-known-verdict : tie.Need-enum-known-verdict
+enum-known-verdict c = search needs
+
+no-price-requires : tie.Need-no-price-requires
+no-price-requires c κs = search needs
+
+enum-told : tie.Need-enum-told
+enum-told c = search needs
+
+sheet-price-requires : tie.Need-sheet-price-requires
+sheet-price-requires c κs =
+    let r = c .before .before .before in
+    stands _ (r .read .result) (r .read .ensures) (cc)
+
+returns : tie.Need-returns
+unfolding pricing
+returns c =
+    let r = c .before .before .before .before .before in
+    let a = r .before .before .before .args in
+    c .no-price .ensures ∙ sym (on-refused _ (r .read .result) (r .read .ensures) _ (cc) noPrice (λ v. priceFor v (a .row) (a .schedule .now)))
+
+returns-2 : tie.Need-returns-2
+unfolding pricing
+returns-2 c =
+    let r = c .before .before .before .before in
+    let a = r .before .before .before .args in
+    c .sheet-price .ensures ∙ sym (on-accepted _ (r .read .result) (r .read .ensures) (cc) noPrice (λ v. priceFor v (a .row) (a .schedule .now)))
+
+pub price-spec : {M : Type 1} → statement M
+price-spec =
+    tie.close
+    (tie.spec
+    read-requires
+    enum-known-verdict
+    no-price-requires
+    enum-told
+    sheet-price-requires
+    returns
+    returns-2)

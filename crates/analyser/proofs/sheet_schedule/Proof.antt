@@ -1,0 +1,98 @@
+-- `analyser::sheet_schedule` meets its contract: the row and the room are tested, and the optimal schedule of the sheet's value is
+-- written. Assumes nothing.
+use Prim.Native.Nat.{ℕ, _*_, _≤_, _<_}
+use mathlib.Core.Path.{_≡_, refl, sym, ap, _∙_}
+use native.Mathlib.Omega.{arith}
+use borrow.Author.Needs.{needs}
+use lib.ListN.{length, take, drop, getD}
+use lib.Seq.{length-take-le}
+use Rattle.model.specs.Sheets.{rowAt, traceOf}
+use Rattle.sheet.specs.Values.{valueOf}
+use Rattle.analyser.proofs.Results.{schedule-no-row, schedule-short, schedule-placed}
+use Rattle.analyser.proofs.Standings.{valid-limits, rows-counted, refs-counted, row-of}
+use Rattle.analyser.proofs.sheet_schedule.Statement.{statement}
+use Rattle.analyser.proofs.sheet_schedule.Tie as tie
+
+nothing-requires : tie.Need-nothing-requires
+nothing-requires c κs = search needs
+
+returns : tie.Need-returns
+returns c =
+    let s = c .before .before .before .before in
+    let n = rows-counted (s .args .s) (s .pre) in
+    rw (c .nothing .ensures)
+    (schedule-no-row (valueOf (s .args .s)) (s .args .row) (s .args .out .now) (omega (arith, c .before .if1 .taken)))
+
+nothing-requires-2 : tie.Need-nothing-requires-2
+nothing-requires-2 c κs = search needs
+
+returns-2 : tie.Need-returns-2
+returns-2 c =
+    let s = c .before .before .before .before .before in
+    let n = rows-counted (s .args .s) (s .pre) in
+    let m = refs-counted (s .args .s) (s .pre) in
+    rw (c .nothing2 .ensures)
+    (schedule-short (valueOf (s .args .s)) (s .args .row) (s .args .out .now)
+    (omega (arith, c .before .before .if1 .left)) (omega (arith, c .before .if2 .taken)))
+
+mul-write-optimal : tie.Need-mul-write-optimal
+mul-write-optimal c = search needs
+
+array-copy-out-write-optimal : tie.Need-array-copy-out-write-optimal
+array-copy-out-write-optimal c = search needs
+
+array-share-prefix-sizes : tie.Need-array-share-prefix-sizes
+array-share-prefix-sizes c = omega (arith, c .before .before .before .before .before .before .before .before .pre)
+
+slice-aggregate-write-optimal : tie.Need-slice-aggregate-write-optimal
+slice-aggregate-write-optimal c = sym (length-take-le _ _ (omega (arith, c .before .before .before .before .before .before .before .before .before .pre)))
+
+array-share-prefix-touches : tie.Need-array-share-prefix-touches
+array-share-prefix-touches c = omega (arith, c .before .before .before .before .before .before .before .before .before .pre)
+
+slice-aggregate-write-optimal-2 : tie.Need-slice-aggregate-write-optimal-2
+slice-aggregate-write-optimal-2 c = sym (length-take-le _ _ (omega (arith, c .before .before .before .before .before .before .before .before .before .before .pre)))
+
+write-optimal-requires : tie.Need-write-optimal-requires
+unfolding valueOf
+write-optimal-requires c κs =
+    let s = c .before .before .before .before .before .before .before .before .before .before .before in
+    let m = refs-counted (s .args .s) (s .pre) in
+    (valid-limits (valueOf (s .args .s)) (s .pre .valid), omega (arith, c .before .before .before .before .before .before .before .if2 .left))
+
+mul-t13 : tie.Need-mul-t13
+mul-t13 c = search needs
+
+same-length : tie.Need-same-length
+same-length c = search needs
+
+returns-3 : tie.Need-returns-3
+unfolding valueOf
+returns-3 c =
+    let e = c .before .before .before .before .before .before .before .before .before .before in
+    let s = c .before .before .before .before .before .before .before .before .before .before .before .before .before .before in
+    let v = valueOf (s .args .s) in
+    let n = rows-counted (s .args .s) (s .pre) in
+    let m = refs-counted (s .args .s) (s .pre) in
+    let l : s .args .row < s .args .s .rows = omega (arith, e .before .if1 .left) in
+    let p = schedule-placed v (s .args .row) (s .args .out .now) (omega arith) (omega (arith, e .if2 .left)) in
+    (rw m at (p .0), c .before .before .write-optimal .ensures ∙ rw (row-of (s .args .s) (s .pre) (s .args .row) l) at (p .1))
+
+pub sheet-schedule-spec : {M : Type 1} → statement M
+sheet-schedule-spec =
+    tie.close
+    (tie.spec
+    nothing-requires
+    returns
+    nothing-requires-2
+    returns-2
+    mul-write-optimal
+    array-copy-out-write-optimal
+    array-share-prefix-sizes
+    slice-aggregate-write-optimal
+    array-share-prefix-touches
+    slice-aggregate-write-optimal-2
+    write-optimal-requires
+    mul-t13
+    same-length
+    returns-3)

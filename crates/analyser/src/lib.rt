@@ -1,0 +1,194 @@
+// The public calls of the segment trace analyser, on bytes. None relies on a caller's check: each refuses for itself, and a refused call
+// gives zeros and changes nothing.
+// What each call answers is written in specs/ here and in the crates below; nothing is assumed.
+use figures::FiguresAnswer;
+use model::LoadUnits;
+use model::MemoryUnits;
+use model::PlaceAnswer;
+use model::PriceRow;
+use model::Refusal;
+use model::RowFigures;
+use model::Verdict;
+use schedule::PriceAnswer;
+use sheet::Sheet;
+use sheet::SheetAnswer;
+ghost use mathlib.Core.Path.{_≡_};
+ghost use Prim.Native.Nat.{_*_, _<_, _≤_};
+ghost use lib.ListN.{length};
+ghost use Rattle.model.specs.Places.{placed, placeAnswer, nothingPlaced};
+ghost use Rattle.model.specs.Sheets.{rowAt};
+ghost use Rattle.sheet.specs.Reading.{readSheet};
+ghost use Rattle.sheet.specs.Values.{answerOf, valueOf};
+ghost use Rattle.sheet.specs.Writing.{sheetText};
+ghost use Rattle.figures.specs.Rows.{noFigures, figuresOf, allFigures};
+ghost use Rattle.schedule.specs.Checking.{noPrice};
+ghost use Rattle.analyser.specs.Answers.{Standing, answerFor, placeFor, figuresAnswer, scheduleFor, scheduleResult, priceFor, pricing};
+
+// The sheet that a run of bytes stands for, or the refusal (1 to 6) and the empty sheet.
+pub fn read(bytes: &[u8]) -> SheetAnswer
+    ensures { λ r. ⌜ r ≡ answerOf (readSheet (now (bytes .entry))) ⌝ }
+{
+    sheet::reading::read(bytes)
+}
+
+// The bytes of a sheet into a lent place, then its old contents; 11 and no change where the place is too short.
+pub fn write(sheet: Sheet, out: &mut [u8]) -> PlaceAnswer
+    ensures { λ r. ⌜ (r ≡ placeAnswer (sheetText (valueOf sheet)) (now (out .entry))) × (now (out .exit) ≡ placed (sheetText (valueOf sheet)) (now (out .entry))) ⌝ }
+{
+    sheet::writing::write(sheet, out)
+}
+
+// The figures of every row of an accepted sheet.
+fn all_figures(s: Sheet) -> [RowFigures; 64]
+    requires { ⌜ Standing s ⌝ }
+    ensures { λ r. ⌜ r ≡ allFigures (valueOf s) ⌝ }
+{
+    let kind = s.kind;
+    let segs = s.segs;
+    let refs = s.refs;
+    let sizes = s.sizes;
+    let touches = s.touches;
+    let prices = s.prices;
+    figures::figures(kind, s.a, prices, s.rows, &sizes[..segs], &touches[..refs])
+}
+
+// No figures, and why.
+fn no_figures(why: Refusal) -> FiguresAnswer
+    ensures { λ r. ⌜ r ≡ noFigures why ⌝ }
+{
+    FiguresAnswer {
+        verdict: Verdict::Refused(why),
+        figures: RowFigures::zero(),
+    }
+}
+
+// The figures of a row of an accepted sheet, or 7.
+fn sheet_figures(s: Sheet, row: usize) -> FiguresAnswer
+    requires { ⌜ Standing s ⌝ }
+    ensures { λ r. ⌜ r ≡ figuresOf (valueOf s) row ⌝ }
+{
+    if s.rows <= row {
+        return no_figures(Refusal::NoSuchRow);
+    }
+    let all = all_figures(s);
+    FiguresAnswer {
+        verdict: Verdict::Accepted,
+        figures: all[row],
+    }
+}
+
+// The figures of a row: refused with 1 to 6, 7.
+pub fn figures(bytes: &[u8], row: usize) -> FiguresAnswer
+    ensures { λ r. ⌜ r ≡ figuresAnswer (now (bytes .entry)) row ⌝ }
+{
+    let answer = sheet::reading::read(bytes);
+    let verdict = answer.verdict;
+    let s = answer.sheet;
+    match verdict {
+        Verdict::Refused(why) => no_figures(why),
+        Verdict::Accepted => sheet_figures(s, row),
+    }
+}
+
+// Nothing written, and why.
+fn nothing(why: Refusal) -> PlaceAnswer
+    ensures { λ r. ⌜ r ≡ nothingPlaced why ⌝ }
+{
+    PlaceAnswer {
+        verdict: Verdict::Refused(why),
+        length: 0,
+    }
+}
+
+// The optimal schedule of a row of an accepted sheet into a lent place: 7, then 11.
+fn sheet_schedule(s: Sheet, row: usize, out: &mut [u8]) -> PlaceAnswer
+    requires { ⌜ Standing s ⌝ }
+    ensures { λ r. ⌜ (r ≡ answerFor (scheduleFor (valueOf s) row) (now (out .entry))) × (now (out .exit) ≡ placeFor (scheduleFor (valueOf s) row) (now (out .entry))) ⌝ }
+{
+    if s.rows <= row {
+        return nothing(Refusal::NoSuchRow);
+    }
+    let kind = s.kind;
+    let segs = s.segs;
+    let refs = s.refs;
+    if out.len() / 32 < refs {
+        return nothing(Refusal::PlaceTooShort);
+    }
+    let sizes = s.sizes;
+    let touches = s.touches;
+    let prices = s.prices;
+    schedule::writing::write_optimal(
+        kind,
+        s.a,
+        prices[row],
+        &sizes[..segs],
+        &touches[..refs],
+        out,
+    );
+    PlaceAnswer {
+        verdict: Verdict::Accepted,
+        length: 32 * refs,
+    }
+}
+
+// The optimal schedule of a row into a lent place, then its old contents: refused with 1 to 6, 7, 11.
+pub fn optimal_schedule(bytes: &[u8], row: usize, out: &mut [u8]) -> PlaceAnswer
+    ensures { λ r. ⌜ (r ≡ answerFor (scheduleResult (now (bytes .entry)) row) (now (out .entry))) × (now (out .exit) ≡ placeFor (scheduleResult (now (bytes .entry)) row) (now (out .entry))) ⌝ }
+{
+    let answer = sheet::reading::read(bytes);
+    let verdict = answer.verdict;
+    let s = answer.sheet;
+    match verdict {
+        Verdict::Refused(why) => nothing(why),
+        Verdict::Accepted => sheet_schedule(s, row, out),
+    }
+}
+
+// No price, and why.
+fn no_price(why: Refusal) -> PriceAnswer
+    ensures { λ r. ⌜ r ≡ noPrice why ⌝ }
+{
+    PriceAnswer {
+        verdict: Verdict::Refused(why),
+        memory: MemoryUnits(0),
+        load: LoadUnits(0),
+        total: 0,
+    }
+}
+
+// The price of a schedule at a row of an accepted sheet: 7, then 8, 9, 10.
+fn sheet_price(s: Sheet, row: usize, schedule: &[u8]) -> PriceAnswer
+    requires { ⌜ Standing s ⌝ }
+    ensures { λ r. ⌜ r ≡ priceFor (valueOf s) row (now (schedule .entry)) ⌝ }
+{
+    if s.rows <= row {
+        return no_price(Refusal::NoSuchRow);
+    }
+    let kind = s.kind;
+    let segs = s.segs;
+    let refs = s.refs;
+    let sizes = s.sizes;
+    let touches = s.touches;
+    let prices = s.prices;
+    schedule::pricing::price(
+        kind,
+        s.a,
+        prices[row],
+        &sizes[..segs],
+        &touches[..refs],
+        schedule,
+    )
+}
+
+// The price of a schedule at a row: refused with 1 to 6, 7, 8, 9, 10.
+pub fn price(bytes: &[u8], row: usize, schedule: &[u8]) -> PriceAnswer
+    ensures { λ r. ⌜ r ≡ pricing (now (bytes .entry)) row (now (schedule .entry)) ⌝ }
+{
+    let answer = sheet::reading::read(bytes);
+    let verdict = answer.verdict;
+    let s = answer.sheet;
+    match verdict {
+        Verdict::Refused(why) => no_price(why),
+        Verdict::Accepted => sheet_price(s, row, schedule),
+    }
+}

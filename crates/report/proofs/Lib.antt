@@ -1,0 +1,2 @@
+pub mod ListingParts
+pub mod ListingWithin

@@ -1,0 +1,208 @@
+// The listing as text: its length first, then its lines one after the other into a lent place.
+// What the text is stands in specs/Listing.antt, and its parts in specs/Parts.antt. Nothing is assumed.
+use model::PlaceAnswer;
+use model::Refusal;
+use model::RowFigures;
+use model::Verdict;
+use sheet::writing::number_length;
+use sheet::writing::put_number;
+ghost use mathlib.Core.Path.{_≡_};
+ghost use Prim.Native.Nat.{ℕ, _+_, _≤_};
+ghost use lib.ListN.{length, take};
+ghost use Rattle.model.specs.Places.{placed, placeAnswer};
+ghost use Rattle.sheet.specs.Parts.{Put};
+ghost use Rattle.report.specs.Listing.{rowListing, rowsListing, listing, refusedText};
+ghost use Rattle.report.specs.Parts.{threeText};
+
+// ---- lengths
+
+// The length of three lines.
+fn three_length(k: &[u8], x: u64, l: &[u8], y: u64, m: &[u8], z: u64) -> usize
+    requires { ⌜ (length (now k) ≤ 9) × (length (now l) ≤ 9) × (length (now m) ≤ 9) ⌝ }
+    ensures { λ r. ⌜ (r ≡ length (threeText (now (k .entry)) x (now (l .entry)) y (now (m .entry)) z)) × (r ≤ 90) ⌝ }
+{
+    number_length(k, x) + number_length(l, y) + number_length(m, z)
+}
+
+// The length of the eleven lines of a row.
+fn row_length(f: RowFigures) -> usize
+    ensures { λ r. ⌜ (r ≡ length (rowListing f)) × (r ≤ 330) ⌝ }
+{
+    number_length(b"h=", f.h)
+        + number_length(b"d=", f.d)
+        + three_length(
+            b"misses=",
+            f.misses,
+            b"volume=",
+            f.volume,
+            b"load=",
+            f.load.0,
+        )
+        + three_length(
+            b"optmem=",
+            f.optmem.0,
+            b"opttotal=",
+            f.opttotal,
+            b"optocc=",
+            f.optocc,
+        )
+        + three_length(b"wsmem=", f.wsmem, b"wsocc=", f.wsocc, b"mean=", f.mean)
+}
+
+// The length of the lines of the first `n` rows.
+fn rows_length(figures: [RowFigures; 64], n: usize) -> usize
+    requires { ⌜ n ≤ 64 ⌝ }
+    ensures { λ r. ⌜ (r ≡ length (rowsListing (take n figures))) × (r ≤ 21120) ⌝ }
+{
+    let mut sum: usize = 0;
+    let mut i = 0;
+    while i < n {
+        let f = figures[i];
+        sum += row_length(f);
+        i += 1;
+    }
+    sum
+}
+
+// ---- parts
+
+// Writes three lines, and gives the index after them.
+fn put_three(
+    k: &[u8],
+    x: u64,
+    l: &[u8],
+    y: u64,
+    m: &[u8],
+    z: u64,
+    out: &mut [u8],
+    at: usize,
+) -> usize
+    requires { ⌜ at + length (threeText (now k) x (now l) y (now m) z) ≤ length (now out) ⌝ }
+    ensures { λ r. ⌜ Put (threeText (now (k .entry)) x (now (l .entry)) y (now (m .entry)) z)
+        at (now (out .entry)) r (now (out .exit)) ⌝ }
+{
+    let second = put_number(k, x, out, at);
+    let third = put_number(l, y, out, second);
+    put_number(m, z, out, third)
+}
+
+// Writes the eleven lines of a row, and gives the index after them.
+fn put_row(f: RowFigures, out: &mut [u8], at: usize) -> usize
+    requires { ⌜ at + length (rowListing f) ≤ length (now out) ⌝ }
+    ensures { λ r. ⌜ Put (rowListing f) at (now (out .entry)) r (now (out .exit)) ⌝ }
+{
+    let d = put_number(b"h=", f.h, out, at);
+    let misses = put_number(b"d=", f.d, out, d);
+    let optmem = put_three(
+        b"misses=",
+        f.misses,
+        b"volume=",
+        f.volume,
+        b"load=",
+        f.load.0,
+        out,
+        misses,
+    );
+    let wsmem = put_three(
+        b"optmem=",
+        f.optmem.0,
+        b"opttotal=",
+        f.opttotal,
+        b"optocc=",
+        f.optocc,
+        out,
+        optmem,
+    );
+    put_three(
+        b"wsmem=",
+        f.wsmem,
+        b"wsocc=",
+        f.wsocc,
+        b"mean=",
+        f.mean,
+        out,
+        wsmem,
+    )
+}
+
+// Writes the lines of the first `n` rows, and gives the index after them.
+fn put_rows(figures: [RowFigures; 64], n: usize, out: &mut [u8], at: usize) -> usize
+    requires { ⌜ (n ≤ 64) × (at + length (rowsListing (take n figures)) ≤ length (now out)) ⌝ }
+    ensures { λ r. ⌜ Put (rowsListing (take n figures)) at (now (out .entry)) r (now (out .exit)) ⌝ }
+{
+    let mut next = at;
+    let mut i = 0;
+    while i < n {
+        let f = figures[i];
+        next = put_row(f, out, next);
+        i += 1;
+    }
+    next
+}
+
+// ---- the listing
+
+// The listing of so many references, segments and rows into a lent place, then its old contents; refusal 11 and no change where the
+// place is shorter.
+pub fn write(
+    refs: usize,
+    segs: usize,
+    figures: [RowFigures; 64],
+    rows: usize,
+    out: &mut [u8],
+) -> PlaceAnswer
+    requires { ⌜ rows ≤ 64 ⌝ }
+    ensures { λ r. ⌜ (r ≡ placeAnswer (listing refs segs (take rows figures)) (now (out .entry)))
+        × (now (out .exit) ≡ placed (listing refs segs (take rows figures)) (now (out .entry))) ⌝ }
+{
+    let head = three_length(
+        b"refs=",
+        refs as u64,
+        b"segs=",
+        segs as u64,
+        b"rows=",
+        rows as u64,
+    );
+    let length = head + rows_length(figures, rows);
+    if out.len() < length {
+        return PlaceAnswer {
+            verdict: Verdict::Refused(Refusal::PlaceTooShort),
+            length: 0,
+        };
+    }
+    let first = put_three(
+        b"refs=",
+        refs as u64,
+        b"segs=",
+        segs as u64,
+        b"rows=",
+        rows as u64,
+        out,
+        0,
+    );
+    put_rows(figures, rows, out, first);
+    PlaceAnswer {
+        verdict: Verdict::Accepted,
+        length,
+    }
+}
+
+// The line for a refusal into a lent place, then its old contents; refusal 11 and no change where the place is shorter.
+pub fn write_refusal(why: Refusal, out: &mut [u8]) -> PlaceAnswer
+    ensures { λ r. ⌜ (r ≡ placeAnswer (refusedText why) (now (out .entry)))
+        × (now (out .exit) ≡ placed (refusedText why) (now (out .entry))) ⌝ }
+{
+    let n = model::number(why);
+    let length = number_length(b"refused=", n);
+    if out.len() < length {
+        return PlaceAnswer {
+            verdict: Verdict::Refused(Refusal::PlaceTooShort),
+            length: 0,
+        };
+    }
+    put_number(b"refused=", n, out, 0);
+    PlaceAnswer {
+        verdict: Verdict::Accepted,
+        length,
+    }
+}
