@@ -3,11 +3,13 @@ use Prim.Native.Nat.{ℕ, _*_, _≤_, _<_}
 use mathlib.Core.Path.{_≡_, refl, sym, ap, _∙_}
 use mathlib.Core.List.{List, _++_}
 use native.Mathlib.Omega.{arith}
-use lib.ListN.{length, drop, getD}
+use lib.ListN.{length, take, drop, getD}
+use lib.Seq.{length-take-le, getD-take}
 use lib.Dec.{ltb}
 use borrow.Author.Tests.{le-ltb, lt-ltb, le-leb, lt-leb}
 use Rattle.model.specs.Demand.{rowSchedule}
 use Rattle.model.specs.Places.{placed, placeAnswer, nothingPlaced}
+use Rattle.model.specs.Rows.{zeroFigures}
 use Rattle.model.specs.Schedules.{optimalSchedule, optimalByte}
 use Rattle.model.specs.Sheets.{SheetValue, traceOf, rowAt, mostRows}
 use Rattle.model.specs.declared.PlaceAnswer.{PlaceAnswer}
@@ -15,8 +17,10 @@ use Rattle.model.specs.declared.Refusal.the-variants.{NoSuchRow, PlaceTooShort}
 use Rattle.model.specs.declared.RowFigures.{RowFigures}
 use Rattle.model.specs.declared.Verdict.the-variants.{Accepted}
 use Rattle.model.proofs.Sums.{length-listOf}
+use Rattle.figures.specs.Buckets.{tabulate}
 use Rattle.figures.specs.Rows.{figuresAt, allFigures}
-use Rattle.figures.proofs.Tables.{getD-tabulate}
+use Rattle.figures.proofs.Tables.{length-tabulate, getD-tabulate, list-tabulate}
+use Rattle.report.specs.Listing.{listing, listingOf}
 use Rattle.schedule.specs.Checking.{noPrice, priceAnswer}
 use Rattle.analyser.specs.Answers.{answerFor, placeFor, scheduleFor, priceFor}
 
@@ -25,6 +29,24 @@ pub figures-at : (v : SheetValue) (r : ℕ) (d : RowFigures) → r < length (v .
     → getD (allFigures v) r d ≡ figuresAt v r
 unfolding allFigures
 figures-at v r d lt most = getD-tabulate _ _ r d (omega arith) ∙ rw (lt-ltb r (length (v .rows)) lt)
+
+all-length : (v : SheetValue) → length (allFigures v) ≡ mostRows
+unfolding allFigures
+all-length v = length-tabulate mostRows _
+
+-- the figures of the rows that there are, at the front of those of all rows
+pub figures-front : (v : SheetValue) → length (v .rows) ≤ mostRows
+    → take (length (v .rows)) (allFigures v) ≡ tabulate (length (v .rows)) (figuresAt v)
+figures-front v most =
+    list-tabulate (length (v .rows)) (figuresAt v) (take (length (v .rows)) (allFigures v)) zeroFigures
+    (length-take-le (length (v .rows)) (allFigures v) (omega (arith, all-length v)))
+    (λ j lt. getD-take (length (v .rows)) (allFigures v) j zeroFigures lt ∙ figures-at v j zeroFigures lt most)
+
+-- the listing of a sheet from its counts and the figures of all rows
+pub listing-is : (v : SheetValue) (refs segs rows : ℕ) → length (v .refs) ≡ refs → length (v .sizes) ≡ segs → length (v .rows) ≡ rows
+    → length (v .rows) ≤ mostRows → listing refs segs (take rows (allFigures v)) ≡ listingOf v
+unfolding listingOf
+listing-is v refs segs rows a b c most = rw (← a, ← b, ← c, figures-front v most)
 
 -- the optimal schedule has 32 bytes for each reference
 pub schedule-length : (v : SheetValue) (r : ℕ) → length (rowSchedule v r) ≡ 32 * length (v .refs)

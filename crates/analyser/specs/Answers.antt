@@ -16,6 +16,7 @@ use Rattle.sheet.specs.Values.{valueOf}
 use Rattle.sheet.specs.declared.Sheet.{Sheet}
 use Rattle.figures.specs.Rows.{noFigures, figuresOf}
 use Rattle.figures.specs.declared.FiguresAnswer.{FiguresAnswer}
+use Rattle.report.specs.Listing.{listingOf}
 use Rattle.schedule.specs.Checking.{noPrice, priceAnswer}
 use Rattle.schedule.specs.declared.PriceAnswer.{PriceAnswer}
 
@@ -52,6 +53,10 @@ pub record Standing (s : Sheet) : Type 0 where
 -- the figures of row r of the sheet that the bytes stand for: 1 to 6, 7
 unfoldable pub figuresAnswer : List ℕ → ℕ → FiguresAnswer
 figuresAnswer s r = onSheet (readSheet s) noFigures (λ v. figuresOf v r)
+
+-- the listing of the sheet that the bytes stand for: 1 to 6, then 11 by the place
+unfoldable pub listingResult : List ℕ → Result
+listingResult s = onSheet (readSheet s) refuses (λ v. gives (listingOf v))
 
 -- the optimal schedule of row r of a sheet: 7 where there is no such row
 unfoldable pub scheduleFor : SheetValue → ℕ → Result

@@ -21,8 +21,9 @@ ghost use Rattle.sheet.specs.Reading.{readSheet};
 ghost use Rattle.sheet.specs.Values.{answerOf, valueOf};
 ghost use Rattle.sheet.specs.Writing.{sheetText};
 ghost use Rattle.figures.specs.Rows.{noFigures, figuresOf, allFigures};
+ghost use Rattle.report.specs.Listing.{listingOf};
 ghost use Rattle.schedule.specs.Checking.{noPrice};
-ghost use Rattle.analyser.specs.Answers.{Standing, answerFor, placeFor, figuresAnswer, scheduleFor, scheduleResult, priceFor, pricing};
+ghost use Rattle.analyser.specs.Answers.{Standing, answerFor, placeFor, figuresAnswer, listingResult, scheduleFor, scheduleResult, priceFor, pricing};
 
 // The sheet that a run of bytes stands for, or the refusal (1 to 6) and the empty sheet.
 pub fn read(bytes: &[u8]) -> SheetAnswer
@@ -97,6 +98,28 @@ fn nothing(why: Refusal) -> PlaceAnswer
     PlaceAnswer {
         verdict: Verdict::Refused(why),
         length: 0,
+    }
+}
+
+// The listing of an accepted sheet into a lent place, or 11.
+fn sheet_listing(s: Sheet, out: &mut [u8]) -> PlaceAnswer
+    requires { ⌜ Standing s ⌝ }
+    ensures { λ r. ⌜ (r ≡ placeAnswer (listingOf (valueOf s)) (now (out .entry))) × (now (out .exit) ≡ placed (listingOf (valueOf s)) (now (out .entry))) ⌝ }
+{
+    let all = all_figures(s);
+    report::write(s.refs, s.segs, all, s.rows, out)
+}
+
+// The listing into a lent place, then its old contents: refused with 1 to 6, 11.
+pub fn listing(bytes: &[u8], out: &mut [u8]) -> PlaceAnswer
+    ensures { λ r. ⌜ (r ≡ answerFor (listingResult (now (bytes .entry))) (now (out .entry))) × (now (out .exit) ≡ placeFor (listingResult (now (bytes .entry))) (now (out .entry))) ⌝ }
+{
+    let answer = sheet::reading::read(bytes);
+    let verdict = answer.verdict;
+    let s = answer.sheet;
+    match verdict {
+        Verdict::Refused(why) => nothing(why),
+        Verdict::Accepted => sheet_listing(s, out),
     }
 }
 

@@ -30,9 +30,9 @@ fn kind_length(kind: Kind) -> usize
 }
 
 // The length of the line of a number.
-fn number_length(key: &[u8], n: u64) -> usize
-    requires { ⌜ length (now key) ≤ 5 ⌝ }
-    ensures { λ r. ⌜ (r ≡ length (numberText (now (key .entry)) n)) × (r ≤ 26) ⌝ }
+pub fn number_length(key: &[u8], n: u64) -> usize
+    requires { ⌜ length (now key) ≤ 9 ⌝ }
+    ensures { λ r. ⌜ (r ≡ length (numberText (now (key .entry)) n)) × (r ≤ length (now (key .entry)) + 21) ⌝ }
 {
     key.len() + decimal::width(n) + 1
 }
@@ -151,7 +151,7 @@ fn put_digits(n: u64, end: u8, out: &mut [u8], at: usize) -> usize
 }
 
 // Writes the line of a number, and gives the index after it.
-fn put_number(key: &[u8], n: u64, out: &mut [u8], at: usize) -> usize
+pub fn put_number(key: &[u8], n: u64, out: &mut [u8], at: usize) -> usize
     requires { ⌜ at + length (numberText (now key) n) ≤ length (now out) ⌝ }
     ensures { λ r. ⌜ Put (numberText (now (key .entry)) n) at (now (out .entry)) r (now (out .exit)) ⌝ }
 {

@@ -23,7 +23,8 @@ put-number-requires-3 c κs =
     let k = n .before .before .before .before in
     let s = k .before .before .before .before .before .before in
     let a = s .args in
-    omega (arith, three-length (a .k .now) (a .x) (a .l .now) (a .y) (a .m .now) (a .z), s .pre, k .put-number .ensures .ends, n .put-number2 .ensures .ends)
+    let l = three-length (a .k .now) (a .x) (a .l .now) (a .y) (a .m .now) (a .z) in
+    omega (arith, l, s .pre, k .put-number .ensures .ends, n .put-number2 .ensures .ends)
 
 same-length : tie.Need-same-length
 same-length c = search needs

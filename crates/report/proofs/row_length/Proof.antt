@@ -66,7 +66,9 @@ add-result-4 : tie.Need-add-result-4
 add-result-4 c = search needs
 
 returns : tie.Need-returns
-returns c = omega (arith, row-length (c .before .before .before .before .before .before .before .before .before .before .before .before .before .before .before .before .args .f))
+returns c =
+    let d = c .before .before .before .before .before .before .before .before .before .before .before .before in
+    omega (arith, row-length (d .before .before .before .before .args .f))
 
 pub row-length-spec : {M : Type 1} → statement M
 row-length-spec =

@@ -1,0 +1,55 @@
+-- `analyser::listing` meets its contract: what the sheet reads as decides. Assumes nothing.
+use borrow.Author.Needs.{needs}
+use Rattle.report.specs.Listing.{listingOf}
+use Rattle.analyser.specs.Answers.{gives, refuses, listingResult}
+use Rattle.analyser.proofs.Standings.{result-refused, on-accepted, stands}
+use Rattle.analyser.proofs.listing.Statement.{statement}
+use Rattle.analyser.proofs.listing.Tie as tie
+
+read-requires : tie.Need-read-requires
+read-requires c κs = search needs
+
+enum-known-verdict : tie.Need-enum-known-verdict
+enum-known-verdict c = search needs
+
+nothing-requires : tie.Need-nothing-requires
+nothing-requires c κs = search needs
+
+enum-told : tie.Need-enum-told
+enum-told c = search needs
+
+sheet-listing-requires : tie.Need-sheet-listing-requires
+sheet-listing-requires c κs =
+    let r = c .before .before .before .before in
+    stands _ (r .read .result) (r .read .ensures) (cc)
+
+returns : tie.Need-returns
+unfolding listingResult
+returns c =
+    let r = c .before .before .before .before .before in
+    let a = c .before .before .before .before .before .before .before .before .args in
+    result-refused (a .bytes .now) (r .read .result) (r .read .ensures) (a .out .now) (λ v. gives (listingOf v)) (c .nothing .ensures) (cc)
+
+same-length : tie.Need-same-length
+same-length c = search needs
+
+returns-2 : tie.Need-returns-2
+unfolding listingResult
+returns-2 c =
+    let r = c .before .before .before .before .before .before .before in
+    let a = c .before .before .before .before .before .before .before .before .before .before .args in
+    rw (on-accepted (a .bytes .now) (r .read .result) (r .read .ensures) (cc) refuses (λ v. gives (listingOf v)))
+    (c .before .before .sheet-listing .ensures)
+
+pub listing-spec : {M : Type 1} → statement M
+listing-spec =
+    tie.close
+    (tie.spec
+    read-requires
+    enum-known-verdict
+    nothing-requires
+    enum-told
+    sheet-listing-requires
+    returns
+    same-length
+    returns-2)
