@@ -1,0 +1,19 @@
+-- `margins::next_time` meets its contract: its tests are those of the definition. Assumes nothing.
+use borrow.Author.Needs.{needs}
+use Rattle.analyser.proofs.margins.next_time.Statement.{statement}
+use Rattle.analyser.proofs.margins.next_time.Tie as tie
+
+returns : tie.Need-returns
+returns c = rw (c .if1 .taken)
+
+add-t5 : tie.Need-add-t5
+add-t5 c = search needs
+
+returns-2 : tie.Need-returns-2
+returns-2 c = rw (c .before .before .if1 .left, c .before .if2 .taken)
+
+returns-3 : tie.Need-returns-3
+returns-3 c = search needs
+
+pub next-time-spec : {M : Type 1} → statement M
+next-time-spec = tie.close (tie.spec returns add-t5 returns-2 returns-3)
