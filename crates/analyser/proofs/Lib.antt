@@ -1,3 +1,10 @@
 pub mod Demand
+pub mod Entries
+pub mod MarginResults
+pub mod MarginSigns
+pub mod Outcomes
 pub mod Results
+pub mod Sizes
 pub mod Standings
+pub mod Times
+pub mod TouchMargins

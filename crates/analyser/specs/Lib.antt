@@ -1,2 +1,5 @@
 pub mod Answers
 pub mod Demand
+pub mod Margins
+pub mod Sizing
+pub mod Times

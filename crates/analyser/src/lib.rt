@@ -1,6 +1,9 @@
 // The public calls of the segment trace analyser, on bytes. None relies on a caller's check: each refuses for itself, and a refused call
 // gives zeros and changes nothing.
 // What each call answers is written in specs/ here and in the crates below; nothing is assumed.
+pub mod margins;
+pub mod sizing;
+
 use figures::FiguresAnswer;
 use model::LoadUnits;
 use model::MemoryUnits;
@@ -40,7 +43,7 @@ pub fn write(sheet: Sheet, out: &mut [u8]) -> PlaceAnswer
 }
 
 // The figures of every row of an accepted sheet.
-fn all_figures(s: Sheet) -> [RowFigures; 64]
+pub(crate) fn all_figures(s: Sheet) -> [RowFigures; 64]
     requires { ⌜ Standing s ⌝ }
     ensures { λ r. ⌜ r ≡ allFigures (valueOf s) ⌝ }
 {
@@ -68,7 +71,7 @@ fn sheet_figures(s: Sheet, row: usize) -> FiguresAnswer
     requires { ⌜ Standing s ⌝ }
     ensures { λ r. ⌜ r ≡ figuresOf (valueOf s) row ⌝ }
 {
-    if s.rows <= row {
+    if row >= s.rows {
         return no_figures(Refusal::NoSuchRow);
     }
     let all = all_figures(s);
