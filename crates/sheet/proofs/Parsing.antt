@@ -94,7 +94,7 @@ after-forth [] line rest = refl
 after-forth (k ∷ key) line rest = rw (eq-eqb k k refl, after-forth key line rest)
 
 -- and what is read stood after the key
-after-back : (key line rest v end : List ℕ) → afterKey key line rest ≡ read v end → (line ≡ key ++ v) × (rest ≡ end)
+pub after-back : (key line rest v end : List ℕ) → afterKey key line rest ≡ read v end → (line ≡ key ++ v) × (rest ≡ end)
 unfolding afterKey
 after-back [] line rest v end e = ((cc), (cc))
 after-back (k ∷ key) [] rest v end e = absurd (refused-read e)
@@ -104,7 +104,7 @@ after-back (k ∷ key) (b ∷ line) rest v end e =
     (rw (l, eqb-true b k h), r)
 
 -- a line's value is read where neither the key nor the value has a line feed
-value-forth : (key v rest : List ℕ) → lacks lineFeed key ≡ true → lacks lineFeed v ≡ true
+pub value-forth : (key v rest : List ℕ) → lacks lineFeed key ≡ true → lacks lineFeed v ≡ true
     → valueLine key (lineText key v ++ rest) ≡ read v rest
 unfolding valueLine
 value-forth key v rest k h =

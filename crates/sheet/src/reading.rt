@@ -64,7 +64,7 @@ struct RowsRead {
 }
 
 // The place of the first byte `c`, or the length where there is none.
-fn find(s: &[u8], c: u8) -> usize
+pub fn find(s: &[u8], c: u8) -> usize
     ensures { λ r. ⌜ r ≤ length (now (s .entry)) ⌝ }
     ensures { λ r. ⌜ splitAt c (now (s .entry)) ≡ splitAtPlace (now (s .entry)) r ⌝ }
 {
