@@ -63,6 +63,11 @@ read-stands s A (rejected p) r e a =
     let z : _≡_ {A = ℕ} 0 1 = cc in
     absurd (omega arith)
 
+read-held : (A : SheetAnswer) (o : Outcome) → A ≡ answerOf o → A .verdict ≡ Accepted → A .sheet ≡ sheetOf (valueOf (A .sheet))
+unfolding answerOf
+read-held A (accepted v) e a = let s : A .sheet ≡ sheetOf v = ap (λ B. B .sheet) e in s ∙ ap sheetOf (sym (ap valueOf s ∙ held v))
+read-held A (rejected p) e a = let b : A .verdict ≡ Refused p = ap (λ B. B .verdict) e in cc
+
 -- what a call that reads bytes goes by
 module _ (s : List ℕ) (A : SheetAnswer) (e : A ≡ answerOf (readSheet s)) where
   pub on-refused : {X : Type 0} (q : Refusal) → A .verdict ≡ Refused q → (f : Refusal → X) (g : SheetValue → X)
@@ -78,6 +83,9 @@ module _ (s : List ℕ) (A : SheetAnswer) (e : A ≡ answerOf (readSheet s)) whe
       → A .verdict ≡ Refused q
       → (answer ≡ answerFor (onSheet (readSheet s) refuses g) place) × (place ≡ placeFor (onSheet (readSheet s) refuses g) place)
   result-refused {q} {answer} place g n r = rw (on-refused q r refuses g) (n, refl)
+
+  pub sheet-is : A .verdict ≡ Accepted → A .sheet ≡ sheetOf (valueOf (A .sheet))
+  sheet-is r = read-held A (readSheet s) e r
 
   pub stands : A .verdict ≡ Accepted → Standing (A .sheet)
   stands r = read-stands s A (readSheet s) refl e r

@@ -1,5 +1,6 @@
 pub mod Answers
 pub mod Demand
 pub mod Margins
+pub mod Recording
 pub mod Sizing
 pub mod Times

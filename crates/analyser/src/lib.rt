@@ -2,6 +2,7 @@
 // gives zeros and changes nothing.
 // What each call answers is written in specs/ here and in the crates below; nothing is assumed.
 pub mod margins;
+pub mod recording;
 pub mod sizing;
 
 use figures::FiguresAnswer;

@@ -76,7 +76,7 @@ fn load_of(a: u8, misses: u64, missed: u64) -> LoadUnits
 }
 
 // What a working set costs: the references and the kept retentions at the price d, the other swap costs at the price h.
-fn working_set(
+pub fn working_set(
     row: PriceRow,
     base: u64,
     kept: u64,
@@ -92,7 +92,7 @@ fn working_set(
 }
 
 // One of two numbers, by the kind.
-fn by_kind(kind: Kind, time: u64, space: u64) -> u64
+pub fn by_kind(kind: Kind, time: u64, space: u64) -> u64
     ensures { λ r. ⌜ r ≡ byKind kind time space ⌝ }
 {
     match kind {
@@ -114,7 +114,7 @@ fn mean(refs: usize, d: u16, wsocc: u64) -> u64
 }
 
 // The figures of a row from the sums over all buckets, over those that the row keeps, and over the end intervals that it keeps.
-fn row_figures(
+pub fn row_figures(
     kind: Kind,
     a: u8,
     row: PriceRow,

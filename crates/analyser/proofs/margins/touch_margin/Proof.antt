@@ -84,8 +84,10 @@ margin-requires c κs =
     let p = c .before .before in
     let u = p .before .before .before .before .before .before in
     let s = u .before in
+    let room =
     priced-room (s .args .t1) (s .pre .0) (s .args .row) _ (s .pre .1) (s .pre .2) _ (u .unreferenced-time .ensures) _ _ _ _
-    (p .before .retention-cost .ensures) (c .before .swap-cost .ensures) (p .priced .ensures) (c .priced2 .ensures)
+    (p .before .retention-cost .ensures) (c .before .swap-cost .ensures) (p .priced .ensures) (c .priced2 .ensures) in
+    omega (arith, room .0, room .1)
 
 returns-2 : tie.Need-returns-2
 returns-2 c =

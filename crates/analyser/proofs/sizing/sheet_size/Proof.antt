@@ -39,7 +39,7 @@ returns c =
     inl (
       refl,
       sized-last (valueOf (s .args .s)) (s .pre .valid) _ _ (a .all-figures .ensures) _ (l .loop-test .taken)
-          (rw (rows-counted (s .args .s) (s .pre)) (l .before .loop .inv)) (c .if1 .taken),
+          (rw (rows-counted (s .args .s) (s .pre)) (l .before .loop .inv)) (omega (arith, c .if1 .taken)),
     )
 
 loop-less : tie.Need-loop-less Inv-loop μ-loop

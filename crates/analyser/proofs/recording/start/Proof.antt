@@ -1,0 +1,54 @@
+-- `analyser::recording::start` meets its contract: what the sheet reads as decides. Assumes nothing.
+use mathlib.Core.Path.{_≡_, sym, ap, _∙_}
+use borrow.Author.Needs.{needs}
+use Rattle.model.specs.Sheets.{SheetValue}
+use Rattle.model.specs.declared.Verdict.the-variants.{Accepted}
+use Rattle.sheet.specs.Values.{valueOf}
+use Rattle.recorder.specs.Recorders.{recorderOf, headOf}
+use Rattle.recorder.specs.declared.Recorder.{Recorder}
+use Rattle.recorder.specs.declared.TouchAnswer.{TouchAnswer}
+use Rattle.analyser.specs.Recording.{noRecorder, startAnswer}
+use Rattle.analyser.proofs.Standings.{on-refused, on-accepted, stands, sheet-is}
+use Rattle.analyser.proofs.recording.start.Statement.{statement}
+use Rattle.analyser.proofs.recording.start.Tie as tie
+
+started : Recorder → TouchAnswer
+started R = record { verdict = Accepted; recorder = R }
+
+read-requires : tie.Need-read-requires
+read-requires c κs = search needs
+
+enum-known-verdict : tie.Need-enum-known-verdict
+enum-known-verdict c = search needs
+
+no-recorder-requires : tie.Need-no-recorder-requires
+no-recorder-requires c κs = search needs
+
+enum-told : tie.Need-enum-told
+enum-told c = search needs
+
+start-requires : tie.Need-start-requires
+start-requires c κs = search needs
+
+returns : tie.Need-returns
+unfolding startAnswer
+returns c =
+    let r = c .before .before .before .before .before in
+    c .no-recorder .ensures
+    ∙ sym (on-refused _ (r .read .result) (r .read .ensures) _ (cc) noRecorder (λ v. record { verdict = Accepted; recorder = recorderOf (headOf v) }))
+
+returns-2 : tie.Need-returns-2
+unfolding startAnswer started
+returns-2 c =
+    let r = c .before .before .before .before in
+    let A = r .read .result in
+    let e = r .read .ensures in
+    let a : A .verdict ≡ Accepted = cc in
+    let v = valueOf (A .sheet) in
+    ap started (c .start .ensures v (stands _ A e a .valid) (sheet-is _ A e a))
+    ∙ sym (on-accepted _ A e a noRecorder (λ w. record { verdict = Accepted; recorder = recorderOf (headOf w) }))
+
+pub start-spec : {M : Type 1} → statement M
+start-spec =
+    tie.close
+    (tie.spec read-requires enum-known-verdict no-recorder-requires enum-told start-requires returns returns-2)

@@ -1,0 +1,59 @@
+// The recorder's calls: start from a sheet's bytes, take references, read the figures of a row.
+// What a recorder stands for is written in crate `recorder`; nothing is assumed.
+use figures::FiguresAnswer;
+use model::Refusal;
+use model::Verdict;
+use recorder::BulkAnswer;
+use recorder::Recorder;
+use recorder::TouchAnswer;
+ghost use mathlib.Core.Path.{_≡_};
+ghost use Rattle.model.specs.Sheets.{SheetValue, Valid};
+ghost use Rattle.recorder.specs.Recorders.{recorderOf, bulkOf, Touched, Figured};
+ghost use Rattle.analyser.specs.Recording.{noRecorder, startAnswer};
+
+// No recorder, and why.
+fn no_recorder(why: Refusal) -> TouchAnswer
+    ensures { λ r. ⌜ r ≡ noRecorder why ⌝ }
+{
+    TouchAnswer {
+        verdict: Verdict::Refused(why),
+        recorder: Recorder::empty(),
+    }
+}
+
+// A recorder from a sheet's kind, a, sizes and rows, with no references; refused with 1 to 6, and then with no segments and no rows.
+pub fn start(bytes: &[u8]) -> TouchAnswer
+    ensures { λ r. ⌜ r ≡ startAnswer (now (bytes .entry)) ⌝ }
+{
+    let answer = sheet::reading::read(bytes);
+    let verdict = answer.verdict;
+    let s = answer.sheet;
+    match verdict {
+        Verdict::Refused(why) => no_recorder(why),
+        Verdict::Accepted => TouchAnswer {
+            verdict: Verdict::Accepted,
+            recorder: Recorder::start(s),
+        },
+    }
+}
+
+// Takes one reference; refused with 4, then 13, the recorder comes back as it was.
+pub fn touch(recorder: Recorder, segment: usize) -> TouchAnswer
+    ensures { λ r. ⌜ Touched recorder segment r ⌝ }
+{
+    recorder.touch(segment)
+}
+
+// The figures of a row at this moment; refused with 7.
+pub fn figures(recorder: Recorder, row: usize) -> FiguresAnswer
+    ensures { λ r. ⌜ Figured recorder row r ⌝ }
+{
+    recorder.figures(row)
+}
+
+// Takes references one after the other and stops at the first refusal.
+pub fn touch_all(recorder: Recorder, refs: &[u16]) -> BulkAnswer
+    ensures { λ r. ⌜ ((v : SheetValue) → Valid v → recorder ≡ recorderOf v → r ≡ bulkOf v 0 (now (refs .entry))) ⌝ }
+{
+    recorder.touch_all(refs)
+}

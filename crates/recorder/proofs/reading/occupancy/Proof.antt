@@ -1,0 +1,21 @@
+-- `recorder::reading::occupancy` meets its contract. Assumes nothing.
+use mathlib.Core.Path.{_∙_}
+use borrow.Author.Needs.{needs}
+use Rattle.recorder.proofs.reading.occupancy.Statement.{statement}
+use Rattle.recorder.proofs.reading.occupancy.Tie as tie
+
+working-set-requires : tie.Need-working-set-requires
+working-set-requires c κs = search needs
+
+working-set-requires-2 : tie.Need-working-set-requires-2
+working-set-requires-2 c κs = search needs
+
+by-kind-requires : tie.Need-by-kind-requires
+by-kind-requires c κs = search needs
+
+returns : tie.Need-returns
+returns c = c .by-kind .ensures ∙ rw (c .before .working-set2 .ensures, c .before .before .working-set .ensures)
+
+pub occupancy-spec : {M : Type 1} → statement M
+occupancy-spec =
+    tie.close (tie.spec working-set-requires working-set-requires-2 by-kind-requires returns)

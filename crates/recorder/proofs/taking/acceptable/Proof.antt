@@ -1,0 +1,71 @@
+-- `recorder::taking::acceptable` meets its contract. The loop's invariant: the references passed can be taken. The measure is what is left
+-- of the references. Assumes nothing.
+use Prim.Native.Nat.{_-_}
+use native.Mathlib.Omega.{arith}
+use borrow.Author.Needs.{needs}
+use lib.ListN.{length}
+use Rattle.recorder.proofs.Bulk.{taken-few, takable-more}
+use Rattle.recorder.specs.Guards.{Takable}
+use Rattle.recorder.proofs.taking.acceptable.Statement.{statement}
+use Rattle.recorder.proofs.taking.acceptable.Tie as tie
+
+abbrev Inv-loop : tie.InvT-loop
+Inv-loop refs segs count n₀ n =
+    Takable segs count refs n
+
+abbrev μ-loop : tie.MeasureT-loop
+μ-loop refs segs count n₀ n =
+    length refs - n
+
+loop-holds : tie.Need-loop-holds Inv-loop μ-loop
+loop-holds c = record { within = omega arith; segments = λ t lt. absurd (omega arith); room = λ t lt. absurd (omega arith) }
+
+mul-if1 : tie.Need-mul-if1 Inv-loop μ-loop
+mul-if1 c = search needs
+
+shared-slice-read-if1 : tie.Need-shared-slice-read-if1 Inv-loop μ-loop
+shared-slice-read-if1 c = search needs
+
+cast-if1 : tie.Need-cast-if1 Inv-loop μ-loop
+cast-if1 c = omega (arith, c .shared-slice-known .given (c .before .before .loop .n))
+
+returns : tie.Need-returns Inv-loop μ-loop
+returns c = (c .before .before .before .loop .inv, λ lt segment. absurd (omega arith))
+
+sub-if2 : tie.Need-sub-if2 Inv-loop μ-loop
+sub-if2 c = taken-few _ _ _ _ (c .before .before .before .loop .inv)
+
+returns-2 : tie.Need-returns-2 Inv-loop μ-loop
+returns-2 c = (c .before .before .before .before .loop .inv, λ lt segment. omega arith)
+
+add-n : tie.Need-add-n Inv-loop μ-loop
+add-n c = search needs
+
+loop-less : tie.Need-loop-less Inv-loop μ-loop
+loop-less c = search needs
+
+loop-again : tie.Need-loop-again Inv-loop μ-loop
+loop-again c =
+    let t = c .before .before .before in
+    takable-more _ _ _ _ (t .before .loop .inv) (t .loop-test .taken) (c .before .if1 .left) (omega arith)
+
+returns-3 : tie.Need-returns-3 Inv-loop μ-loop
+returns-3 c = (c .before .loop .inv, λ lt segment. absurd (omega arith))
+
+pub acceptable-spec : {M : Type 1} → statement M
+acceptable-spec =
+    tie.close
+    (tie.spec
+    Inv-loop
+    μ-loop
+    loop-holds
+    mul-if1
+    shared-slice-read-if1
+    cast-if1
+    returns
+    sub-if2
+    returns-2
+    add-n
+    loop-less
+    loop-again
+    returns-3)

@@ -1,0 +1,261 @@
+-- `recorder::taking::take_first` meets its contract. The loop's invariant: what the locals hold stands for the sheet with the references
+-- passed. The measure is what is left of the n references. Assumes nothing.
+use Prim.Native.Nat.{ℕ, _+_, _-_, _≤_, _<_, min}
+use mathlib.Core.List.{List}
+use mathlib.Core.Path.{_≡_, refl, sym, ap, _∙_}
+use native.Mathlib.Omega.{arith}
+use borrow.Author.Needs.{needs}
+use lib.ListN.{length, take, getD}
+use lib.Seq.{length-take-le}
+use Rattle.model.specs.Sheets.{SheetValue, Valid}
+use Rattle.model.specs.Sheets.{mostSegs, mostRows, mostRefs}
+use Rattle.figures.specs.Pass.{rowsOf}
+use Rattle.figures.specs.declared.Bucket.{Bucket}
+use Rattle.recorder.proofs.Bulk.{takable-of, takable-valid, appended-more, appended-none}
+use Rattle.recorder.proofs.Stepping.{clamped-rows, stepped-stands}
+use Rattle.recorder.specs.Guards.{appended}
+use Rattle.recorder.specs.Recorders.{recorderOf}
+use Rattle.recorder.specs.declared.Recorder.{Recorder}
+use Rattle.recorder.proofs.taking.take_first.Statement.{statement}
+use Rattle.recorder.proofs.taking.take_first.Tie as tie
+
+-- the recorder with these references, table of last touches, buckets, Q and V
+abbrev with-these : Recorder → ℕ → List ℕ → List Bucket → ℕ → ℕ → Recorder
+with-these R count last buckets cost volume =
+    record {
+      kind = R .kind;
+      a = R .a;
+      segs = R .segs;
+      sizes = R .sizes;
+      rows = R .rows;
+      prices = R .prices;
+      refs = count;
+      last = last;
+      buckets = buckets;
+      cost = cost;
+      volume = volume;
+    }
+
+abbrev Inv-loop : tie.InvT-loop
+Inv-loop recorder refs n rows prices h d kind a sizes last₀ buckets₀ cost₀ volume₀ count₀ t₀ last buckets cost volume count t =
+    (t ≤ n) × (count ≡ recorder .refs + t)
+    × ((v : SheetValue) → Valid v → recorder ≡ recorderOf v
+    → with-these recorder count last buckets cost volume ≡ recorderOf (appended v (take t refs)))
+
+abbrev μ-loop : tie.MeasureT-loop
+μ-loop recorder refs n rows prices h d kind a sizes last₀ buckets₀ cost₀ volume₀ count₀ t₀ last buckets cost volume count t =
+    n - t
+
+-- places on the way: the function's entry and the split prices, from a turn of the loop
+abbrev entry : tie.In-loop Inv-loop μ-loop → tie.Start Inv-loop μ-loop
+entry c = c .before .before .before .before .before .before .before .before .before .before .before
+
+abbrev apart : tie.In-loop Inv-loop μ-loop → tie.After-split Inv-loop μ-loop
+apart c = c .before .before .before .before .before .before .before
+
+-- there are 64 prices of each kind
+h-apart : (c : tie.After-split Inv-loop μ-loop) → length (c .split .result .h) ≡ 64
+h-apart c = search needs
+
+d-apart : (c : tie.After-split Inv-loop μ-loop) → length (c .split .result .d) ≡ 64
+d-apart c = search needs
+
+-- and at most as many rows
+few-rows : (c : tie.After-split Inv-loop μ-loop) → c .before .before .least .result ≤ 64
+few-rows c = omega (arith, c .before .before .least .ensures)
+
+-- their rows are the recorder's
+rows-are : (c : tie.After-split Inv-loop μ-loop)
+    → rowsOf (take (c .before .before .least .result) (c .split .result .h)) (take (c .before .before .least .result) (c .split .result .d))
+    ≡ take (min (c .before .before .before .before .args .recorder .rows) mostRows)
+    (c .before .before .before .before .args .recorder .prices)
+rows-are c =
+    clamped-rows (c .before .before .before .before .args .recorder) (c .split .result) (c .split .ensures) _
+    (c .before .before .least .ensures)
+
+-- the touched segment, in a turn of the loop
+segment-within : (c : tie.In-loop Inv-loop μ-loop)
+    → getD (entry c .args .refs .now) (c .before .loop .t) 0 < min (entry c .args .recorder .segs) mostSegs
+segment-within c = entry c .pre .segments (c .before .loop .t) (c .loop-test .taken)
+
+room : (c : tie.In-loop Inv-loop μ-loop) → c .before .loop .count < mostRefs
+room c = omega (arith, c .before .loop .inv .1, entry c .pre .room (c .before .loop .t) (c .loop-test .taken))
+
+least-requires : tie.Need-least-requires Inv-loop μ-loop
+least-requires c κs = search needs
+
+split-requires : tie.Need-split-requires Inv-loop μ-loop
+split-requires c κs = search needs
+
+loop-holds : tie.Need-loop-holds Inv-loop μ-loop
+loop-holds c = (omega arith, omega arith, λ v valid e. e ∙ ap recorderOf (sym (appended-none v)))
+
+mul-i : tie.Need-mul-i Inv-loop μ-loop
+mul-i c = omega (arith, entry c .pre .within)
+
+shared-slice-read-i : tie.Need-shared-slice-read-i Inv-loop μ-loop
+shared-slice-read-i c = omega (arith, entry (c .before) .pre .within)
+
+cast-i : tie.Need-cast-i Inv-loop μ-loop
+cast-i c = omega (arith, segment-within (c .before))
+
+mul-z : tie.Need-mul-z Inv-loop μ-loop
+mul-z c = omega (arith, segment-within (c .before))
+
+array-read-z : tie.Need-array-read-z Inv-loop μ-loop
+array-read-z c = omega (arith, segment-within (c .before))
+
+array-share-prefix-h : tie.Need-array-share-prefix-h Inv-loop μ-loop
+array-share-prefix-h c = omega (arith, h-apart (apart (c .before)), few-rows (apart (c .before)))
+
+slice-aggregate-touch-of : tie.Need-slice-aggregate-touch-of Inv-loop μ-loop
+slice-aggregate-touch-of c = sym (length-take-le _ _ (array-share-prefix-h (c .before)))
+
+array-share-prefix-d : tie.Need-array-share-prefix-d Inv-loop μ-loop
+array-share-prefix-d c = omega (arith, d-apart (apart (c .before .before)), few-rows (apart (c .before .before)))
+
+slice-aggregate-touch-of-2 : tie.Need-slice-aggregate-touch-of-2 Inv-loop μ-loop
+slice-aggregate-touch-of-2 c = sym (length-take-le _ _ (array-share-prefix-d (c .before)))
+
+mul-touch-of : tie.Need-mul-touch-of Inv-loop μ-loop
+mul-touch-of c = omega (arith, segment-within (c .before .before .before))
+
+array-read-touch-of : tie.Need-array-read-touch-of Inv-loop μ-loop
+array-read-touch-of c = omega (arith, segment-within (c .before .before .before))
+
+cast-touch-of : tie.Need-cast-touch-of Inv-loop μ-loop
+cast-touch-of c = omega (arith, room (c .before .before .before))
+
+touch-of-requires : tie.Need-touch-of-requires Inv-loop μ-loop
+touch-of-requires c κs = let h = slice-aggregate-touch-of (c .before) in
+    let d = slice-aggregate-touch-of-2 c in
+    record { equal = sym h ∙ d; few = omega (arith, h, few-rows (apart (c .before .before .before))) }
+
+mul-b : tie.Need-mul-b Inv-loop μ-loop
+mul-b c = search needs
+
+array-copy-out-b : tie.Need-array-copy-out-b Inv-loop μ-loop
+array-copy-out-b c = search needs
+
+file-requires : tie.Need-file-requires Inv-loop μ-loop
+file-requires c κs = search needs
+
+mul-buckets : tie.Need-mul-buckets Inv-loop μ-loop
+mul-buckets c = search needs
+
+array-set-from-buckets : tie.Need-array-set-from-buckets Inv-loop μ-loop
+array-set-from-buckets c = search needs
+
+add-count : tie.Need-add-count Inv-loop μ-loop
+add-count c = omega (arith, room (c .before .before .before .before .before .before))
+
+cast-last : tie.Need-cast-last Inv-loop μ-loop
+cast-last c = omega (arith, room (c .before .before .before .before .before .before))
+
+mul-last : tie.Need-mul-last Inv-loop μ-loop
+mul-last c = omega (arith, segment-within (c .before .before .before .before .before .before))
+
+array-write-last : tie.Need-array-write-last Inv-loop μ-loop
+array-write-last c = omega (arith, segment-within (c .before .before .before .before .before .before))
+
+unit-cost-requires : tie.Need-unit-cost-requires Inv-loop μ-loop
+unit-cost-requires c κs = search needs
+
+more-requires : tie.Need-more-requires Inv-loop μ-loop
+more-requires c κs = search needs
+
+wide-requires : tie.Need-wide-requires Inv-loop μ-loop
+wide-requires c κs = search needs
+
+more-requires-2 : tie.Need-more-requires-2 Inv-loop μ-loop
+more-requires-2 c κs = search needs
+
+add-t : tie.Need-add-t Inv-loop μ-loop
+add-t c =
+    let t = c .before .before .before .before .before .before .before .before .before .before in
+    omega (arith, t .loop-test .taken, entry t .fits)
+
+loop-less : tie.Need-loop-less Inv-loop μ-loop
+loop-less c = search needs
+
+loop-again : tie.Need-loop-again Inv-loop μ-loop
+loop-again c =
+    let t = c .before .before .before .before .before .before .before .before .before .before in
+    let s = entry t in
+    let p = apart t in
+    let x = c .before .before .before .before .before .before in
+    let l = t .before .loop in
+    let R = s .args .recorder in
+    let refs = s .args .refs .now in (
+      omega (arith, t .loop-test .taken),
+      omega (arith, l .inv .1),
+      λ v valid e.
+          let can = takable-of R refs (s .args .n) (s .pre) v valid e in
+          stepped-stands (with-these R (l .count) (l .last) (l .buckets) (l .cost) (l .volume)) _ (getD refs (l .t) 0) (segment-within t) (room t)
+          (record {
+            hs = take (p .before .before .least .result) (p .split .result .h);
+            ds = take (p .before .before .least .result) (p .split .result .d);
+            touch = x .touch-of .result;
+            blank = _;
+            bucket = c .before .before .before .before .file .result;
+            unit = c .before .before .before .unit-cost .result;
+            cost = c .before .before .more .result;
+            volume = c .more2 .result;
+            rows-are = rows-are p;
+            limited = x .touch-of .ensures .0;
+            touch-is = x .touch-of .ensures .1;
+            bucket-is = c .before .before .before .before .file .ensures;
+            unit-is = c .before .before .before .unit-cost .ensures;
+            cost-is = c .before .before .more .ensures;
+            volume-is = rw (c .before .wide .ensures) at (c .more2 .ensures);
+            next-is = refl;
+          })
+          (appended v (take (l .t) refs)) (takable-valid v valid refs (s .args .n) can (l .t) (l .inv .0)) (l .inv .2 v valid e)
+          ∙ ap recorderOf (appended-more v refs (l .t) (omega (arith, t .loop-test .taken, s .pre .within))),
+    )
+
+returns : tie.Need-returns Inv-loop μ-loop
+returns c =
+    let s = c .before .before .before .before .before .before .before .before .before .before .before in
+    let all : c .before .loop .t ≡ s .args .n = omega (arith, c .loop-test .left, c .before .loop .inv .0) in
+    λ v valid e. c .before .loop .inv .2 v valid e ∙ rw all refl
+
+pub take-first-spec : {M : Type 1} → statement M
+take-first-spec =
+    tie.close
+    (tie.spec
+    Inv-loop
+    μ-loop
+    least-requires
+    split-requires
+    loop-holds
+    mul-i
+    shared-slice-read-i
+    cast-i
+    mul-z
+    array-read-z
+    array-share-prefix-h
+    slice-aggregate-touch-of
+    array-share-prefix-d
+    slice-aggregate-touch-of-2
+    mul-touch-of
+    array-read-touch-of
+    cast-touch-of
+    touch-of-requires
+    mul-b
+    array-copy-out-b
+    file-requires
+    mul-buckets
+    array-set-from-buckets
+    add-count
+    cast-last
+    mul-last
+    array-write-last
+    unit-cost-requires
+    more-requires
+    wide-requires
+    more-requires-2
+    add-t
+    loop-less
+    loop-again
+    returns)

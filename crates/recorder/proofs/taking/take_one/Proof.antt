@@ -1,0 +1,169 @@
+-- `recorder::taking::take_one` meets its contract: it makes one step of the pass. Assumes nothing.
+use Prim.Native.Nat.{_≤_, min}
+use mathlib.Core.Path.{_≡_, refl, sym, _∙_}
+use native.Mathlib.Omega.{arith}
+use borrow.Author.Needs.{needs}
+use lib.ListN.{length, take}
+use lib.Seq.{length-take-le}
+use Rattle.model.specs.Sheets.{mostRows}
+use Rattle.figures.specs.Pass.{rowsOf}
+use Rattle.recorder.proofs.Stepping.{clamped-rows, stepped-stands}
+use Rattle.recorder.proofs.taking.take_one.Statement.{statement}
+use Rattle.recorder.proofs.taking.take_one.Tie as tie
+
+-- there are 64 prices of each kind
+h-apart : (c : tie.After-split) → length (c .split .result .h) ≡ 64
+h-apart c = search needs
+
+d-apart : (c : tie.After-split) → length (c .split .result .d) ≡ 64
+d-apart c = search needs
+
+-- and at most as many rows
+few-rows : (c : tie.After-split) → c .before .before .least .result ≤ 64
+few-rows c = omega (arith, c .before .before .least .ensures)
+
+-- their rows are the recorder's
+rows-are : (c : tie.After-split)
+    → rowsOf (take (c .before .before .least .result) (c .split .result .h)) (take (c .before .before .least .result) (c .split .result .d))
+    ≡ take (min (c .before .before .before .args .t1 .rows) mostRows)
+    (c .before .before .before .args .t1 .prices)
+rows-are c =
+    clamped-rows (c .before .before .before .args .t1) (c .split .result) (c .split .ensures) _
+    (c .before .before .least .ensures)
+
+least-requires : tie.Need-least-requires
+least-requires c κs = search needs
+
+split-requires : tie.Need-split-requires
+split-requires c κs = search needs
+
+mul-z : tie.Need-mul-z
+mul-z c = search needs
+
+element-copy-out-z : tie.Need-element-copy-out-z
+element-copy-out-z c = search needs
+
+array-share-prefix-h : tie.Need-array-share-prefix-h
+array-share-prefix-h c = omega (arith, h-apart (c .before .before .before), few-rows (c .before .before .before))
+
+slice-aggregate-touch-of : tie.Need-slice-aggregate-touch-of
+slice-aggregate-touch-of c = sym (length-take-le _ _ (array-share-prefix-h (c .before)))
+
+array-share-prefix-d : tie.Need-array-share-prefix-d
+array-share-prefix-d c = omega (arith, d-apart (c .before .before .before .before), few-rows (c .before .before .before .before))
+
+slice-aggregate-touch-of-2 : tie.Need-slice-aggregate-touch-of-2
+slice-aggregate-touch-of-2 c = sym (length-take-le _ _ (array-share-prefix-d (c .before)))
+
+mul-touch-of : tie.Need-mul-touch-of
+mul-touch-of c = search needs
+
+element-copy-out-touch-of : tie.Need-element-copy-out-touch-of
+element-copy-out-touch-of c = search needs
+
+cast-touch-of : tie.Need-cast-touch-of
+cast-touch-of c = search needs
+
+touch-of-requires : tie.Need-touch-of-requires
+touch-of-requires c κs = let h = slice-aggregate-touch-of (c .before .before) in
+    let d = slice-aggregate-touch-of-2 (c .before) in
+    record { equal = sym h ∙ d; few = omega (arith, h, few-rows (c .before .before .before .before .before .before)) }
+
+mul-b : tie.Need-mul-b
+mul-b c = search needs
+
+element-copy-out-b : tie.Need-element-copy-out-b
+element-copy-out-b c = search needs
+
+file-requires : tie.Need-file-requires
+file-requires c κs = search needs
+
+mul-t15 : tie.Need-mul-t15
+mul-t15 c = search needs
+
+element-set-from-recorder : tie.Need-element-set-from-recorder
+element-set-from-recorder c = search needs
+
+add-recorder : tie.Need-add-recorder
+add-recorder c = search needs
+
+cast-recorder : tie.Need-cast-recorder
+cast-recorder c = search needs
+
+mul-recorder : tie.Need-mul-recorder
+mul-recorder c = search needs
+
+element-write-recorder : tie.Need-element-write-recorder
+element-write-recorder c = search needs
+
+add-recorder-2 : tie.Need-add-recorder-2
+add-recorder-2 c = search needs
+
+unit-cost-requires : tie.Need-unit-cost-requires
+unit-cost-requires c κs = search needs
+
+more-requires : tie.Need-more-requires
+more-requires c κs = search needs
+
+wide-requires : tie.Need-wide-requires
+wide-requires c κs = search needs
+
+more-requires-2 : tie.Need-more-requires-2
+more-requires-2 c κs = search needs
+
+returns : tie.Need-returns
+returns c =
+    let s = c .before .before .before .before .before .before .before .before .before .before .before .before .before .before .before .before in
+    let p = c .before .before .before .before .before .before .before .before .before .before .before .before .before in
+    let x = c .before .before .before .before .before .before in
+    stepped-stands (s .args .t1) _ (s .args .segment) (s .pre .0) (s .pre .1)
+    (record {
+      hs = take (p .before .before .least .result) (p .split .result .h);
+      ds = take (p .before .before .least .result) (p .split .result .d);
+      touch = x .touch-of .result;
+      blank = _;
+      bucket = c .before .before .before .before .file .result;
+      unit = c .before .before .before .unit-cost .result;
+      cost = c .before .before .more .result;
+      volume = c .more2 .result;
+      rows-are = rows-are p;
+      limited = x .touch-of .ensures .0;
+      touch-is = x .touch-of .ensures .1;
+      bucket-is = c .before .before .before .before .file .ensures;
+      unit-is = c .before .before .before .unit-cost .ensures;
+      cost-is = c .before .before .more .ensures;
+      volume-is = rw (c .before .wide .ensures) at (c .more2 .ensures);
+      next-is = refl;
+    })
+
+pub take-one-spec : {M : Type 1} → statement M
+take-one-spec =
+    tie.close
+    (tie.spec
+    least-requires
+    split-requires
+    mul-z
+    element-copy-out-z
+    array-share-prefix-h
+    slice-aggregate-touch-of
+    array-share-prefix-d
+    slice-aggregate-touch-of-2
+    mul-touch-of
+    element-copy-out-touch-of
+    cast-touch-of
+    touch-of-requires
+    mul-b
+    element-copy-out-b
+    file-requires
+    mul-t15
+    element-set-from-recorder
+    add-recorder
+    cast-recorder
+    mul-recorder
+    element-write-recorder
+    add-recorder-2
+    unit-cost-requires
+    more-requires
+    wide-requires
+    more-requires-2
+    returns)

@@ -1,0 +1,208 @@
+// Sums and tests with which a recorder put together by hand, with any numbers in it, makes no sum exceed 64 bits. A recorder that stands
+// for a sheet passes every test. Nothing is assumed.
+use figures::Bucket;
+use figures::pass::Touch;
+ghost use mathlib.Core.Path.{_≡_};
+ghost use Prim.Native.Nat.{ℕ, _+_, _*_, _≤_, _<_, _^_, min};
+ghost use lib.ListN.{length};
+ghost use Rattle.model.specs.Sheets.{mostRefs, mostSegs};
+ghost use Rattle.figures.specs.Pass.{rowsOf, Ascending, Paired, Limited, Within, withTouch};
+ghost use Rattle.figures.specs.Sweep.{added, summed, Holds, Parts};
+ghost use Rattle.recorder.specs.Guards.{Tells, InOrder};
+
+// What a sum holds at most before something is added to it.
+const ROOM: u64 = 1_152_921_504_606_846_976;
+
+// The largest size of a segment, a number that no retention exceeds, the largest swap cost; and the last two times the largest size.
+const SIZE: u64 = 4_095;
+
+const RETENTION: u64 = 8_386_560;
+
+const SWAP: u64 = 1_044_226;
+
+const RETENTIONZ: u64 = 34_342_963_200;
+
+const SWAPZ: u64 = 4_276_105_470;
+
+// The smaller of two numbers.
+pub fn least(x: usize, y: usize) -> usize
+    ensures { λ r. ⌜ r ≡ min x y ⌝ }
+{
+    if x < y { x } else { y }
+}
+
+// A size as a wider number.
+pub fn wide(x: u16) -> u64
+    ensures { λ r. ⌜ r ≡ x ⌝ }
+{
+    x as u64
+}
+
+// A sum with one more number, where both leave room; else as it was.
+pub fn more(sum: u64, x: u64) -> u64
+    ensures { λ r. ⌜ (sum ≤ 2 ^ 60 → x ≤ 2 ^ 60 → r ≡ sum + x) ⌝ }
+{
+    if ROOM < sum {
+        return sum;
+    }
+    if ROOM < x {
+        return sum;
+    }
+    sum + x
+}
+
+// Whether every sum of a bucket leaves room.
+pub fn has_room(b: Bucket) -> bool
+    ensures { λ r. ⌜ Tells r (Within b (2 ^ 60)) ⌝ }
+{
+    if ROOM < b.count {
+        return false;
+    }
+    if ROOM < b.volume {
+        return false;
+    }
+    if ROOM < b.retention {
+        return false;
+    }
+    if ROOM < b.swap {
+        return false;
+    }
+    if ROOM < b.retentionz {
+        return false;
+    }
+    if ROOM < b.swapz {
+        return false;
+    }
+    true
+}
+
+// A bucket with one more touch, where its sums leave room; else as it was.
+pub fn file(b: Bucket, x: Touch) -> Bucket
+    requires { ⌜ Limited x ⌝ }
+    ensures { λ r. ⌜ (Within b (2 ^ 60) → r ≡ withTouch b x) ⌝ }
+{
+    if has_room(b) {
+        return figures::pass::add_touch(b, x);
+    }
+    b
+}
+
+// Two buckets, each sum added, where the sums leave room; else the first.
+fn join(x: Bucket, y: Bucket) -> Bucket
+    ensures { λ r. ⌜ (Within x (2 ^ 60) → Within y (2 ^ 60) → r ≡ added x y) ⌝ }
+{
+    Bucket {
+        count: more(x.count, y.count),
+        volume: more(x.volume, y.volume),
+        retention: more(x.retention, y.retention),
+        swap: more(x.swap, y.swap),
+        retentionz: more(x.retentionz, y.retentionz),
+        swapz: more(x.swapz, y.swapz),
+    }
+}
+
+// The first n buckets, added.
+pub fn sum_first(buckets: [Bucket; 65], n: usize) -> Bucket
+    requires { ⌜ n ≤ 65 ⌝ }
+    ensures { λ r. ⌜ (((m : ℕ) → m ≤ n → Holds mostRefs (summed buckets m)) → r ≡ summed buckets n) ⌝ }
+{
+    let mut all = Bucket {
+        count: 0,
+        volume: 0,
+        retention: 0,
+        swap: 0,
+        retentionz: 0,
+        swapz: 0,
+    };
+    for k in 0..n {
+        let b = buckets[k];
+        all = join(all, b);
+    }
+    all
+}
+
+// Whether the threshold h/d exceeds p/q.
+fn exceeds(p: u16, q: u16, h: u16, d: u16) -> bool
+    ensures { λ r. ⌜ Tells r (p * d < h * q) ⌝ }
+{
+    if (h as u64) * (q as u64) <= (p as u64) * (d as u64) {
+        return false;
+    }
+    true
+}
+
+// Whether row i has a price of memory and its threshold exceeds that of the row before.
+fn in_order(hs: &[u16], ds: &[u16], i: usize) -> bool
+    requires { ⌜ Paired (now hs) (now ds) × (i < length (now hs)) ⌝ }
+    ensures { λ r. ⌜ Tells r (InOrder (rowsOf (now (hs .entry)) (now (ds .entry))) i) ⌝ }
+{
+    if ds[i] == 0 {
+        return false;
+    }
+    if i == 0 {
+        return true;
+    }
+    exceeds(hs[i - 1], ds[i - 1], hs[i], ds[i])
+}
+
+// Whether the thresholds ascend.
+pub fn ascends(hs: &[u16], ds: &[u16]) -> bool
+    requires { ⌜ Paired (now hs) (now ds) ⌝ }
+    ensures { λ r. ⌜ Tells r (Ascending (rowsOf (now (hs .entry)) (now (ds .entry)))) ⌝ }
+{
+    let mut i = 0;
+    while i < hs.len() {
+        if in_order(hs, ds, i) {
+            i += 1;
+        } else {
+            return false;
+        }
+    }
+    true
+}
+
+// Whether a bucket can be one of n items.
+pub fn holds(b: Bucket, n: u64) -> bool
+    requires { ⌜ n ≤ mostRefs ⌝ }
+    ensures { λ r. ⌜ Tells r (Holds n b) ⌝ }
+{
+    if n < b.count {
+        return false;
+    }
+    if n * SIZE < b.volume {
+        return false;
+    }
+    if n * RETENTION < b.retention {
+        return false;
+    }
+    if n * SWAP < b.swap {
+        return false;
+    }
+    if n * RETENTIONZ < b.retentionz {
+        return false;
+    }
+    if n * SWAPZ < b.swapz {
+        return false;
+    }
+    true
+}
+
+// Whether what is kept is within the whole.
+pub fn within(all: Bucket, kept: Bucket, ends: Bucket) -> bool
+    requires { ⌜ Holds mostRefs kept × Holds mostSegs ends ⌝ }
+    ensures { λ r. ⌜ Tells r (Parts all kept ends) ⌝ }
+{
+    if all.count < kept.count {
+        return false;
+    }
+    if all.volume < kept.volume {
+        return false;
+    }
+    if all.swap < kept.swap + ends.swap {
+        return false;
+    }
+    if all.swapz < kept.swapz + ends.swapz {
+        return false;
+    }
+    true
+}

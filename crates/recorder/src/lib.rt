@@ -1,0 +1,154 @@
+// The recorder: a sheet's head that takes references one by one, and hands out the figures of a row at any moment.
+// What a recorder stands for is written in specs/Recorders.antt; nothing is assumed.
+pub mod guards;
+pub mod reading;
+pub mod taking;
+
+use figures::Bucket;
+use figures::FiguresAnswer;
+use model::Kind;
+use model::PriceRow;
+use model::Refusal;
+use model::RowFigures;
+use model::Verdict;
+use sheet::Sheet;
+ghost use mathlib.Core.Path.{_≡_};
+ghost use Rattle.model.specs.Sheets.{SheetValue, Valid};
+ghost use Rattle.sheet.specs.Values.{sheetOf};
+ghost use Rattle.recorder.specs.Recorders.{recorderOf, emptyRecorder, headOf, Touched, Figured, bulkOf};
+
+// A recorder by value: kind, a, sizes and rows of its sheet, the references taken, the table of last touches, the buckets, Q and V.
+pub struct Recorder {
+    pub kind: Kind,
+    pub a: u8,
+    pub segs: usize,
+    pub sizes: [u16; 256],
+    pub rows: usize,
+    pub prices: [PriceRow; 64],
+    pub refs: usize,
+    pub last: [u16; 256],
+    pub buckets: [Bucket; 65],
+    pub cost: u64,
+    pub volume: u64,
+}
+
+// What a touch answers: the recorder with the reference taken, or the refusal and the recorder as it was.
+pub struct TouchAnswer {
+    pub verdict: Verdict,
+    pub recorder: Recorder,
+}
+
+// What taking several references answers: how many were taken, the refusal of the next one if any, and the recorder.
+pub struct BulkAnswer {
+    pub verdict: Verdict,
+    pub taken: usize,
+    pub recorder: Recorder,
+}
+
+impl Recorder {
+    // The most segments.
+    pub const MAX_SEGS: usize = 256;
+    // The most rows.
+    pub const MAX_ROWS: usize = 64;
+    // The most references.
+    pub const MAX_REFS: usize = 2_048;
+
+    // No segments and no rows: what a refused start hands back.
+    pub fn empty() -> Recorder
+        ensures { λ r. ⌜ r ≡ emptyRecorder ⌝ }
+    {
+        let last = figures::pass::untouched();
+        let buckets = figures::pass::empty_buckets();
+        Recorder {
+            kind: Kind::Time,
+            a: 0,
+            segs: 0,
+            sizes: [0u16; 256],
+            rows: 0,
+            prices: [PriceRow { h: 0, d: 0 }; 64],
+            refs: 0,
+            last: last,
+            buckets: buckets,
+            cost: 0,
+            volume: 0,
+        }
+    }
+
+    // From a sheet's kind, a, sizes and rows, with no references.
+    pub fn start(sheet: Sheet) -> Recorder
+        ensures { λ r. ⌜ ((v : SheetValue) → Valid v → sheet ≡ sheetOf v → r ≡ recorderOf (headOf v)) ⌝ }
+    {
+        let kind = sheet.kind;
+        let sizes = sheet.sizes;
+        let prices = sheet.prices;
+        let last = figures::pass::untouched();
+        let buckets = figures::pass::empty_buckets();
+        Recorder {
+            kind: kind,
+            a: sheet.a,
+            segs: sheet.segs,
+            sizes: sizes,
+            rows: sheet.rows,
+            prices: prices,
+            refs: 0,
+            last: last,
+            buckets: buckets,
+            cost: 0,
+            volume: 0,
+        }
+    }
+
+    // Takes one reference: 4 for a segment not below segs, then 13 where there are 2,048 references.
+    pub fn touch(self, segment: usize) -> TouchAnswer
+        ensures { λ r. ⌜ Touched self segment r ⌝ }
+    {
+        let segs = guards::least(self.segs, Recorder::MAX_SEGS);
+        if segs <= segment {
+            return TouchAnswer {
+                verdict: Verdict::Refused(Refusal::OutOfRange),
+                recorder: self,
+            };
+        }
+        if Recorder::MAX_REFS <= self.refs {
+            return TouchAnswer {
+                verdict: Verdict::Refused(Refusal::RecorderFull),
+                recorder: self,
+            };
+        }
+        TouchAnswer {
+            verdict: Verdict::Accepted,
+            recorder: taking::take_one(self, segment),
+        }
+    }
+
+    // Takes references one after the other and stops at the first refusal.
+    pub fn touch_all(self, refs: &[u16]) -> BulkAnswer
+        ensures { λ r. ⌜ ((v : SheetValue) → Valid v → self ≡ recorderOf v → r ≡ bulkOf v 0 (now (refs .entry))) ⌝ }
+    {
+        let segs = guards::least(self.segs, Recorder::MAX_SEGS);
+        let n = taking::acceptable(refs, segs, self.refs);
+        let recorder = taking::take_first(self, refs, n);
+        BulkAnswer {
+            verdict: taking::verdict(refs, segs, n),
+            taken: n,
+            recorder: recorder,
+        }
+    }
+
+    // The figures of a row at this moment: 7 for no such row.
+    pub fn figures(self, row: usize) -> FiguresAnswer
+        ensures { λ r. ⌜ Figured self row r ⌝ }
+    {
+        let rows = guards::least(self.rows, Recorder::MAX_ROWS);
+        if rows <= row {
+            return FiguresAnswer {
+                verdict: Verdict::Refused(Refusal::NoSuchRow),
+                figures: RowFigures::zero(),
+            };
+        }
+        FiguresAnswer {
+            verdict: Verdict::Accepted,
+            figures: reading::row_now(self, row),
+        }
+    }
+}

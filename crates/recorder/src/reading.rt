@@ -1,0 +1,160 @@
+// The figures of a row at this moment: the end intervals from the table of last touches, then the sums of the buckets up to the row.
+// Nothing is assumed.
+use crate::Recorder;
+use crate::guards;
+use figures::Bucket;
+use model::Kind;
+use model::PriceRow;
+use model::RowFigures;
+ghost use mathlib.Core.Path.{_≡_};
+ghost use Prim.Native.Nat.{_+_, _<_, min};
+ghost use Rattle.model.specs.Sheets.{SheetValue, Valid, traceOf, mostRows};
+ghost use Rattle.figures.specs.Buckets.{tallyOf};
+ghost use Rattle.figures.specs.Rows.{figuresAt};
+ghost use Rattle.figures.specs.Sweep.{RowFits, wsoccFrom, rowFrom};
+ghost use Rattle.recorder.specs.Recorders.{recorderOf};
+ghost use Rattle.recorder.specs.Guards.{Tells, Summable};
+
+// What Q and V are at most: 2,048 references of the largest size.
+const MOST_COST: u64 = 8_386_560;
+
+// Below this an occupancy can be multiplied by 1,000.
+const OCCUPANCY: u64 = 9_007_199_254_740_992;
+
+// The occupancy of the working set at a row.
+fn occupancy(
+    kind: Kind,
+    row: PriceRow,
+    cost: u64,
+    volume: u64,
+    all: Bucket,
+    kept: Bucket,
+    ends: Bucket,
+) -> u64
+    requires { ⌜ Summable cost volume all kept ends ⌝ }
+    ensures { λ r. ⌜ r ≡ wsoccFrom kind row cost volume all kept ends ⌝ }
+{
+    let memory = figures::rows::working_set(
+        row,
+        cost,
+        kept.retention,
+        ends.retention,
+        all.swap,
+        kept.swap,
+        ends.swap,
+    );
+    let space = figures::rows::working_set(
+        row,
+        volume,
+        kept.retentionz,
+        ends.retentionz,
+        all.swapz,
+        kept.swapz,
+        ends.swapz,
+    );
+    figures::rows::by_kind(kind, space, memory)
+}
+
+// Whether the sums are such that an occupancy can be made of them.
+fn summable(cost: u64, volume: u64, all: Bucket, kept: Bucket, ends: Bucket) -> bool
+    ensures { λ r. ⌜ Tells r (Summable cost volume all kept ends) ⌝ }
+{
+    if MOST_COST < cost {
+        return false;
+    }
+    if MOST_COST < volume {
+        return false;
+    }
+    if !guards::holds(all, 2_048) {
+        return false;
+    }
+    if !guards::holds(kept, 2_048) {
+        return false;
+    }
+    if !guards::holds(ends, 256) {
+        return false;
+    }
+    guards::within(all, kept, ends)
+}
+
+// The figures of a row from the sums, where none exceeds 64 bits; else zeros.
+fn row_of(
+    kind: Kind,
+    a: u8,
+    row: PriceRow,
+    refs: usize,
+    cost: u64,
+    volume: u64,
+    all: Bucket,
+    kept: Bucket,
+    ends: Bucket,
+) -> RowFigures
+    ensures { λ r. ⌜ (RowFits kind row refs cost volume all kept ends → r ≡ rowFrom kind a row refs cost volume all kept ends) ⌝ }
+{
+    if Recorder::MAX_REFS < refs {
+        return RowFigures::zero();
+    }
+    if row.d == 0 {
+        return RowFigures::zero();
+    }
+    if !summable(cost, volume, all, kept, ends) {
+        return RowFigures::zero();
+    }
+    if OCCUPANCY <= occupancy(kind, row, cost, volume, all, kept, ends) {
+        return RowFigures::zero();
+    }
+    figures::rows::row_figures(kind, a, row, refs, cost, volume, all, kept, ends)
+}
+
+// The buckets of the end intervals at this moment; empty ones where the thresholds do not ascend.
+fn ends_now(recorder: Recorder) -> [Bucket; 65]
+    ensures { λ r. ⌜ ((v : SheetValue) → Valid v → recorder ≡ recorderOf v → r ≡ tallyOf (v .rows) (traceOf v) .ends) ⌝ }
+{
+    let kind = recorder.kind;
+    let rows = guards::least(recorder.rows, Recorder::MAX_ROWS);
+    let segs = guards::least(recorder.segs, Recorder::MAX_SEGS);
+    let steps = guards::least(recorder.refs, Recorder::MAX_REFS);
+    let prices = recorder.prices;
+    let apart = figures::pass::split(prices);
+    let h = apart.h;
+    let d = apart.d;
+    let sizes = recorder.sizes;
+    let last = recorder.last;
+    if !guards::ascends(&h[..rows], &d[..rows]) {
+        return figures::pass::empty_buckets();
+    }
+    figures::pass::ends(
+        kind,
+        recorder.a,
+        &h[..rows],
+        &d[..rows],
+        &sizes[..segs],
+        &last,
+        steps as u16,
+    )
+}
+
+// The figures of a row of the recorder.
+pub fn row_now(recorder: Recorder, row: usize) -> RowFigures
+    requires { ⌜ row < min (recorder .rows) mostRows ⌝ }
+    ensures { λ r. ⌜ ((v : SheetValue) → Valid v → recorder ≡ recorderOf v → r ≡ figuresAt v row) ⌝ }
+{
+    let ended = ends_now(recorder);
+    let kind = recorder.kind;
+    let buckets = recorder.buckets;
+    let prices = recorder.prices;
+    let all = guards::sum_first(buckets, 65);
+    let kept = guards::sum_first(buckets, row + 1);
+    let ends = guards::sum_first(ended, row + 1);
+    row_of(
+        kind,
+        recorder.a,
+        prices[row],
+        recorder.refs,
+        recorder.cost,
+        recorder.volume,
+        all,
+        kept,
+        ends,
+    )
+}

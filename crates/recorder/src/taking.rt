@@ -1,0 +1,123 @@
+// Taking references: one, or the first n of several in one loop over local arrays.
+// Nothing is assumed.
+use crate::Recorder;
+use crate::guards;
+use model::Refusal;
+use model::Verdict;
+ghost use mathlib.Core.Path.{_≡_};
+ghost use Prim.Native.Nat.{_+_, _<_, min};
+ghost use lib.ListN.{take};
+ghost use Rattle.model.specs.Sheets.{SheetValue, Valid, mostRefs, mostSegs};
+ghost use Rattle.recorder.specs.Recorders.{recorderOf, taken};
+ghost use Rattle.recorder.specs.Guards.{appended, Takable, TakesNoMore, stopVerdict};
+
+// The recorder with one more reference.
+pub fn take_one(mut recorder: Recorder, segment: usize) -> Recorder
+    requires { ⌜ (segment < min (recorder .segs) mostSegs) × (recorder .refs < mostRefs) ⌝ }
+    ensures { λ r. ⌜ ((v : SheetValue) → Valid v → recorder ≡ recorderOf v → r ≡ recorderOf (taken v segment)) ⌝ }
+{
+    let rows = guards::least(recorder.rows, Recorder::MAX_ROWS);
+    let prices = recorder.prices;
+    let apart = figures::pass::split(prices);
+    let h = apart.h;
+    let d = apart.d;
+    let kind = recorder.kind;
+    let z = recorder.sizes[segment];
+    let t = recorder.refs;
+    let x = figures::pass::touch_of(
+        kind,
+        recorder.a,
+        &h[..rows],
+        &d[..rows],
+        z,
+        recorder.last[segment],
+        t as u16,
+    );
+    let k = x.bucket;
+    let b = recorder.buckets[k];
+    recorder.buckets[k] = guards::file(b, x);
+    recorder.last[segment] = (t + 1) as u16;
+    recorder.refs = t + 1;
+    recorder.cost = guards::more(recorder.cost, figures::pass::unit_cost(kind, z));
+    recorder.volume = guards::more(recorder.volume, guards::wide(z));
+    recorder
+}
+
+// How many of the references are taken: up to the first that is not below segs, or for which there is no room.
+pub fn acceptable(refs: &[u16], segs: usize, count: usize) -> usize
+    ensures fit { λ r. ⌜ Takable segs count (now (refs .entry)) r ⌝ }
+    ensures most { λ r. ⌜ TakesNoMore segs count (now (refs .entry)) r ⌝ }
+{
+    let mut n = 0;
+    while n < refs.len() {
+        if segs <= refs[n] as usize {
+            return n;
+        }
+        if Recorder::MAX_REFS - n <= count {
+            return n;
+        }
+        n += 1;
+    }
+    n
+}
+
+// The recorder with the first n references.
+pub fn take_first(recorder: Recorder, refs: &[u16], n: usize) -> Recorder
+    requires { ⌜ Takable (min (recorder .segs) mostSegs) (recorder .refs) (now refs) n ⌝ }
+    ensures { λ r. ⌜ ((v : SheetValue) → Valid v → recorder ≡ recorderOf v → r ≡ recorderOf (appended v (take n (now (refs .entry))))) ⌝ }
+{
+    let rows = guards::least(recorder.rows, Recorder::MAX_ROWS);
+    let prices = recorder.prices;
+    let apart = figures::pass::split(prices);
+    let h = apart.h;
+    let d = apart.d;
+    let kind = recorder.kind;
+    let a = recorder.a;
+    let sizes = recorder.sizes;
+    let mut last = recorder.last;
+    let mut buckets = recorder.buckets;
+    let mut cost = recorder.cost;
+    let mut volume = recorder.volume;
+    let mut count = recorder.refs;
+    let mut t = 0;
+    while t < n {
+        let i = refs[t] as usize;
+        let z = sizes[i];
+        let x = figures::pass::touch_of(kind, a, &h[..rows], &d[..rows], z, last[i], count as u16);
+        let k = x.bucket;
+        let mut b = buckets[k];
+        b = guards::file(b, x);
+        buckets[k] = b;
+        count += 1;
+        last[i] = count as u16;
+        cost = guards::more(cost, figures::pass::unit_cost(kind, z));
+        volume = guards::more(volume, guards::wide(z));
+        t += 1;
+    }
+    Recorder {
+        kind: kind,
+        a: a,
+        segs: recorder.segs,
+        sizes: sizes,
+        rows: recorder.rows,
+        prices: prices,
+        refs: count,
+        last: last,
+        buckets: buckets,
+        cost: cost,
+        volume: volume,
+    }
+}
+
+// The verdict on references of which the first n were taken: why the next one is refused.
+pub fn verdict(refs: &[u16], segs: usize, n: usize) -> Verdict
+    ensures { λ r. ⌜ r ≡ stopVerdict segs (now (refs .entry)) n ⌝ }
+{
+    if refs.len() <= n {
+        return Verdict::Accepted;
+    }
+    if segs <= refs[n] as usize {
+        return Verdict::Refused(Refusal::OutOfRange);
+    }
+    Verdict::Refused(Refusal::RecorderFull)
+}
