@@ -1,5 +1,5 @@
 -- Demand 3 holds of every run of bytes that reads as an accepted sheet, and of every row of it. Assumes nothing.
-use Prim.Native.Nat.{ℕ, _≤_, _<_}
+use Prim.Native.Nat.{ℕ, _<_}
 use mathlib.Core.Path.{_≡_, sym, ap, _∙_}
 use mathlib.Core.List.{List}
 use native.Mathlib.Omega.{arith}
@@ -7,13 +7,12 @@ use lib.ListN.{length}
 use borrow.Author.Tests.{lt-ltb}
 use Rattle.model.specs.Demand.{rowTotal, rowSchedule}
 use Rattle.model.specs.Rows.{rowFigures}
-use Rattle.model.specs.Schedules.{Permitted, scheduleMemory, scheduleLoad, scheduleTotal}
-use Rattle.model.specs.Sheets.{SheetValue, Valid, traceOf, rowAt}
+use Rattle.model.specs.Schedules.{Permitted, scheduleMemory, scheduleLoad}
+use Rattle.model.specs.Sheets.{SheetValue, traceOf, rowAt}
 use Rattle.model.proofs.Demand.{demand-3}
 use Rattle.sheet.specs.Reading.{accepted, readSheet}
 use Rattle.sheet.proofs.Accepted.{accepted-valid}
 use Rattle.figures.specs.Rows.{figuresOf, figuresAt}
-use Rattle.schedule.specs.Checking.{priceAnswer}
 use Rattle.schedule.proofs.Verdicts.{accepted-answer, permitted-accepted}
 use Rattle.analyser.specs.Answers.{figuresAnswer, scheduleResult, pricing}
 use Rattle.analyser.specs.Demand.{priceOf, Demand3FromBytes}

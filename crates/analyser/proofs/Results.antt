@@ -1,11 +1,10 @@
 -- What a call answers and leaves in a lent place, by its tests. Assumes nothing.
 use Prim.Native.Nat.{ℕ, _*_, _≤_, _<_}
-use mathlib.Core.Path.{_≡_, refl, sym, ap, _∙_}
+use mathlib.Core.Path.{_≡_, refl, _∙_}
 use mathlib.Core.List.{List, _++_}
 use native.Mathlib.Omega.{arith}
 use lib.ListN.{length, take, drop, getD}
 use lib.Seq.{length-take-le, getD-take}
-use lib.Dec.{ltb}
 use borrow.Author.Tests.{le-ltb, lt-ltb, le-leb, lt-leb}
 use Rattle.model.specs.Demand.{rowSchedule}
 use Rattle.model.specs.Places.{placed, placeAnswer, nothingPlaced}

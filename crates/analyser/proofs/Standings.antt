@@ -3,7 +3,7 @@ use Prim.Native.Nat.{ℕ, _≤_, _<_}
 use mathlib.Core.Path.{_≡_, refl, sym, ap, _∙_}
 use mathlib.Core.List.{List}
 use native.Mathlib.Omega.{arith}
-use lib.ListN.{length, take, drop, getD, length-append, length-drop}
+use lib.ListN.{length, getD, length-append, length-drop}
 use lib.Seq.{length-take-le, getD-take}
 use Rattle.model.specs.Places.{nothingPlaced}
 use Rattle.model.specs.Sheets.{SheetValue, Valid, traceOf, rowAt, mostSegs, mostRows, mostRefs}

@@ -1,18 +1,16 @@
 -- The smaller of d × R and h × w, added over all reuses and end intervals, from sums of R and of w alone: d × R of what is kept, and
 -- h × w of all touches but what is kept. For this the first touches stand for the end intervals: each touched segment has one of each.
 -- Assumes nothing.
-use Prim.Native.Nat.{ℕ, zero, suc, _+_, _*_, _≤_, min}
+use Prim.Native.Nat.{ℕ, _+_, _*_, _≤_, min}
 use mathlib.Core.Path.{_≡_, refl, ap}
 use mathlib.Core.Bool.{Bool, true, false, cond}
-use mathlib.Core.Option.{Option, none, some}
 use native.Mathlib.Omega.{arith}
 use lib.Dec.{leb}
 use borrow.Author.Tests.{leb-true, leb-false}
 use Rattle.model.specs.Costs.{keeps, totalCost}
-use Rattle.model.specs.Sums.{sum}
-use Rattle.model.specs.Traces.{Trace, segs, steps, sizeOf, swapOf, touched, touching, overTouches, overSegments, later, unreferenced}
+use Rattle.model.specs.Traces.{Trace, segs, steps, sizeOf, swapOf, overTouches, overSegments, unreferenced}
 use Rattle.model.specs.Figures.{isReuse, retentionOf, kept, smaller}
-use Rattle.model.proofs.Sums.{sum-eq, sum-le, sum-add}
+use Rattle.model.proofs.Sums.{sum-eq, sum-le}
 use Rattle.model.proofs.FirstTouches.{first-touches}
 use Rattle.model.proofs.Loads.{sum-total, overTouches-eq, overTouches-le, overTouches-total}
 

@@ -1,12 +1,12 @@
 -- The 65 buckets: one per row and the last, which the single pass fills. Each reuse goes to the first row that keeps it; a reuse that
 -- no row keeps, and each first touch (with retention 0), goes to the last bucket. End intervals are counted apart. Assumes nothing.
-use Prim.Native.Nat.{ℕ, zero, suc, _+_, _*_}
-use mathlib.Core.Bool.{Bool, true, false, cond}
+use Prim.Native.Nat.{ℕ, zero, suc, _*_}
+use mathlib.Core.Bool.{cond}
 use mathlib.Core.List.{List, [], _∷_, _++_}
 use lib.Dec.{eqb}
 use Rattle.model.specs.Costs.{keeps}
 use Rattle.model.specs.Sums.{sum}
-use Rattle.model.specs.Traces.{Trace, steps, sizeOf, swapOf, touching, overSegments, unreferenced}
+use Rattle.model.specs.Traces.{Trace, steps, sizeOf, swapOf, touching, unreferenced}
 use Rattle.model.specs.Figures.{retentionOf, isReuse, refCost, refVolume}
 use Rattle.model.specs.declared.PriceRow.{PriceRow}
 use Rattle.figures.specs.declared.Bucket.{Bucket}

@@ -8,10 +8,9 @@ use model::PriceRow;
 use model::RowFigures;
 use model::Verdict;
 ghost use mathlib.Core.Path.{_≡_};
-ghost use Prim.Native.Nat.{ℕ, _+_, _*_, _≤_, _<_, _^_};
-ghost use lib.ListN.{length, take};
-ghost use Rattle.model.specs.Sheets.{Valid, traceOf, mostRows};
-ghost use Rattle.figures.specs.Buckets.{tallyOf};
+ghost use Prim.Native.Nat.{_≤_};
+ghost use lib.ListN.{take};
+ghost use Rattle.model.specs.Sheets.{Valid};
 ghost use Rattle.figures.specs.Rows.{partsOf, allFigures};
 
 // A bucket: how many touches it holds, their sizes, retentions and swap costs added, the last two also with each item multiplied by

@@ -1,10 +1,10 @@
 -- What a recorder stands for: the head of a sheet and the references taken so far. A recorder that a start and the calls after it
 -- handed back stands for such a value; of any other, put together by hand, only the refusals are said. Assumes nothing.
-use Prim.Native.Nat.{ℕ, zero, suc, min}
+use Prim.Native.Nat.{ℕ, suc, min}
 use mathlib.Core.Path.{_≡_}
 use mathlib.Core.Bool.{cond}
 use mathlib.Core.List.{List, [], _∷_, _++_}
-use lib.ListN.{length, replicate}
+use lib.ListN.{length}
 use lib.Dec.{ltb}
 use Rattle.model.specs.Figures.{refCost, refVolume}
 use Rattle.model.specs.Sheets.{SheetValue, Valid, traceOf, mostSegs, mostRows, mostRefs}

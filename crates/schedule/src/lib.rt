@@ -7,7 +7,7 @@ use model::LoadUnits;
 use model::MemoryUnits;
 use model::Verdict;
 ghost use mathlib.Core.Path.{_≡_};
-ghost use Prim.Native.Nat.{ℕ, _+_, _*_, _/_, _%_, _^_, _≤_, _<_};
+ghost use Prim.Native.Nat.{_*_, _≤_};
 
 // The shape of a schedule of so many steps: 32 bytes a step, segment i at bit i % 8 of byte i / 8.
 pub struct Schedule {

@@ -6,7 +6,7 @@ use Rattle.model.specs.Sheets.{SheetValue}
 use Rattle.model.specs.declared.Kind.the-variants.{Space}
 use Rattle.decimal.specs.Decimal.{allDigits, valueFrom, isNumber, written, writtenIn}
 use Rattle.sheet.specs.Lines.{splitAt, afterKey, valueLine, numberLine, sameBytes}
-use Rattle.sheet.specs.Reading.{Outcome, accepted, kindLine, numberLines, rowLine, rowLines, sheetLines, readSheet}
+use Rattle.sheet.specs.Reading.{accepted, kindLine, numberLines, rowLine, rowLines, sheetLines, readSheet}
 use Rattle.sheet.specs.Writing.{numbersText, rowsText, sheetText}
 
 -- the bytes of the sheet

@@ -1,7 +1,7 @@
 -- What a sheet is and which refusal a run of bytes gets: the first faulty line decides, top down; 1 comes before all lines and 6
 -- after them; within a line 2, 3, 4, 5 apply in order. Assumes nothing.
 use Prim.Native.Nat.{ℕ, zero, suc, _*_, _-_}
-use mathlib.Core.Bool.{Bool, true, false, cond, _&&_}
+use mathlib.Core.Bool.{Bool, true, cond, _&&_}
 use mathlib.Core.List.{List, [], _∷_}
 use mathlib.Core.Option.{Option, none, some}
 use lib.ListN.{length}

@@ -7,7 +7,6 @@ use model::Kind;
 use model::PriceRow;
 use model::Verdict;
 ghost use mathlib.Core.Path.{_≡_};
-ghost use Prim.Native.Nat.{ℕ};
 ghost use Rattle.model.specs.Sheets.{largestA, mostSegs, largestSize, mostRows, largestPrice, mostRefs};
 ghost use Rattle.sheet.specs.Reading.{mostBytes};
 ghost use Rattle.sheet.specs.Values.{emptySheet};

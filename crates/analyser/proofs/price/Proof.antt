@@ -1,7 +1,6 @@
 -- `analyser::price` meets its contract: what the sheet reads as decides. Assumes nothing.
-use mathlib.Core.Path.{_≡_, sym, _∙_}
+use mathlib.Core.Path.{sym, _∙_}
 use borrow.Author.Needs.{needs}
-use Rattle.model.specs.declared.Verdict.the-variants.{Accepted, Refused}
 use Rattle.schedule.specs.Checking.{noPrice}
 use Rattle.analyser.specs.Answers.{priceFor, pricing}
 use Rattle.analyser.proofs.Standings.{on-refused, on-accepted, stands}

@@ -5,7 +5,6 @@ use borrow.Author.Needs.{needs}
 use borrow.Author.Tests.{le-ltb, lt-ltb}
 use lib.ListN.{length, getD}
 use Rattle.model.specs.Rows.{zeroFigures}
-use Rattle.model.specs.declared.RowFigures.{RowFigures}
 use Rattle.sheet.specs.Values.{valueOf}
 use Rattle.figures.specs.Rows.{figuresOf, figuresAt}
 use Rattle.analyser.proofs.Results.{figures-at}

@@ -1,5 +1,4 @@
 -- `analyser::sheet_listing` meets its contract: the listing is that of the sheet's value. Assumes nothing.
-use mathlib.Core.Path.{_≡_}
 use borrow.Author.Needs.{needs}
 use Rattle.sheet.specs.Values.{valueOf}
 use Rattle.analyser.proofs.Results.{listing-is}

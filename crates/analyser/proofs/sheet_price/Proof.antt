@@ -1,6 +1,6 @@
 -- `analyser::sheet_price` meets its contract: the row is tested, and the schedule is priced by the sheet's value. Assumes nothing.
 use Prim.Native.Nat.{_<_}
-use mathlib.Core.Path.{_≡_, sym, _∙_}
+use mathlib.Core.Path.{sym, _∙_}
 use native.Mathlib.Omega.{arith}
 use borrow.Author.Needs.{needs}
 use lib.Seq.{length-take-le}

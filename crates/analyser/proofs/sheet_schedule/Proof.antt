@@ -1,12 +1,10 @@
 -- `analyser::sheet_schedule` meets its contract: the row and the room are tested, and the optimal schedule of the sheet's value is
 -- written. Assumes nothing.
-use Prim.Native.Nat.{ℕ, _*_, _≤_, _<_}
-use mathlib.Core.Path.{_≡_, refl, sym, ap, _∙_}
+use Prim.Native.Nat.{_<_}
+use mathlib.Core.Path.{sym, _∙_}
 use native.Mathlib.Omega.{arith}
 use borrow.Author.Needs.{needs}
-use lib.ListN.{length, take, drop, getD}
 use lib.Seq.{length-take-le}
-use Rattle.model.specs.Sheets.{rowAt, traceOf}
 use Rattle.sheet.specs.Values.{valueOf}
 use Rattle.analyser.proofs.Results.{schedule-no-row, schedule-short, schedule-placed}
 use Rattle.analyser.proofs.Standings.{valid-limits, rows-counted, refs-counted, row-of}

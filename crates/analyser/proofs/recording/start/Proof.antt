@@ -1,7 +1,6 @@
 -- `analyser::recording::start` meets its contract: what the sheet reads as decides. Assumes nothing.
 use mathlib.Core.Path.{_≡_, sym, ap, _∙_}
 use borrow.Author.Needs.{needs}
-use Rattle.model.specs.Sheets.{SheetValue}
 use Rattle.model.specs.declared.Verdict.the-variants.{Accepted}
 use Rattle.sheet.specs.Values.{valueOf}
 use Rattle.recorder.specs.Recorders.{recorderOf, headOf}
