@@ -1,0 +1,38 @@
+-- `records::all_figures` meets its contract: the parts of a standing sheet are those of its value. Assumes nothing.
+use mathlib.Core.Path.{sym}
+use native.Mathlib.Omega.{arith}
+use lib.Seq.{length-take-le}
+use Rattle.sheet.specs.Values.{valueOf}
+use Rattle.records.proofs.all_figures.Statement.{statement}
+use Rattle.records.proofs.all_figures.Tie as tie
+
+array-share-prefix-sizes : tie.Need-array-share-prefix-sizes
+array-share-prefix-sizes c = omega (arith, c .before .before .before .pre)
+
+slice-aggregate-figures : tie.Need-slice-aggregate-figures
+slice-aggregate-figures c = sym (length-take-le _ _ (omega (arith, c .before .before .before .before .pre)))
+
+array-share-prefix-touches : tie.Need-array-share-prefix-touches
+array-share-prefix-touches c = omega (arith, c .before .before .before .before .pre)
+
+slice-aggregate-figures-2 : tie.Need-slice-aggregate-figures-2
+slice-aggregate-figures-2 c = sym (length-take-le _ _ (omega (arith, c .before .before .before .before .before .pre)))
+
+figures-requires : tie.Need-figures-requires
+unfolding valueOf
+figures-requires c κs = let p = c .before .before .before .before .before .pre in (p .rows-within, p .valid)
+
+returns : tie.Need-returns
+unfolding valueOf
+returns c = c .figures .ensures
+
+pub all-figures-spec : {M : Type 1} → statement M
+all-figures-spec =
+    tie.close
+    (tie.spec
+    array-share-prefix-sizes
+    slice-aggregate-figures
+    array-share-prefix-touches
+    slice-aggregate-figures-2
+    figures-requires
+    returns)
