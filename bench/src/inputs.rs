@@ -1,0 +1,151 @@
+//! The sheets that are measured.
+
+/// How many references the different sheets of an input have together: 16 sheets of 2,048, more of shorter ones, so that the processor
+/// does not learn their branches.
+const REFERENCES: usize = 16 * 2_048;
+
+#[derive(Clone, Copy, Debug)]
+pub enum Pattern {
+    Uniform,
+    Cyclic,
+    Local,
+}
+
+/// What the sheets of one input have in common.
+#[derive(Clone, Copy)]
+pub struct Input {
+    pub name: &'static str,
+    /// Every line as long as it can be: 20,012 bytes.
+    pub longest: bool,
+    pub segs: usize,
+    pub rows: usize,
+    pub refs: usize,
+    pub pattern: Pattern,
+}
+
+impl Input {
+    pub fn all() -> Vec<Input> {
+        let mut inputs = Vec::new();
+        for pattern in [Pattern::Uniform, Pattern::Cyclic, Pattern::Local] {
+            inputs.push(Input { name: "largest", longest: true, segs: 256, rows: 64, refs: 2_048, pattern });
+        }
+        for refs in [2_048, 256] {
+            for rows in [64, 8, 1] {
+                for pattern in [Pattern::Uniform, Pattern::Cyclic, Pattern::Local] {
+                    inputs.push(Input { name: "middle", longest: false, segs: 128, rows, refs, pattern });
+                }
+            }
+        }
+        inputs
+    }
+
+    pub fn title(&self) -> String {
+        let pattern = format!("{:?}", self.pattern).to_lowercase();
+        format!("{:<8}{:<8} rows {:>2} refs {:>4}", self.name, pattern, self.rows, self.refs)
+    }
+
+    /// The bytes of the sheets. Kind and costs change from one to the next.
+    pub fn sheets(&self) -> Vec<Vec<u8>> {
+        (0..(REFERENCES / self.refs) as u64).map(|number| self.sheet(&mut Prng(number + 1))).collect()
+    }
+
+    fn sheet(&self, prng: &mut Prng) -> Vec<u8> {
+        let space = self.longest || prng.below(2) == 0;
+        let a = if self.longest { prng.between(100, 255) } else { prng.between(0, 9) };
+        let least = if self.longest { 1_000 } else { 1 };
+        let sizes: Vec<u64> = (0..self.segs).map(|_| prng.between(least, 4_095)).collect();
+        let lowest = if self.longest { 100 } else { 0 };
+        let refs = self.references(prng, lowest);
+        let rows = self.rows(prng, &retentions(space, a, &sizes, &refs));
+        let mut text = format!("kind={}\na={a}\nsegs={}\n", if space { "space" } else { "time" }, self.segs);
+        for size in sizes {
+            text += &format!("size={size}\n");
+        }
+        text += &format!("rows={}\n", rows.len());
+        for (h, d) in rows {
+            text += &format!("row={h}/{d}\n");
+        }
+        text += &format!("refs={}\n", refs.len());
+        for segment in refs {
+            text += &format!("ref={segment}\n");
+        }
+        text.into_bytes()
+    }
+
+    fn references(&self, prng: &mut Prng, lowest: usize) -> Vec<usize> {
+        let width = (self.segs - lowest) as u64;
+        let mut base = prng.below(width);
+        (0..self.refs as u64)
+            .map(|step| {
+                let offset = match self.pattern {
+                    Pattern::Uniform => prng.below(width),
+                    Pattern::Cyclic => (base + step) % width,
+                    Pattern::Local => {
+                        if prng.below(40) == 0 {
+                            base = prng.below(width);
+                        }
+                        (base + prng.below(4)) % width
+                    }
+                };
+                lowest + offset as usize
+            })
+            .collect()
+    }
+
+    /// Rows whose thresholds are spread over the ratios R/w of the reuses, filled up with others.
+    fn rows(&self, prng: &mut Prng, ratios: &[(u64, u64)]) -> Vec<(u64, u64)> {
+        let mut rows: Vec<(u64, u64)> = Vec::new();
+        let mut tries = 0;
+        while rows.len() < self.rows {
+            tries += 1;
+            let (retention, swap) = ratios[prng.below(ratios.len() as u64) as usize];
+            let scale = prng.between(20_000, 65_535);
+            let (mut h, mut d) =
+                if retention < swap { (scale * retention / swap, scale) } else { (scale, scale * swap / retention) };
+            if tries > 20 * self.rows || (self.longest && (h < 10_000 || d < 10_000)) {
+                (h, d) = (prng.between(10_000, 65_535), prng.between(10_000, 65_535));
+            }
+            let place = rows.iter().filter(|(other_h, other_d)| h * other_d > other_h * d).count();
+            let already = rows.get(place).is_some_and(|(other_h, other_d)| h * other_d == other_h * d);
+            if d > 0 && !already {
+                rows.insert(place, (h, d));
+            }
+        }
+        rows
+    }
+}
+
+/// R and w of every reuse.
+fn retentions(space: bool, a: u64, sizes: &[u64], refs: &[usize]) -> Vec<(u64, u64)> {
+    let mut last = vec![None; sizes.len()];
+    let mut ratios = Vec::new();
+    for (step, &segment) in refs.iter().enumerate() {
+        if let Some(before) = last[segment].replace(step) {
+            let unreferenced = (step - before - 1) as u64;
+            let retention = if space { unreferenced * sizes[segment] } else { unreferenced };
+            ratios.push((retention, 1 + a * sizes[segment]));
+        }
+    }
+    ratios
+}
+
+/// A small generator of random numbers (splitmix64).
+struct Prng(u64);
+
+impl Prng {
+    fn next(&mut self) -> u64 {
+        self.0 = self.0.wrapping_add(0x9e37_79b9_7f4a_7c15);
+        let mut mixed = self.0;
+        mixed = (mixed ^ (mixed >> 30)).wrapping_mul(0xbf58_476d_1ce4_e5b9);
+        mixed = (mixed ^ (mixed >> 27)).wrapping_mul(0x94d0_49bb_1331_11eb);
+        mixed ^ (mixed >> 31)
+    }
+
+    fn below(&mut self, bound: u64) -> u64 {
+        self.next() % bound
+    }
+
+    fn between(&mut self, low: u64, high: u64) -> u64 {
+        low + self.below(high - low + 1)
+    }
+}

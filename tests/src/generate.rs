@@ -1,0 +1,683 @@
+//! Seeded random sheets, damaged sheets, and schedules.
+
+use crate::reference::{self, Kind, Row, Sheet, STEP};
+
+/// A small generator of random numbers (splitmix64).
+pub struct Prng(u64);
+
+impl Prng {
+    /// The generator of one case of a run.
+    pub fn of_case(seed: u64, case: u64) -> Prng {
+        let mut prng = Prng(seed);
+        let mixed = prng.next();
+        Prng(mixed ^ case.wrapping_mul(0x9e37_79b9_7f4a_7c15))
+    }
+
+    pub fn next(&mut self) -> u64 {
+        self.0 = self.0.wrapping_add(0x9e37_79b9_7f4a_7c15);
+        let mut mixed = self.0;
+        mixed = (mixed ^ (mixed >> 30)).wrapping_mul(0xbf58_476d_1ce4_e5b9);
+        mixed = (mixed ^ (mixed >> 27)).wrapping_mul(0x94d0_49bb_1331_11eb);
+        mixed ^ (mixed >> 31)
+    }
+
+    /// A number below a bound above 0.
+    pub fn below(&mut self, bound: usize) -> usize {
+        (self.next() % bound as u64) as usize
+    }
+
+    pub fn between(&mut self, low: u64, high: u64) -> u64 {
+        low + self.next() % (high - low + 1)
+    }
+
+    pub fn one_in(&mut self, count: usize) -> bool {
+        self.below(count) == 0
+    }
+
+    pub fn pick<T: Clone>(&mut self, list: &[T]) -> T {
+        list[self.below(list.len())].clone()
+    }
+
+    /// A number of any size in a range: often an end of the range, else small and large ones alike.
+    pub fn any_size(&mut self, low: u64, high: u64) -> u64 {
+        match self.below(8) {
+            0 => low,
+            1 => high,
+            2 => self.between(low, high),
+            _ => {
+                let bits = 1 + self.below(16);
+                let number = self.next() % (1 << bits);
+                (low + number).min(high)
+            }
+        }
+    }
+
+    pub fn bytes(&mut self, length: usize) -> Vec<u8> {
+        let mut bytes = Vec::with_capacity(length + 8);
+        while bytes.len() < length {
+            bytes.extend_from_slice(&self.next().to_le_bytes());
+        }
+        bytes.truncate(length);
+        bytes
+    }
+}
+
+// ---- Sheets ----
+
+/// How large a sheet may be.
+#[derive(Clone, Copy, Debug, PartialEq, Eq)]
+pub enum Shape {
+    Tiny,
+    Small,
+    Middle,
+    Large,
+    /// Exactly 256 segments, 64 rows, 2,048 references, in many cases with every line the longest.
+    Largest,
+}
+
+impl Shape {
+    pub fn random(prng: &mut Prng) -> Shape {
+        match prng.below(2_000) {
+            0..=2 => Shape::Largest,
+            3..=12 => Shape::Large,
+            13..=199 => Shape::Middle,
+            200..=999 => Shape::Small,
+            _ => Shape::Tiny,
+        }
+    }
+
+    /// The most segments, rows and references.
+    fn limits(self) -> (u64, u64, u64) {
+        match self {
+            Shape::Tiny => (3, 4, 5),
+            Shape::Small => (12, 8, 40),
+            Shape::Middle => (64, 16, 300),
+            Shape::Large | Shape::Largest => (256, 64, 2_048),
+        }
+    }
+}
+
+/// How the references follow one another.
+#[derive(Clone, Copy, Debug, PartialEq, Eq)]
+pub enum Pattern {
+    Uniform,
+    Cyclic,
+    /// Few segments at a time, now and then others.
+    Local,
+    /// The same segment several times in a row.
+    Runs,
+}
+
+/// References to segments of a range, by a pattern.
+pub fn references(prng: &mut Prng, pattern: Pattern, lowest: usize, segs: usize, count: usize) -> Vec<usize> {
+    let width = segs - lowest;
+    let mut base = prng.below(width);
+    let near = width.min(4);
+    (0..count)
+        .map(|index| {
+            let offset = match pattern {
+                Pattern::Uniform => prng.below(width),
+                Pattern::Cyclic => (base + index) % width,
+                Pattern::Local => {
+                    if prng.one_in(40) {
+                        base = prng.below(width);
+                    }
+                    (base + prng.below(near)) % width
+                }
+                Pattern::Runs => {
+                    if prng.one_in(3) {
+                        base = prng.below(width);
+                    }
+                    base
+                }
+            };
+            lowest + offset
+        })
+        .collect()
+}
+
+/// A random sheet that is accepted.
+pub fn sheet(prng: &mut Prng, shape: Shape) -> Sheet {
+    let (most_segs, most_rows, most_refs) = shape.limits();
+    let largest = shape == Shape::Largest;
+    let longest_lines = largest && !prng.one_in(4);
+    let segs = if largest { most_segs } else { prng.any_size(1, most_segs) } as usize;
+    let row_count = if largest { most_rows } else { prng.any_size(1, most_rows) } as usize;
+    let ref_count = match shape {
+        Shape::Largest => most_refs,
+        Shape::Tiny => prng.between(0, most_refs),
+        _ => prng.any_size(0, most_refs),
+    } as usize;
+    let kind = if longest_lines { Kind::Space } else { prng.pick(&[Kind::Time, Kind::Space]) };
+    let a = match prng.below(4) {
+        _ if longest_lines => prng.between(100, 255),
+        0 => 0,
+        1 => 1,
+        _ => prng.any_size(0, 255),
+    } as u128;
+    let size_style = if longest_lines { 3 } else { prng.below(4) };
+    let sizes = (0..segs)
+        .map(|_| match size_style {
+            0 => prng.between(1, 5),
+            1 => 1,
+            2 => prng.any_size(1, 4_095),
+            _ => prng.between(1_000, 4_095),
+        } as u128)
+        .collect();
+    let pattern = prng.pick(&[Pattern::Uniform, Pattern::Cyclic, Pattern::Local, Pattern::Runs]);
+    let lowest = if longest_lines { 100 } else { 0 };
+    let refs = references(prng, pattern, lowest, segs, ref_count);
+    let mut sheet = Sheet { kind, a, sizes, rows: Vec::new(), refs };
+    let style = if longest_lines { RowStyle::FiveDigits } else { prng.pick(&RowStyle::ALL) };
+    sheet.rows = rows(prng, &sheet, style, row_count);
+    sheet
+}
+
+/// How the thresholds of the rows are chosen.
+#[derive(Clone, Copy, PartialEq, Eq)]
+enum RowStyle {
+    Any,
+    FiveDigits,
+    FewDigits,
+    /// All near one threshold.
+    Close,
+    /// At the ratio R/w of a reuse, or just beside it.
+    AtReuses,
+    Mixed,
+}
+
+impl RowStyle {
+    const ALL: [RowStyle; 6] = [
+        RowStyle::Any,
+        RowStyle::FiveDigits,
+        RowStyle::FewDigits,
+        RowStyle::Close,
+        RowStyle::AtReuses,
+        RowStyle::Mixed,
+    ];
+}
+
+/// Up to so many rows with ascending thresholds, at least one.
+fn rows(prng: &mut Prng, sheet: &Sheet, style: RowStyle, count: usize) -> Vec<Row> {
+    let centre = threshold(prng, sheet, RowStyle::Any, Row { h: 1, d: 1 });
+    let mut rows: Vec<Row> = Vec::new();
+    for _ in 0..4 * count {
+        let row = threshold(prng, sheet, style, centre);
+        // The place after all rows that this one exceeds; left out where the threshold is there already.
+        let place = rows.iter().filter(|&&other| row.exceeds(other)).count();
+        if rows.len() < count && rows.get(place).is_none_or(|&next| next.exceeds(row)) {
+            rows.insert(place, row);
+        }
+    }
+    rows
+}
+
+fn threshold(prng: &mut Prng, sheet: &Sheet, style: RowStyle, centre: Row) -> Row {
+    let near =
+        |prng: &mut Prng, value: u128, low: u128| (value + prng.below(7) as u128).saturating_sub(3).clamp(low, 65_535);
+    match style {
+        RowStyle::Any => Row { h: prng.any_size(0, 65_535) as u128, d: prng.any_size(1, 65_535) as u128 },
+        RowStyle::FiveDigits => {
+            Row { h: prng.between(10_000, 65_535) as u128, d: prng.between(10_000, 65_535) as u128 }
+        }
+        RowStyle::FewDigits => Row { h: prng.between(0, 12) as u128, d: prng.between(1, 3) as u128 },
+        RowStyle::Close => Row { h: near(prng, centre.h, 0), d: near(prng, centre.d, 1) },
+        RowStyle::AtReuses => at_reuse(prng, sheet).unwrap_or(centre),
+        RowStyle::Mixed => {
+            let other = prng.pick(&RowStyle::ALL[..5]);
+            threshold(prng, sheet, other, centre)
+        }
+    }
+}
+
+/// The ratio R/w of a random reuse as a threshold, where it fits one, or a threshold beside it.
+fn at_reuse(prng: &mut Prng, sheet: &Sheet) -> Option<Row> {
+    if sheet.refs.is_empty() {
+        return None;
+    }
+    let step = 1 + prng.below(sheet.refs.len());
+    let segment = sheet.touched(step);
+    let last = sheet.last_touch(segment, step)?;
+    let retention = sheet.retention(segment, (step - last - 1) as u128);
+    let swap = sheet.swap_cost(segment);
+    if prng.one_in(2) {
+        return Some(close_to(prng, retention, swap));
+    }
+    let divisor = common_divisor(retention, swap);
+    let (mut h, mut d) = (retention / divisor, swap / divisor);
+    let most = MOST_PRICE / h.max(d);
+    if most > 1 {
+        let times = prng.between(1, most as u64) as u128;
+        (h, d) = (h * times, d * times);
+    }
+    while h > MOST_PRICE || d > MOST_PRICE {
+        (h, d) = (h / 2, (d / 2).max(1));
+    }
+    match prng.below(6) {
+        0 if h > 0 => h -= 1,
+        1 if h < MOST_PRICE => h += 1,
+        _ => {}
+    }
+    Some(Row { h, d })
+}
+
+const MOST_PRICE: u128 = 65_535;
+
+/// One of the closest fractions h/d to p/q, equal to it or not, along its continued fraction.
+fn close_to(prng: &mut Prng, mut p: u128, mut q: u128) -> Row {
+    let (mut before, mut last) = (Row { h: 0, d: 1 }, Row { h: 1, d: 0 });
+    let between =
+        |before: Row, last: Row, times: u128| Row { h: times * last.h + before.h, d: times * last.d + before.d };
+    // The most times that give prices in range.
+    let room = |before: u128, last: u128| (MOST_PRICE - before).checked_div(last).unwrap_or(MOST_PRICE);
+    let most = |before: Row, last: Row| room(before.h, last.h).min(room(before.d, last.d));
+    let mut found = Vec::new();
+    while q > 0 {
+        let times = (p / q).min(most(before, last));
+        let next = between(before, last, times);
+        found.push(next);
+        if times < p / q {
+            break;
+        }
+        (before, last) = (last, next);
+        (p, q) = (q, p % q);
+    }
+    if q == 0 {
+        // The last one is p/q itself; this one is beside it.
+        found.push(between(before, last, most(before, last)));
+    }
+    let recent = found.len().saturating_sub(4);
+    prng.pick(&found[recent..])
+}
+
+fn common_divisor(x: u128, y: u128) -> u128 {
+    if y == 0 {
+        x
+    } else {
+        common_divisor(y, x % y)
+    }
+}
+
+// ---- Damaged sheets ----
+
+/// The bytes of a sheet with one to three damages. Some of them leave it a sheet.
+pub fn damaged(prng: &mut Prng, sheet: &Sheet) -> Vec<u8> {
+    let mut bytes = reference::write(sheet);
+    for _ in 0..prng.pick(&[1, 1, 1, 1, 2, 3]) {
+        bytes = damage(prng, sheet, bytes);
+    }
+    bytes
+}
+
+const ODD_BYTES: &[u8] = b"0123456789=/\n\r +-.,x\0\xff";
+
+fn damage(prng: &mut Prng, sheet: &Sheet, mut bytes: Vec<u8>) -> Vec<u8> {
+    if bytes.is_empty() {
+        return bytes;
+    }
+    let byte = if prng.one_in(2) { prng.pick(ODD_BYTES) } else { prng.next() as u8 };
+    let place = prng.below(bytes.len());
+    match prng.below(20) {
+        0 => bytes[place] = byte,
+        1 => bytes.insert(place, byte),
+        2 => {
+            bytes.remove(place);
+        }
+        3 => bytes.truncate(place),
+        4 => {
+            bytes.pop();
+        }
+        5 => bytes = with_tail(prng, bytes),
+        6 => bytes = stretched(prng, bytes),
+        7 => bytes = with_lines_moved(prng, bytes),
+        8 => bytes = with_count_moved(prng, bytes),
+        9..=11 => bytes = with_thresholds_moved(prng, bytes),
+        12 => bytes = strange(prng),
+        _ => bytes = with_odd_value(prng, sheet, bytes),
+    }
+    bytes
+}
+
+/// The lines, each with its line feed if it has one.
+fn lines(bytes: &[u8]) -> Vec<Vec<u8>> {
+    bytes.split_inclusive(|&byte| byte == b'\n').map(<[u8]>::to_vec).collect()
+}
+
+/// A random line with a key, if there is one.
+fn line_with(prng: &mut Prng, lines: &[Vec<u8>], key: &str) -> Option<usize> {
+    let found: Vec<usize> =
+        (0..lines.len()).filter(|&line| lines[line].starts_with(format!("{key}=").as_bytes())).collect();
+    if found.is_empty() {
+        return None;
+    }
+    Some(prng.pick(&found))
+}
+
+/// Bytes after the last line.
+fn with_tail(prng: &mut Prng, mut bytes: Vec<u8>) -> Vec<u8> {
+    let last = lines(&bytes).pop().unwrap_or_default();
+    match prng.below(4) {
+        0 => bytes.push(b'\n'),
+        1 => bytes.extend_from_slice(&last),
+        2 => bytes.push(prng.pick(ODD_BYTES)),
+        _ => {
+            let count = 1 + prng.below(40);
+            bytes.extend_from_slice(&prng.bytes(count));
+        }
+    }
+    bytes
+}
+
+/// Made about as long as the longest sheet by bytes at the end, within a value or before the first line.
+fn stretched(prng: &mut Prng, mut bytes: Vec<u8>) -> Vec<u8> {
+    let length = reference::LONGEST_SHEET - 2 + prng.below(5);
+    let missing = length.saturating_sub(bytes.len());
+    let fill = prng.pick(b"0123456789\nr");
+    let place = match prng.below(4) {
+        0 => bytes.len(),
+        1 => 0,
+        2 => prng.below(bytes.len()),
+        _ => {
+            // Right after the "=" of a line, where digits make one very long number.
+            let starts: Vec<usize> = (0..bytes.len()).filter(|&at| bytes[at] == b'=').map(|at| at + 1).collect();
+            if starts.is_empty() {
+                0
+            } else {
+                prng.pick(&starts)
+            }
+        }
+    };
+    bytes.splice(place..place, std::iter::repeat_n(fill, missing));
+    if prng.one_in(4) {
+        // Far too long.
+        let more = prng.below(50_000);
+        bytes.extend(std::iter::repeat_n(fill, more));
+    }
+    bytes
+}
+
+/// A line dropped, doubled or exchanged with another.
+fn with_lines_moved(prng: &mut Prng, bytes: Vec<u8>) -> Vec<u8> {
+    let mut lines = lines(&bytes);
+    let line = prng.below(lines.len());
+    let other = prng.below(lines.len());
+    match prng.below(4) {
+        0 => {
+            lines.remove(line);
+        }
+        1 => lines.insert(line, lines[line].clone()),
+        2 => lines.insert(line, lines[other].clone()),
+        _ => lines.swap(line, other),
+    }
+    lines.concat()
+}
+
+/// One of the three counts a little off, its lines as they were.
+fn with_count_moved(prng: &mut Prng, bytes: Vec<u8>) -> Vec<u8> {
+    let mut lines = lines(&bytes);
+    let key = prng.pick(&["segs", "rows", "refs"]);
+    let Some(line) = line_with(prng, &lines, key) else { return bytes };
+    let Some(count) = value_of(&lines[line]) else { return bytes };
+    let moved = (count + 1 + prng.below(3) as u128).saturating_sub(2);
+    lines[line] = format!("{key}={moved}\n").into_bytes();
+    lines.concat()
+}
+
+/// The number on a line, where it has one.
+fn value_of(line: &[u8]) -> Option<u128> {
+    std::str::from_utf8(line).ok()?.trim_end().split_once('=')?.1.parse().ok()
+}
+
+/// A row line with the threshold of the row before, just below it, or far below it.
+fn with_thresholds_moved(prng: &mut Prng, bytes: Vec<u8>) -> Vec<u8> {
+    let mut lines = lines(&bytes);
+    let rows: Vec<usize> = (0..lines.len()).filter(|&line| lines[line].starts_with(b"row=")).collect();
+    if rows.len() < 2 {
+        return bytes;
+    }
+    let place = 1 + prng.below(rows.len() - 1);
+    let Some((h, d)) = row_of(&lines[rows[place - 1]]) else { return bytes };
+    let times = prng.between(1, 5) as u128;
+    let (h, d) = match prng.below(7) {
+        0 => (h, d),
+        1 => (h * times, d * times),
+        2 => (h.saturating_sub(1), d),
+        3 => (h, d + 1),
+        4 => (h + 1, d + 1),
+        5 => (0, d),
+        // Not above the one before, and out of range too.
+        _ => (prng.pick(&[0, h]), 0),
+    };
+    lines[rows[place]] = format!("row={h}/{d}\n").into_bytes();
+    lines.concat()
+}
+
+fn row_of(line: &[u8]) -> Option<(u128, u128)> {
+    let (h, d) = std::str::from_utf8(line).ok()?.trim_end().strip_prefix("row=")?.split_once('/')?;
+    Some((h.parse().ok()?, d.parse().ok()?))
+}
+
+/// Bytes that are no sheet at all, or the beginning of one.
+fn strange(prng: &mut Prng) -> Vec<u8> {
+    let count = prng.below(30);
+    match prng.below(6) {
+        0 => Vec::new(),
+        1 => b"\n".repeat(count),
+        2 => b"kind=time\na=0\nsegs=1\nsize=1\nrows=1\nrow=0/1\nrefs=0".to_vec(),
+        3 => b"kind=time\r\na=0\r\nsegs=1\r\nsize=1\r\nrows=1\r\nrow=0/1\r\nrefs=0\r\n".to_vec(),
+        4 => {
+            let length = reference::LONGEST_SHEET - 2 + prng.below(5);
+            prng.bytes(length)
+        }
+        _ => prng.bytes(count),
+    }
+}
+
+/// The value of a line replaced by another, which is mostly faulty.
+fn with_odd_value(prng: &mut Prng, sheet: &Sheet, bytes: Vec<u8>) -> Vec<u8> {
+    let mut lines = lines(&bytes);
+    let key = prng.pick(&["kind", "a", "segs", "size", "rows", "row", "row", "refs", "ref"]);
+    let Some(line) = line_with(prng, &lines, key) else { return bytes };
+    let old = value_of(&lines[line]).unwrap_or(1);
+    let value = match key {
+        "kind" => prng.pick(&KIND_WORDS).to_string(),
+        "a" => odd_number(prng, old, 0, 255),
+        "segs" => odd_number(prng, old, 1, 256),
+        "size" => odd_number(prng, old, 1, 4_095),
+        "rows" => odd_number(prng, old, 1, 64),
+        "refs" => odd_number(prng, old, 0, 2_048),
+        "ref" => odd_number(prng, old, 0, sheet.sizes.len() as u128 - 1),
+        _ => {
+            let (h, d) = row_of(&lines[line]).unwrap_or((1, 1));
+            odd_row(prng, h, d)
+        }
+    };
+    lines[line] = format!("{key}={value}\n").into_bytes();
+    lines.concat()
+}
+
+const KIND_WORDS: [&str; 14] = [
+    "",
+    "Time",
+    "SPACE",
+    "times",
+    "tim",
+    "spac",
+    "space ",
+    " space",
+    "time\r",
+    "spacetime",
+    "0",
+    "time=",
+    "=space",
+    "time/space",
+];
+
+fn odd_number(prng: &mut Prng, old: u128, low: u128, high: u128) -> String {
+    match prng.below(26) {
+        0 => String::new(),
+        1 => "0".to_string(),
+        2 => low.saturating_sub(1).to_string(),
+        3 => (high + 1).to_string(),
+        4 => high.to_string(),
+        5 => (10 * high).to_string(),
+        6 => format!("0{old}"),
+        7 => "00".to_string(),
+        8 => format!("{old}{}", prng.pick(&["\r", " ", ".0", "/1", "=", "x", ":", "\0", "e1", ","])),
+        9 => format!("{}{old}", prng.pick(&["+", "-", " ", "=", "/", ":", "\t", "0x"])),
+        10 => "-".to_string(),
+        // Numbers that a wrap of 8, 16, 32, 64 or 128 bits would bring back into the range.
+        11 => (old + (1 << 8)).to_string(),
+        12 => (old + (1 << 16)).to_string(),
+        13 => (old + (1 << 32)).to_string(),
+        14 | 15 => (old + (1 << 64)).to_string(),
+        16 => format!("340282366920938463463374607431768{}", 211_456 + old % 700_000),
+        17 => u64::MAX.to_string(),
+        18 => (u64::MAX as u128 * 10 + 9).to_string(),
+        19 => {
+            let length = 5 + prng.below(300);
+            digits(prng, length)
+        }
+        // Many digits, and a byte at their end that is none.
+        20 => {
+            let length = 5 + prng.below(40);
+            digits(prng, length) + prng.pick(&["x", " ", "\r", "/", ":"])
+        }
+        21 => "0".repeat(2 + prng.below(30)),
+        22 => format!("0{}", digits(prng, 30)),
+        23 => (high + prng.between(1, 100_000) as u128).to_string(),
+        24 => prng.between(low as u64, high as u64).to_string(),
+        _ => prng.any_size(low as u64, high as u64).to_string(),
+    }
+}
+
+/// Random digits, the first not 0.
+fn digits(prng: &mut Prng, length: usize) -> String {
+    (0..length).map(|index| char::from(b'0' + prng.between(u64::from(index == 0), 9) as u8)).collect()
+}
+
+fn odd_row(prng: &mut Prng, h: u128, d: u128) -> String {
+    match prng.below(16) {
+        0 => format!("{h}"),
+        1 => format!("{h}/"),
+        2 => format!("/{d}"),
+        3 => "/".to_string(),
+        4 => format!("{h}//{d}"),
+        5 => format!("{h}/{d}/{d}"),
+        6 => format!("{h}/{d}/"),
+        7 => format!("{h} {d}"),
+        8 => format!("{h}/0"),
+        9 => "0/0".to_string(),
+        10 => "65536/65536".to_string(),
+        // Both numbers odd, in any way: 3 is asked of both before 4 is asked of one.
+        11 | 12 => format!("{}/{}", odd_number(prng, h, 0, 65_535), odd_number(prng, d, 1, 65_535)),
+        13 | 14 => format!("{}/{d}", odd_number(prng, h, 0, 65_535)),
+        _ => format!("{h}/{}", odd_number(prng, d, 1, 65_535)),
+    }
+}
+
+// ---- Schedules ----
+
+/// A random permitted schedule: of what was held before, each segment stays with one chance.
+pub fn permitted_schedule(prng: &mut Prng, sheet: &Sheet) -> Vec<u8> {
+    let stays = prng.pick(&[0, 8, 16, 28, 31, 32]);
+    let mut schedule = Vec::with_capacity(STEP * sheet.refs.len());
+    let mut held: Vec<usize> = Vec::new();
+    for &touched in &sheet.refs {
+        held.retain(|&segment| segment != touched && prng.below(32) < stays);
+        held.push(touched);
+        let mut step_bytes = [0; STEP];
+        for &segment in &held {
+            reference::set_held(&mut step_bytes, segment, true);
+        }
+        schedule.extend_from_slice(&step_bytes);
+    }
+    schedule
+}
+
+/// A schedule with a damage. Some damages leave it permitted.
+pub fn damaged_schedule(prng: &mut Prng, sheet: &Sheet, good: &[u8]) -> Vec<u8> {
+    let mut schedule = good.to_vec();
+    let refs = sheet.refs.len();
+    if refs == 0 || prng.one_in(5) {
+        return wrong_length(prng, schedule);
+    }
+    let (one, other) = (prng.below(refs), prng.below(refs));
+    let (early, late) = (one.min(other), one.max(other));
+    match prng.below(9) {
+        0 => touched_not_held(sheet, &mut schedule, one),
+        1 => enters(prng, sheet, &mut schedule, one),
+        2 => {
+            touched_not_held(sheet, &mut schedule, one);
+            enters(prng, sheet, &mut schedule, one);
+        }
+        3 => {
+            enters(prng, sheet, &mut schedule, early);
+            touched_not_held(sheet, &mut schedule, late);
+        }
+        4 => {
+            touched_not_held(sheet, &mut schedule, early);
+            enters(prng, sheet, &mut schedule, late);
+        }
+        5 => {
+            // A bit at or above segs, in that step alone or in every step from there on.
+            let segs = sheet.sizes.len();
+            if segs < 256 {
+                let segment = segs + prng.below(256 - segs);
+                let last = if prng.one_in(2) { early } else { refs - 1 };
+                for step in early..=last {
+                    reference::set_held(&mut schedule[STEP * step..STEP * (step + 1)], segment, true);
+                }
+            }
+        }
+        6 => {
+            // Any bit turned.
+            let place = prng.below(schedule.len());
+            schedule[place] ^= 1 << prng.below(8);
+        }
+        7 => {
+            // Held segments taken out of one step: those that stay in the next are not held before it.
+            let kept = 1 << (sheet.refs[one] % 8);
+            let byte = STEP * one + sheet.refs[one] / 8;
+            schedule[STEP * one..STEP * (one + 1)].fill(0);
+            schedule[byte] = kept;
+        }
+        _ => {
+            let place = STEP * one;
+            let random = prng.bytes(STEP);
+            schedule[place..place + STEP].copy_from_slice(&random);
+        }
+    }
+    schedule
+}
+
+fn wrong_length(prng: &mut Prng, mut schedule: Vec<u8>) -> Vec<u8> {
+    let length = schedule.len();
+    match prng.below(8) {
+        0 => schedule.truncate(length.saturating_sub(1)),
+        1 => schedule.truncate(length.saturating_sub(STEP)),
+        2 => schedule.clear(),
+        3 => schedule.push(0),
+        4 => schedule.extend_from_slice(&[0; STEP]),
+        5 => schedule.extend_from_slice(&[0xff; STEP]),
+        6 => schedule.resize(length + (1 << 16), 0),
+        _ => schedule.resize(2 * length + 1, 0),
+    }
+    schedule
+}
+
+/// 9 in a step, counted from 0.
+fn touched_not_held(sheet: &Sheet, schedule: &mut [u8], step: usize) {
+    reference::set_held(&mut schedule[STEP * step..STEP * (step + 1)], sheet.refs[step], false);
+}
+
+/// 10 in a step, counted from 0: a segment enters that is neither touched nor held before, if there is one.
+fn enters(prng: &mut Prng, sheet: &Sheet, schedule: &mut [u8], step: usize) {
+    let bound = if prng.one_in(4) { 256 } else { sheet.sizes.len() };
+    let before = if step == 0 { [false; 256] } else { reference::held_in(&schedule[STEP * (step - 1)..STEP * step]) };
+    let out: Vec<usize> = (0..bound).filter(|&segment| !before[segment] && segment != sheet.refs[step]).collect();
+    if !out.is_empty() {
+        let segment = prng.pick(&out);
+        reference::set_held(&mut schedule[STEP * step..STEP * (step + 1)], segment, true);
+    }
+}

@@ -1,0 +1,371 @@
+//! The segment trace analyser in the plainest way: each answer straight from its definition, in 128-bit numbers.
+//! A refusal is its number.
+
+/// The longest sheet, in bytes.
+pub const LONGEST_SHEET: usize = 20_012;
+/// The most references of a sheet or a recorder.
+pub const MOST_REFS: usize = 2_048;
+/// Bytes of a schedule for one step.
+pub const STEP: usize = 32;
+
+#[derive(Clone, Copy, Debug, PartialEq, Eq)]
+pub enum Kind {
+    Time,
+    Space,
+}
+
+#[derive(Clone, Copy, Debug, PartialEq, Eq)]
+pub struct Row {
+    pub h: u128,
+    pub d: u128,
+}
+
+impl Row {
+    /// Whether this threshold exceeds another.
+    pub fn exceeds(self, other: Row) -> bool {
+        self.h * other.d > other.h * self.d
+    }
+}
+
+#[derive(Clone, Debug, PartialEq, Eq)]
+pub struct Sheet {
+    pub kind: Kind,
+    pub a: u128,
+    pub sizes: Vec<u128>,
+    pub rows: Vec<Row>,
+    pub refs: Vec<usize>,
+}
+
+// ---- Reading and writing ----
+
+/// The sheet that the bytes are, or the number of its refusal.
+pub fn read(bytes: &[u8]) -> Result<Sheet, u64> {
+    if bytes.len() > LONGEST_SHEET {
+        return Err(1);
+    }
+    let mut rest = bytes;
+    let kind = match take_value(&mut rest, b"kind=")? {
+        b"time" => Kind::Time,
+        b"space" => Kind::Space,
+        _ => return Err(3),
+    };
+    let a = take_number(&mut rest, b"a=", 0, 255)?;
+    let segs = take_number(&mut rest, b"segs=", 1, 256)?;
+    let mut sizes = Vec::new();
+    for _ in 0..segs {
+        sizes.push(take_number(&mut rest, b"size=", 1, 4_095)?);
+    }
+    let row_count = take_number(&mut rest, b"rows=", 1, 64)?;
+    let mut rows: Vec<Row> = Vec::new();
+    for _ in 0..row_count {
+        let row = row_value(take_value(&mut rest, b"row=")?)?;
+        if rows.last().is_some_and(|&before| !row.exceeds(before)) {
+            return Err(5);
+        }
+        rows.push(row);
+    }
+    let ref_count = take_number(&mut rest, b"refs=", 0, MOST_REFS as u128)?;
+    let mut refs = Vec::new();
+    for _ in 0..ref_count {
+        refs.push(take_number(&mut rest, b"ref=", 0, segs - 1)? as usize);
+    }
+    if !rest.is_empty() {
+        return Err(6);
+    }
+    Ok(Sheet { kind, a, sizes, rows, refs })
+}
+
+/// Takes one line off the rest and gives its value. 2: the line is missing, lacks its line feed or does not begin with its key.
+fn take_value<'a>(rest: &mut &'a [u8], key: &[u8]) -> Result<&'a [u8], u64> {
+    let end = rest.iter().position(|&byte| byte == b'\n').ok_or(2u64)?;
+    let (line, after) = (&rest[..end], &rest[end + 1..]);
+    let value = line.strip_prefix(key).ok_or(2u64)?;
+    *rest = after;
+    Ok(value)
+}
+
+fn take_number(rest: &mut &[u8], key: &[u8], low: u128, high: u128) -> Result<u128, u64> {
+    let value = number_value(take_value(rest, key)?)?;
+    in_range(value, low, high)
+}
+
+/// A number of any length: digits with no leading zero. Too many digits for 128 bits count as the largest number.
+fn number_value(text: &[u8]) -> Result<u128, u64> {
+    let leading_zero = text.len() > 1 && text[0] == b'0';
+    if text.is_empty() || leading_zero || !text.iter().all(u8::is_ascii_digit) {
+        return Err(3);
+    }
+    Ok(text.iter().fold(0u128, |value, byte| value.saturating_mul(10).saturating_add(u128::from(byte - b'0'))))
+}
+
+fn in_range(value: u128, low: u128, high: u128) -> Result<u128, u64> {
+    if value < low || value > high {
+        return Err(4);
+    }
+    Ok(value)
+}
+
+/// Two numbers around "/": 3 is asked of both before 4.
+fn row_value(text: &[u8]) -> Result<Row, u64> {
+    let parts: Vec<&[u8]> = text.split(|&byte| byte == b'/').collect();
+    if parts.len() != 2 {
+        return Err(3);
+    }
+    let h = number_value(parts[0])?;
+    let d = number_value(parts[1])?;
+    Ok(Row { h: in_range(h, 0, 65_535)?, d: in_range(d, 1, 65_535)? })
+}
+
+/// The bytes of a sheet.
+pub fn write(sheet: &Sheet) -> Vec<u8> {
+    let mut text = String::new();
+    text += match sheet.kind {
+        Kind::Time => "kind=time\n",
+        Kind::Space => "kind=space\n",
+    };
+    text += &format!("a={}\n", sheet.a);
+    text += &format!("segs={}\n", sheet.sizes.len());
+    for size in &sheet.sizes {
+        text += &format!("size={size}\n");
+    }
+    text += &format!("rows={}\n", sheet.rows.len());
+    for row in &sheet.rows {
+        text += &format!("row={}/{}\n", row.h, row.d);
+    }
+    text += &format!("refs={}\n", sheet.refs.len());
+    for segment in &sheet.refs {
+        text += &format!("ref={segment}\n");
+    }
+    text.into_bytes()
+}
+
+// ---- Costs ----
+
+impl Sheet {
+    pub fn size(&self, segment: usize) -> u128 {
+        self.sizes[segment]
+    }
+
+    pub fn swap_cost(&self, segment: usize) -> u128 {
+        1 + self.a * self.size(segment)
+    }
+
+    /// What a reference costs.
+    pub fn reference_cost(&self, segment: usize) -> u128 {
+        match self.kind {
+            Kind::Time => 1,
+            Kind::Space => self.size(segment),
+        }
+    }
+
+    /// What a step costs in which the segment is held and not touched.
+    pub fn holding_cost(&self, segment: usize) -> u128 {
+        match self.kind {
+            Kind::Time => 1,
+            Kind::Space => self.size(segment),
+        }
+    }
+
+    /// R after an unreferenced time.
+    pub fn retention(&self, segment: usize, unreferenced: u128) -> u128 {
+        match self.kind {
+            Kind::Time => unreferenced,
+            Kind::Space => unreferenced * self.size(segment),
+        }
+    }
+
+    /// Whether a row keeps a reuse of the segment after an unreferenced time.
+    pub fn keeps(&self, row: Row, segment: usize, unreferenced: u128) -> bool {
+        row.d * self.retention(segment, unreferenced) <= row.h * self.swap_cost(segment)
+    }
+
+    /// The segment touched in a step, counted from 1.
+    pub fn touched(&self, step: usize) -> usize {
+        self.refs[step - 1]
+    }
+
+    /// The last step before this one that touches the segment.
+    pub fn last_touch(&self, segment: usize, step: usize) -> Option<usize> {
+        (1..step).rev().find(|&earlier| self.touched(earlier) == segment)
+    }
+}
+
+/// The unreferenced times of a sheet.
+pub struct Intervals {
+    /// For each step: that of the touch, none for a first touch.
+    pub reuses: Vec<Option<u128>>,
+    /// For each segment: that of the end interval, none if it is never touched.
+    pub ends: Vec<Option<u128>>,
+}
+
+impl Intervals {
+    pub fn of(sheet: &Sheet) -> Intervals {
+        let since = |segment, step| sheet.last_touch(segment, step).map(|last| (step - last - 1) as u128);
+        let refs = sheet.refs.len();
+        Intervals {
+            reuses: (1..=refs).map(|step| since(sheet.touched(step), step)).collect(),
+            ends: (0..sheet.sizes.len()).map(|segment| since(segment, refs + 1)).collect(),
+        }
+    }
+}
+
+// ---- Figures ----
+
+/// The eleven items of a row: h, d, misses, volume, load, optmem, opttotal, optocc, wsmem, wsocc, mean.
+pub type Figures = [u64; 11];
+pub const NAMES: [&str; 11] =
+    ["h", "d", "misses", "volume", "load", "optmem", "opttotal", "optocc", "wsmem", "wsocc", "mean"];
+pub const LOAD: usize = 4;
+pub const OPTMEM: usize = 5;
+pub const OPTTOTAL: usize = 6;
+
+pub fn figures(sheet: &Sheet, intervals: &Intervals, row: Row) -> Figures {
+    let Row { h, d } = row;
+    let (mut misses, mut volume, mut optmem, mut optocc) = (0, 0, 0, 0);
+    let (mut wsmem, mut wsocc) = (0, 0);
+    for (&segment, reuse) in sheet.refs.iter().zip(&intervals.reuses) {
+        let size = sheet.size(segment);
+        // Q and V.
+        optmem += sheet.reference_cost(segment);
+        optocc += size;
+        wsmem += d * sheet.reference_cost(segment);
+        wsocc += d * size;
+        match *reuse {
+            Some(unreferenced) if sheet.keeps(row, segment, unreferenced) => {
+                optmem += sheet.retention(segment, unreferenced);
+                optocc += unreferenced * size;
+            }
+            _ => {
+                misses += 1;
+                volume += size;
+            }
+        }
+    }
+    let reuses = sheet.refs.iter().copied().zip(&intervals.reuses);
+    let ends = intervals.ends.iter().enumerate();
+    for (segment, interval) in reuses.chain(ends) {
+        if let Some(unreferenced) = *interval {
+            let smaller = (d * sheet.retention(segment, unreferenced)).min(h * sheet.swap_cost(segment));
+            wsmem += smaller;
+            wsocc += sheet.size(segment) * smaller;
+        }
+    }
+    if sheet.kind == Kind::Space {
+        wsocc = wsmem;
+    }
+    let refs = sheet.refs.len() as u128;
+    let load = misses + sheet.a * volume;
+    let opttotal = d * optmem + h * load;
+    let mean = if refs == 0 { 0 } else { 1_000 * wsocc / (d * refs) };
+    [h, d, misses, volume, load, optmem, opttotal, optocc, wsmem, wsocc, mean].map(narrow)
+}
+
+/// A figure in 64 bits.
+fn narrow(value: u128) -> u64 {
+    u64::try_from(value).expect("a figure fits 64 bits")
+}
+
+/// The listing of a sheet from the figures of its rows.
+pub fn listing(sheet: &Sheet, all: &[Figures]) -> Vec<u8> {
+    let mut text = format!("refs={}\nsegs={}\nrows={}\n", sheet.refs.len(), sheet.sizes.len(), sheet.rows.len());
+    for figures in all {
+        for (name, value) in NAMES.iter().zip(figures) {
+            text += &format!("{name}={value}\n");
+        }
+    }
+    text.into_bytes()
+}
+
+/// The margin of a reference at a row. 14: it is not between 1 and refs. 15: it is a first touch.
+pub fn margin(sheet: &Sheet, row: Row, reference: u64) -> Result<i64, u64> {
+    if reference < 1 || reference > sheet.refs.len() as u64 {
+        return Err(14);
+    }
+    let step = reference as usize;
+    let segment = sheet.touched(step);
+    let last = sheet.last_touch(segment, step).ok_or(15u64)?;
+    let retention = sheet.retention(segment, (step - last - 1) as u128);
+    let margin = (row.h * sheet.swap_cost(segment)) as i128 - (row.d * retention) as i128;
+    Ok(i64::try_from(margin).expect("a margin fits 64 bits"))
+}
+
+/// Whether an answer of the sizing call is right: a row within the ceiling with the least load among such rows, or 12 where no row
+/// is within it.
+pub fn sizing_is_right(all: &[Figures], ceiling: u64, answer: Result<u64, u64>) -> bool {
+    let within: Vec<&Figures> = all.iter().filter(|figures| figures[OPTMEM] <= ceiling).collect();
+    match answer {
+        Ok(row) => usize::try_from(row)
+            .ok()
+            .and_then(|row| all.get(row))
+            .is_some_and(|chosen| chosen[OPTMEM] <= ceiling && within.iter().all(|other| chosen[LOAD] <= other[LOAD])),
+        Err(number) => number == 12 && within.is_empty(),
+    }
+}
+
+// ---- Schedules ----
+
+/// Which of the 256 segments are held in a step.
+pub type Held = [bool; 256];
+
+pub fn held_in(step_bytes: &[u8]) -> Held {
+    std::array::from_fn(|segment| step_bytes[segment / 8] >> (segment % 8) & 1 == 1)
+}
+
+pub fn set_held(step_bytes: &mut [u8], segment: usize, held: bool) {
+    let bit = 1 << (segment % 8);
+    if held {
+        step_bytes[segment / 8] |= bit;
+    } else {
+        step_bytes[segment / 8] &= !bit;
+    }
+}
+
+/// The optimal schedule of a row: held are the touched segment and, between the two touches of a kept reuse, the segment of it.
+pub fn optimal_schedule(sheet: &Sheet, row: Row) -> Vec<u8> {
+    let refs = sheet.refs.len();
+    let mut schedule = vec![0; STEP * refs];
+    for segment in 0..sheet.sizes.len() {
+        let touches: Vec<usize> = (1..=refs).filter(|&step| sheet.touched(step) == segment).collect();
+        for step in 1..=refs {
+            let last = touches.iter().rev().find(|&&touch| touch < step);
+            let next = touches.iter().find(|&&touch| touch > step);
+            let held = sheet.touched(step) == segment
+                || match (last, next) {
+                    (Some(last), Some(next)) => sheet.keeps(row, segment, (next - last - 1) as u128),
+                    _ => false,
+                };
+            set_held(&mut schedule[STEP * (step - 1)..STEP * step], segment, held);
+        }
+    }
+    schedule
+}
+
+/// Memory, load and total.
+pub type Price = [u64; 3];
+
+/// Checks a schedule step by step and prices it. 8: its length. 9 or 10: its earliest faulty step.
+pub fn price(sheet: &Sheet, row: Row, schedule: &[u8]) -> Result<Price, u64> {
+    if schedule.len() != STEP * sheet.refs.len() {
+        return Err(8);
+    }
+    let mut before: Held = [false; 256];
+    let (mut memory, mut load) = (0, 0);
+    for (&touched, step_bytes) in sheet.refs.iter().zip(schedule.chunks(STEP)) {
+        let held = held_in(step_bytes);
+        if !held[touched] {
+            return Err(9);
+        }
+        if (0..256).any(|segment| segment != touched && held[segment] && !before[segment]) {
+            return Err(10);
+        }
+        memory += sheet.reference_cost(touched);
+        for segment in (0..256).filter(|&segment| segment != touched && held[segment]) {
+            memory += sheet.holding_cost(segment);
+        }
+        if !before[touched] {
+            load += sheet.swap_cost(touched);
+        }
+        before = held;
+    }
+    Ok([memory, load, row.d * memory + row.h * load].map(narrow))
+}

@@ -1,0 +1,171 @@
+//! The examples of document 01 and every finite line of Tables II and III of document 002.
+
+use crate::compare::{ensure, Case, Outcome};
+use crate::ffi;
+use crate::generate::Prng;
+use crate::reference::{self, Figures, Kind, Row, Sheet};
+use crate::tally::Tally;
+
+/// Runs them all and gives their number.
+pub fn run(tally: &mut Tally) -> Result<usize, (Vec<u8>, String)> {
+    let mut count = 0;
+    for (bytes, check) in examples() {
+        let case = Prng::of_case(0, count as u64);
+        Case { prng: case, bytes: &bytes, tally }
+            .run()
+            .and_then(|()| check(&bytes))
+            .map_err(|message| (bytes, message))?;
+        tally.end_of_case();
+        count += 1;
+    }
+    Ok(count)
+}
+
+type Check = Box<dyn Fn(&[u8]) -> Outcome>;
+
+fn examples() -> Vec<(Vec<u8>, Check)> {
+    let mut list: Vec<(Vec<u8>, Check)> = Vec::new();
+    list.push((listed_sheet(), Box::new(listing_and_rows)));
+    for kind in [Kind::Time, Kind::Space] {
+        for (h, figures) in table(kind) {
+            list.push((paper_sheet(kind, h, false), Box::new(move |bytes| table_line(kind, figures, bytes))));
+            // A segment that is never touched has no end interval and changes nothing.
+            list.push((paper_sheet(kind, h, true), Box::new(move |bytes| table_line(kind, figures, bytes))));
+        }
+    }
+    for kind in ["time", "space"] {
+        let nothing = format!("kind={kind}\na=7\nsegs=2\nsize=3\nsize=4\nrows=2\nrow=1/2\nrow=3/1\nrefs=0\n");
+        list.push((nothing.into_bytes(), Box::new(all_zero)));
+    }
+    for (text, number) in verdicts() {
+        list.push((text, Box::new(move |bytes| verdict(bytes, number))));
+    }
+    list
+}
+
+/// The sheet of the listing in document 01.
+fn listed_sheet() -> Vec<u8> {
+    b"kind=space\na=1\nsegs=2\nsize=1\nsize=3\nrows=2\nrow=1/2\nrow=1/1\nrefs=6\nref=0\nref=1\nref=0\nref=1\nref=1\nref=0\n".to_vec()
+}
+
+/// P1, P2, P3 and the listing.
+fn listing_and_rows(bytes: &[u8]) -> Outcome {
+    let listing = "refs=6\nsegs=2\nrows=2\n\
+        h=1\nd=2\nmisses=4\nvolume=8\nload=12\noptmem=13\nopttotal=38\noptocc=13\nwsmem=36\nwsocc=36\nmean=3000\n\
+        h=1\nd=1\nmisses=2\nvolume=4\nload=6\noptmem=18\nopttotal=24\noptocc=18\nwsmem=21\nwsocc=21\nmean=3500\n";
+    let mut out = vec![0; listing.len()];
+    let mut written = 0;
+    ffi::listing(bytes, &mut out, &mut written).map_err(|refusal| format!("listing: {refusal:?}"))?;
+    ensure(out == listing.as_bytes(), || "the listing is not the one of document 01".to_string())?;
+    ensure(figures(bytes, 0)? == [1, 2, 4, 8, 12, 13, 38, 13, 36, 36, 3_000], || "P1".to_string())?;
+    ensure(figures(bytes, 1)? == [1, 1, 2, 4, 6, 18, 24, 18, 21, 21, 3_500], || "P2".to_string())?;
+    let mut schedule = vec![0; 6 * 32];
+    ffi::optimal_schedule(bytes, 0, &mut schedule, &mut written).map_err(|refusal| format!("schedule: {refusal:?}"))?;
+    let firsts: Vec<u8> = schedule.iter().step_by(32).copied().collect();
+    ensure(firsts == [1, 3, 1, 2, 2, 1], || "P3".to_string())
+}
+
+fn figures(bytes: &[u8], row: u64) -> Result<Figures, String> {
+    let mut out = [0; 11];
+    ffi::figures(bytes, row, &mut out).map_err(|refusal| format!("figures: {refusal:?}"))?;
+    Ok(out)
+}
+
+/// Table II for kind time: h, then misses, volume, optocc, wsocc. Table III for kind space: h, then misses, volume, optmem, wsmem.
+fn table(kind: Kind) -> Vec<(u128, [u64; 4])> {
+    match kind {
+        Kind::Time => vec![
+            (0, [13, 41, 43, 43]),
+            (1, [11, 35, 49, 82]),
+            (2, [9, 28, 63, 115]),
+            (3, [8, 25, 72, 138]),
+            (4, [7, 23, 80, 158]),
+            (5, [5, 15, 120, 171]),
+            (9, [5, 15, 120, 175]),
+        ],
+        Kind::Space => vec![
+            (0, [13, 41, 43, 43]),
+            (2, [12, 39, 45, 67]),
+            (4, [10, 33, 53, 89]),
+            (6, [10, 33, 53, 107]),
+            (8, [9, 31, 61, 123]),
+            (9, [8, 28, 70, 130]),
+            (10, [7, 23, 80, 135]),
+            (15, [6, 20, 95, 155]),
+            (20, [6, 20, 95, 170]),
+            (25, [5, 15, 120, 175]),
+        ],
+    }
+}
+
+/// The reference string of the two tables, at one threshold h/1.
+fn paper_sheet(kind: Kind, h: u128, one_untouched: bool) -> Vec<u8> {
+    let mut sizes = vec![1, 2, 3, 4, 5];
+    if one_untouched {
+        sizes.push(4_095);
+    }
+    let refs = vec![4, 2, 1, 4, 0, 1, 3, 2, 3, 4, 1, 2, 1, 1];
+    reference::write(&Sheet { kind, a: 0, sizes, rows: vec![Row { h, d: 1 }], refs })
+}
+
+fn table_line(kind: Kind, want: [u64; 4], bytes: &[u8]) -> Outcome {
+    let [h, _, misses, volume, _, optmem, _, optocc, wsmem, wsocc, _] = figures(bytes, 0)?;
+    let got = match kind {
+        Kind::Time => [misses, volume, optocc, wsocc],
+        Kind::Space => [misses, volume, optmem, wsmem],
+    };
+    ensure(got == want, || format!("the table's line {h} of kind {kind:?}: got {got:?}, wanted {want:?}"))
+}
+
+/// P10.
+fn all_zero(bytes: &[u8]) -> Outcome {
+    ensure(figures(bytes, 0)? == [1, 2, 0, 0, 0, 0, 0, 0, 0, 0, 0], || "P10, row 0".to_string())?;
+    ensure(figures(bytes, 1)? == [3, 1, 0, 0, 0, 0, 0, 0, 0, 0, 0], || "P10, row 1".to_string())
+}
+
+fn verdict(bytes: &[u8], number: u64) -> Outcome {
+    let got = ffi::check(bytes).err().map_or(0, ffi::Refusal::number);
+    ensure(got == number, || format!("check gives {got}, wanted {number}"))
+}
+
+/// Sheets and the number that each gets, 0 where it is accepted.
+fn verdicts() -> Vec<(Vec<u8>, u64)> {
+    let sheet = |a: &str, size: &str, rows: &str, refs: &str| {
+        format!("kind=time\na={a}\nsegs=1\nsize={size}\n{rows}refs={refs}\n").into_bytes()
+    };
+    let row = "rows=1\nrow=1/2\n";
+    let many = |count: usize| [sheet("0", "1", row, &count.to_string()), b"ref=0\n".repeat(count)].concat();
+    let longest = longest_sheet();
+    let one_more = [&longest[..], b"\n"].concat();
+    vec![
+        (sheet("255", "1", row, "0"), 0),
+        (sheet("256", "1", row, "0"), 4),
+        (sheet("00", "1", row, "0"), 3),
+        (sheet("0", "0", row, "0"), 4),
+        (sheet("0", "4095", row, "0"), 0),
+        (sheet("0", "4096", row, "0"), 4),
+        (sheet("0", "1", "rows=2\nrow=1/2\nrow=2/4\n", "0"), 5),
+        (sheet("0", "1", "rows=2\nrow=1/2\nrow=0/0\n", "0"), 4),
+        (sheet("0", "1", "rows=2\nrow=1/2\nrow=0/x\n", "0"), 3),
+        (sheet("0", "1", "rows=2\nrow=65534/65535\nrow=65535/65535\n", "0"), 0),
+        (sheet("0", "1", "rows=2\nrow=65533/65534\nrow=65534/65535\n", "0"), 0),
+        (sheet("0", "1", "rows=2\nrow=65534/65535\nrow=65533/65534\n", "0"), 5),
+        (many(2_048), 0),
+        (many(2_049), 4),
+        (Vec::new(), 2),
+        (b"kind=time".to_vec(), 2),
+        (b"kind=tim".to_vec(), 2),
+        (b"kind=tim\n".to_vec(), 3),
+        (longest, 0),
+        (one_more, 1),
+        (vec![b'x'; 20_012], 2),
+        (vec![b'x'; 20_013], 1),
+    ]
+}
+
+/// A sheet of exactly 20,012 bytes.
+fn longest_sheet() -> Vec<u8> {
+    let rows = (0..64).map(|row| Row { h: 60_000 + row, d: 10_000 }).collect();
+    let refs = (0..2_048).map(|step| 100 + step % 156).collect();
+    reference::write(&Sheet { kind: Kind::Space, a: 255, sizes: vec![4_095; 256], rows, refs })
+}
