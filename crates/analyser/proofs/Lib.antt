@@ -1,3 +1,4 @@
+pub mod Alone
 pub mod Demand
 pub mod Entries
 pub mod MarginResults

@@ -9,7 +9,6 @@ use figures::FiguresAnswer;
 use model::LoadUnits;
 use model::MemoryUnits;
 use model::PlaceAnswer;
-use model::PriceRow;
 use model::Refusal;
 use model::RowFigures;
 use model::Verdict;
@@ -22,7 +21,7 @@ ghost use Rattle.model.specs.Places.{placed, placeAnswer, nothingPlaced};
 ghost use Rattle.sheet.specs.Reading.{readSheet};
 ghost use Rattle.sheet.specs.Values.{answerOf, valueOf};
 ghost use Rattle.sheet.specs.Writing.{sheetText};
-ghost use Rattle.figures.specs.Rows.{noFigures, figuresOf, allFigures};
+ghost use Rattle.figures.specs.Rows.{noFigures, figuresAt, figuresOf, allFigures};
 ghost use Rattle.report.specs.Listing.{listingOf};
 ghost use Rattle.schedule.specs.Checking.{noPrice};
 ghost use Rattle.analyser.specs.Answers.{Standing, answerFor, placeFor, figuresAnswer, listingResult, scheduleFor, scheduleResult, priceFor, pricing};
@@ -65,6 +64,22 @@ fn no_figures(why: Refusal) -> FiguresAnswer
     }
 }
 
+// The figures of a row of an accepted sheet: those of the sheet with this row alone, for which the pass has one look at a reuse.
+fn row_alone(s: Sheet, row: usize) -> RowFigures
+    requires { ⌜ Standing s × (row < s .rows) ⌝ }
+    ensures { λ r. ⌜ r ≡ figuresAt (valueOf s) row ⌝ }
+{
+    let kind = s.kind;
+    let segs = s.segs;
+    let refs = s.refs;
+    let sizes = s.sizes;
+    let touches = s.touches;
+    let prices = s.prices;
+    let price = prices[row];
+    let only = figures::figures(kind, s.a, [price; 64], 1, &sizes[..segs], &touches[..refs]);
+    only[0]
+}
+
 // The figures of a row of an accepted sheet, or 7.
 fn sheet_figures(s: Sheet, row: usize) -> FiguresAnswer
     requires { ⌜ Standing s ⌝ }
@@ -73,10 +88,9 @@ fn sheet_figures(s: Sheet, row: usize) -> FiguresAnswer
     if row >= s.rows {
         return no_figures(Refusal::NoSuchRow);
     }
-    let all = all_figures(s);
     FiguresAnswer {
         verdict: Verdict::Accepted,
-        figures: all[row],
+        figures: row_alone(s, row),
     }
 }
 

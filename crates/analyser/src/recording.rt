@@ -7,8 +7,7 @@ use recorder::BulkAnswer;
 use recorder::Recorder;
 use recorder::TouchAnswer;
 ghost use mathlib.Core.Path.{_≡_};
-ghost use Rattle.model.specs.Sheets.{SheetValue, Valid};
-ghost use Rattle.recorder.specs.Recorders.{recorderOf, bulkOf, Touched, Figured};
+ghost use Rattle.recorder.specs.Recorders.{Touched, Figured, Bulked};
 ghost use Rattle.analyser.specs.Recording.{noRecorder, startAnswer};
 
 // No recorder, and why.
@@ -51,9 +50,9 @@ pub fn figures(recorder: Recorder, row: usize) -> FiguresAnswer
     recorder.figures(row)
 }
 
-// Takes references one after the other and stops at the first refusal.
+// Takes references one after the other and stops at the first refusal, 4 or 13; where it takes none, the recorder comes back as it was.
 pub fn touch_all(recorder: Recorder, refs: &[u16]) -> BulkAnswer
-    ensures { λ r. ⌜ ((v : SheetValue) → Valid v → recorder ≡ recorderOf v → r ≡ bulkOf v 0 (now (refs .entry))) ⌝ }
+    ensures { λ r. ⌜ Bulked recorder (now (refs .entry)) r ⌝ }
 {
     recorder.touch_all(refs)
 }

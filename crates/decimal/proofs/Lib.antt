@@ -3,5 +3,4 @@ pub mod Written
 pub mod Readings
 pub mod Scanned
 pub mod Padded
-pub mod Table
-pub mod Powers
+pub mod Leading

@@ -1,8 +1,8 @@
 -- The last k digits of a number, before a list: what a writer that goes from the last digit to the first has yet to write.
 -- Assumes nothing.
-use mathlib.Core.Path.{_≡_, sym, ap, _∙_}
+use mathlib.Core.Path.{_≡_, refl, sym, ap, _∙_}
 use mathlib.Core.List.{List, _∷_, _++_, append-assoc}
-use Prim.Native.Nat.{ℕ, zero, suc, _+_, _/_, _%_, _≤_, _<_}
+use Prim.Native.Nat.{ℕ, zero, suc, _+_, _*_, _/_, _%_, _≤_, _<_}
 use native.Mathlib.Nat.{add-zero, add-suc}
 use native.Mathlib.Numerals.{add-one}
 use native.Mathlib.Omega.{arith}
@@ -50,7 +50,55 @@ fill-step at t out n k j c e =
           (rw (e, add-suc) at (c .whole));
     }
 
+-- the last digit of a number from its other digits and it
+last-digit : (q d : ℕ) → d < 10 → (q * 10 + d) % 10 ≡ d
+last-digit q d h = omega arith
+
+-- and its last two digits
+last-pair : (q p : ℕ) → p < 100 → (q * 100 + p) % 100 ≡ p
+last-pair q p h = omega arith
+
+-- after the write of two digits, the last that were not written
+pub fill-pair : (at : ℕ) (t out : List ℕ) (n k j : ℕ) → Filling at t out n k → k ≡ suc (suc j)
+    → Filling at t (set (set out (at + j + 1) (48 + n % 100 % 10)) (at + j) (48 + n % 100 / 10)) (n / 100) j
+fill-pair at t out n k j c e =
+    let place : at + suc j ≡ at + j + 1 = omega arith in
+    let last : n % 10 ≡ n % 100 % 10 = omega arith in
+    let tens : n / 10 ≡ n / 100 * 10 + n % 100 / 10 = omega arith in
+    let first : n / 10 % 10 ≡ n % 100 / 10 = rw tens (last-digit (n / 100) (n % 100 / 10) (omega arith)) in
+    let rest : n / 10 / 10 ≡ n / 100 = omega arith in
+    rw (rest, first, last, place) at (fill-step at t _ (n / 10) (suc j) j (fill-step at t out n k (suc j) c e) refl)
+
+-- out with the two digits of p at the places at and at + 1
+abbrev pub withPair : List ℕ → ℕ → ℕ → List ℕ
+withPair out at p = set (set out (at + 1) (48 + p % 10)) at (48 + p / 10)
+
+-- after the write of four digits, the last that were not written: o and then q
+pub fill-four : (at : ℕ) (t out : List ℕ) (n k j : ℕ) {o q : List ℕ} → Filling at t out n k → k ≡ suc (suc (suc (suc j)))
+    → o ≡ withPair out (at + j + 2) (n % 10000 % 100) → q ≡ withPair o (at + j) (n % 10000 / 100) → Filling at t q (n / 10000) j
+fill-four at t out n k j c e w v =
+    let place : at + suc (suc j) ≡ at + j + 2 = omega arith in
+    let last : n % 100 ≡ n % 10000 % 100 = omega arith in
+    let hundreds : n / 100 ≡ n / 10000 * 100 + n % 10000 / 100 = omega arith in
+    let first : n / 100 % 100 ≡ n % 10000 / 100 = rw hundreds (last-pair (n / 10000) (n % 10000 / 100) (omega arith)) in
+    let rest : n / 100 / 100 ≡ n / 10000 = omega arith in
+    rw (v, w)
+    (rw (rest, first, last, place) at (fill-pair at t _ (n / 100) (suc (suc j)) j (fill-pair at t out n k (suc (suc j)) c e) refl))
+
 -- after the last write
 pub fill-end : (at : ℕ) (t out : List ℕ) (n k : ℕ) → Filling at t out n k → k ≡ 0 → out ≡ t
 unfolding padded
 fill-end at t out n k c e = sym (take-append-drop at out) ∙ (rw (e, add-zero) at (c .whole))
+
+-- with one digit left, its write is the last
+pub fill-last : (at : ℕ) (t out : List ℕ) (n k : ℕ) → Filling at t out n k → k ≡ 1 → set out at (48 + n % 10) ≡ t
+fill-last at t out n k c e = rw add-zero at (fill-end at t _ (n / 10) 0 (fill-step at t out n k 0 c e) refl)
+
+-- with two left, the write of the pair
+pub fill-last-two : (at : ℕ) (t out : List ℕ) (n k : ℕ) {o : List ℕ} → Filling at t out n k → k ≡ 2 → o ≡ withPair out at (n % 100) → o ≡ t
+fill-last-two at t out n k c e w = w ∙ rw add-zero at (fill-end at t _ (n / 100) 0 (fill-pair at t out n k 0 c e) refl)
+
+-- with three left, the write of the pair and of the digit before it
+pub fill-last-three : (at : ℕ) (t out : List ℕ) (n k : ℕ) {o : List ℕ} → Filling at t out n k → k ≡ 3
+    → o ≡ withPair out (at + 1) (n % 100) → set o at (48 + n / 100 % 10) ≡ t
+fill-last-three at t out n k c e w = rw w (fill-last at t _ (n / 100) 1 (fill-pair at t out n k 1 c e) refl)

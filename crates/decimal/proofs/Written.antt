@@ -156,3 +156,7 @@ written-longer (suc k) n h =
 pub written-exact : (k n : ℕ) → 1 ≤ k → k ≤ length (written n) → n < 10 ^ k → k ≡ length (written n)
 written-exact zero n p h l = absurd (not-suc-le-zero p)
 written-exact (suc k) n p h l = omega (arith, written-length k n l)
+
+-- and a number from 10 ^ k to below 10 ^ suc k has suc k
+pub written-between : (k n : ℕ) → 10 ^ k ≤ n → n < 10 ^ suc k → suc k ≡ length (written n)
+written-between k n h l = omega (arith, written-longer k n h, written-length k n l)

@@ -1,11 +1,11 @@
 // Decimal numbers in bytes: reading one within bounds, and writing one.
-// What a number and its digits are is written in specs/. The table of powers of ten is known to `width` alone. Nothing is assumed.
+// What a number and its digits are is written in specs/. The table of powers of ten is known to `width` and its two parts alone. Nothing is assumed.
 ghost use mathlib.Core.Path.{_≡_};
-ghost use mathlib.Core.Bool.{_&&_};
+ghost use mathlib.Core.Bool.{true, _&&_};
 ghost use mathlib.Core.List.{_++_};
-ghost use Prim.Native.Nat.{_+_, _*_, _-_, _≤_, _<_, min};
-ghost use lib.ListN.{length, take, drop};
-ghost use Rattle.decimal.specs.Decimal.{allDigits, isNumber, written, readingOf};
+ghost use Prim.Native.Nat.{_+_, _*_, _-_, _/_, _%_, _≤_, _<_, min};
+ghost use lib.ListN.{length, take, drop, set};
+ghost use Rattle.decimal.specs.Decimal.{isDigit, allDigits, value, isNumber, written, readingOf};
 
 // What reading a number within bounds gives.
 pub enum Reading {
@@ -69,6 +69,66 @@ pub fn read(s: &[u8], lo: u32, hi: u32) -> Reading
     Reading::Number(v as u32)
 }
 
+// A number at the front of bytes: how many digits it has, 0 where there is none, and its value.
+pub struct Run {
+    pub length: usize,
+    pub value: u32,
+}
+
+// Whether the byte is a digit.
+fn is_digit(b: u8) -> bool
+    ensures { λ r. ⌜ r ≡ isDigit b ⌝ }
+{
+    if b < 48 {
+        return false;
+    }
+    b <= 57
+}
+
+// A number of at most 4 digits at the front of `s`, for the reader of short lines. Where `s` has fewer than 4 bytes it gives none.
+pub fn front(s: &[u8]) -> Run
+    ensures { λ r. ⌜ r .length ≤ length (now (s .entry)) ⌝ }
+    ensures { λ r. ⌜ (0 < r .length → isNumber (take (r .length) (now (s .entry))) ≡ true) ⌝ }
+    ensures { λ r. ⌜ r .value ≡ value (take (r .length) (now (s .entry))) ⌝ }
+{
+    if s.len() < 4 {
+        return Run {
+            length: 0,
+            value: 0,
+        };
+    }
+    let first = s[0];
+    if !is_digit(first) {
+        return Run {
+            length: 0,
+            value: 0,
+        };
+    }
+    if first == 48 {
+        return Run {
+            length: 1,
+            value: 0,
+        };
+    }
+    let mut v = (first - 48) as u32;
+    let mut i = 1;
+    while i < 4 {
+        let b = s[i];
+        if !is_digit(b) {
+            return Run {
+                length: i,
+                value: v,
+            };
+        }
+        v = v * 10 + (b - 48) as u32;
+        i += 1;
+    }
+    Run {
+        length: i,
+        value: v,
+    }
+}
+
 // The powers of ten that fit 64 bits: entry k is 10 to the power k.
 const POWERS: [u64; 20] = [
     1,
@@ -93,19 +153,96 @@ const POWERS: [u64; 20] = [
     10000000000000000000,
 ];
 
+// How many digits a number below 10 to the power 8 is written with.
+fn width_low(n: u64) -> usize
+    requires { ⌜ n < 100000000 ⌝ }
+    ensures { λ r. ⌜ r ≡ length (written n) ⌝ }
+{
+    let powers = POWERS;
+    if n < powers[4] {
+        if n < powers[2] {
+            if n < powers[1] {
+                return 1;
+            }
+            return 2;
+        }
+        if n < powers[3] {
+            return 3;
+        }
+        return 4;
+    }
+    if n < powers[6] {
+        if n < powers[5] {
+            return 5;
+        }
+        return 6;
+    }
+    if n < powers[7] {
+        return 7;
+    }
+    8
+}
+
+// How many digits a number from 10 to the power 8 to below 10 to the power 16 is written with.
+fn width_middle(n: u64) -> usize
+    requires { ⌜ (100000000 ≤ n) × (n < 10000000000000000) ⌝ }
+    ensures { λ r. ⌜ r ≡ length (written n) ⌝ }
+{
+    let powers = POWERS;
+    if n < powers[12] {
+        if n < powers[10] {
+            if n < powers[9] {
+                return 9;
+            }
+            return 10;
+        }
+        if n < powers[11] {
+            return 11;
+        }
+        return 12;
+    }
+    if n < powers[14] {
+        if n < powers[13] {
+            return 13;
+        }
+        return 14;
+    }
+    if n < powers[15] {
+        return 15;
+    }
+    16
+}
+
 // How many digits `n` is written with.
 pub fn width(n: u64) -> usize
     ensures { λ r. ⌜ r ≡ length (written n) ⌝ }
 {
     let powers = POWERS;
-    let mut k: usize = 1;
-    while k < 20 {
-        if n < powers[k] {
-            return k;
-        }
-        k += 1;
+    if n < powers[8] {
+        return width_low(n);
     }
-    k
+    if n < powers[16] {
+        return width_middle(n);
+    }
+    if n < powers[18] {
+        if n < powers[17] {
+            return 17;
+        }
+        return 18;
+    }
+    if n < powers[19] {
+        return 19;
+    }
+    20
+}
+
+// Writes the two digits of `pair` into `out` at the places `at` and `at + 1`.
+fn put_pair(pair: u64, out: &mut [u8], at: usize)
+    requires { ⌜ (pair < 100) × (at + 2 ≤ length (now out)) ⌝ }
+    ensures { λ r. ⌜ now (out .exit) ≡ set (set (now (out .entry)) (at + 1) (48 + pair % 10)) at (48 + pair / 10) ⌝ }
+{
+    out[at + 1] = 48 + (pair % 10) as u8;
+    out[at] = 48 + (pair / 10) as u8;
 }
 
 // Writes the digits of `n` into `out` from the place `at` on, and gives the place after them. The other bytes of `out` stay.
@@ -117,10 +254,25 @@ pub fn write(n: u64, out: &mut [u8], at: usize) -> usize
     let w = width(n);
     let mut rest = n;
     let mut left = w;
-    while 0 < left {
-        left -= 1;
-        out[at + left] = 48 + (rest % 10) as u8;
-        rest = rest / 10;
+    while 3 < left {
+        left -= 4;
+        let four = rest % 10000;
+        put_pair(four % 100, out, at + left + 2);
+        put_pair(four / 100, out, at + left);
+        rest = rest / 10000;
     }
+    if left == 0 {
+        return at + w;
+    }
+    if left == 1 {
+        out[at] = 48 + (rest % 10) as u8;
+        return at + w;
+    }
+    if left == 2 {
+        put_pair(rest % 100, out, at);
+        return at + w;
+    }
+    put_pair(rest % 100, out, at + 1);
+    out[at] = 48 + (rest / 100 % 10) as u8;
     at + w
 }

@@ -10,7 +10,7 @@ use Rattle.model.specs.Traces.{Trace, segs, steps}
 use Rattle.model.specs.Sheets.{mostSegs}
 use Rattle.model.specs.declared.Kind.{Kind}
 use Rattle.model.specs.declared.PriceRow.{PriceRow}
-use Rattle.model.proofs.LastTouches.{lastTable}
+use Rattle.model.specs.LastTouches.{lastTable}
 use Rattle.figures.specs.Buckets.{bucketCount, endBucket, tallyOf}
 use Rattle.figures.specs.Pass.{Limited, withEnd, bucketOver, allEmpty, passedOf, endTouch, endsOf}
 use Rattle.figures.specs.declared.Bucket.{Bucket}

@@ -12,7 +12,8 @@ use Rattle.model.specs.Sheets.{mostRefs}
 use Rattle.model.specs.declared.PriceRow.{PriceRow}
 use Rattle.model.proofs.Sums.{last-or-below}
 use Rattle.model.proofs.Growth.{grown, unitCosts, refSizes, unreferenced-past, sum-agree, steps-grown, entry-grown, grown-agree, grown-past}
-use Rattle.model.proofs.LastTouches.{lastFrom, lastTable, length-lastTable, lastTable-at}
+use Rattle.model.specs.LastTouches.{lastFrom, lastTable}
+use Rattle.model.proofs.LastTouches.{length-lastTable, lastTable-at}
 use Rattle.figures.specs.Buckets.{bucketCount}
 use Rattle.figures.specs.Pass.{bucketOver}
 use Rattle.figures.specs.declared.Bucket.{Bucket}

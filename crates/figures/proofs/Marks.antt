@@ -8,7 +8,8 @@ use lib.ListN.{getD}
 use borrow.Author.Tests.{le-leb, lt-leb}
 use Rattle.model.specs.Traces.{Trace, unreferenced}
 use Rattle.model.specs.Sheets.{mostSegs}
-use Rattle.model.proofs.LastTouches.{untouchedMark, lastFrom, lastTable, lastTable-at, lastTable-start, unreferenced-below}
+use Rattle.model.specs.LastTouches.{untouchedMark, lastFrom, lastTable}
+use Rattle.model.proofs.LastTouches.{lastTable-at, lastTable-start, unreferenced-below}
 use Rattle.figures.specs.Pass.{timeOf, allUntouched}
 
 module _ (T : Trace) (fresh : (i : ℕ) → T .start i ≡ false) where

@@ -14,7 +14,8 @@ use Rattle.model.specs.Figures.{refCost, refVolume}
 use Rattle.model.specs.Sheets.{SheetValue, Valid, traceOf, mostSegs, mostRefs}
 use Rattle.model.specs.declared.PriceRow.{PriceRow}
 use Rattle.model.proofs.Sums.{sum-suc, sum-none}
-use Rattle.model.proofs.LastTouches.{lastTable, lastTable-step}
+use Rattle.model.specs.LastTouches.{lastTable}
+use Rattle.model.proofs.LastTouches.{lastTable-step}
 use Rattle.figures.specs.Buckets.{bucketCount, bucketAfter}
 use Rattle.figures.specs.Pass.{Ascending, touchOf, Limited, withTouch, bucketOver, timeOf, allUntouched, allEmpty, passedOf}
 use Rattle.figures.specs.declared.Bucket.{Bucket}

@@ -14,7 +14,7 @@ use Rattle.model.specs.Figures.{ofTime, isReuse, refCost, refVolume}
 use Rattle.model.specs.Sheets.{SheetValue, traceOf, mostSegs, mostRows, Exceeds}
 use Rattle.model.specs.declared.Kind.{Kind}
 use Rattle.model.specs.declared.PriceRow.{PriceRow}
-use Rattle.model.proofs.LastTouches.{untouchedMark, lastTable}
+use Rattle.model.specs.LastTouches.{untouchedMark, lastTable}
 use Rattle.figures.specs.Buckets.{lastBucket, bucketCount, firstRow, bucketAfter, tabulate, tallyOf}
 use Rattle.figures.specs.Rows.{partsOf}
 use Rattle.figures.specs.Sweep.{noBucket}

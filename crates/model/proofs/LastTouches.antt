@@ -1,32 +1,18 @@
--- The table of last touches, which the code keeps instead of unreferenced times: for each of 256 segments the number of the step of its
--- last touch, or the mark "untouched". For runs with an empty start set. Assumes nothing.
-use Prim.Native.Nat.{ℕ, zero, suc, _-_, _≤_, _<_}
+-- The table of last touches, which the code keeps instead of unreferenced times: how a step changes it, and what it tells. For runs with an
+-- empty start set. Assumes nothing.
+use Prim.Native.Nat.{ℕ, zero, suc, _≤_, _<_}
 use mathlib.Core.Path.{_≡_, refl, sym, _∙_}
 use mathlib.Core.Bool.{Bool, true, false, _&&_}
-use mathlib.Core.List.{List}
 use mathlib.Core.Option.{Option, none, some}
 use native.Mathlib.Omega.{arith}
 use lib.Dec.{eqb, ltb}
 use lib.ListN.{length, getD, set, replicate, length-set, length-replicate, getD-replicate}
 use lib.Seq.{ext-getD, getD-set-same, getD-set-other}
 use borrow.Author.Tests.{eqb-true, eqb-false}
-use Rattle.model.specs.Sums.{listOf}
+use Rattle.model.specs.LastTouches.{untouchedMark, lastFrom, lastTable}
 use Rattle.model.specs.Traces.{Trace, segs, entry, touched, later, unreferenced}
 use Rattle.model.proofs.Sums.{length-listOf, getD-listOf}
 use Rattle.model.proofs.Touches.{touched-at, unreferenced-none, unreferenced-touched, unreferenced-later}
-
--- the mark of an untouched segment
-abbrev pub untouchedMark : ℕ
-untouchedMark = 65535
-
--- what the table holds after n steps for a segment with this unreferenced time
-abbrev pub lastFrom : ℕ → Option ℕ → ℕ
-lastFrom n none = untouchedMark
-lastFrom n (some k) = n - k
-
--- the table after n steps
-unfoldable pub lastTable : Trace → ℕ → List ℕ
-lastTable T n = listOf 256 (λ i. lastFrom n (unreferenced T n i))
 
 pub length-lastTable : (T : Trace) (n : ℕ) → length (lastTable T n) ≡ 256
 unfolding lastTable

@@ -1,6 +1,7 @@
 pub mod Costs
 pub mod Demand
 pub mod Figures
+pub mod LastTouches
 pub mod Places
 pub mod Refusals
 pub mod Rows

@@ -18,7 +18,7 @@ use Rattle.model.specs.declared.Refusal.the-variants.{OutOfRange, RecorderFull}
 use Rattle.model.specs.declared.Verdict.{Verdict}
 use Rattle.model.specs.declared.Verdict.the-variants.{Accepted, Refused}
 use Rattle.model.proofs.Sums.{last-or-below}
-use Rattle.recorder.specs.Recorders.{recorderOf, taken, touchVerdict, bulkOf}
+use Rattle.recorder.specs.Recorders.{recorderOf, taken, touchVerdict, bulkOf, Bulked}
 use Rattle.recorder.specs.Guards.{appended, Takable, TakesNoMore, stopVerdict}
 use Rattle.recorder.specs.declared.Recorder.{Recorder}
 use Rattle.recorder.specs.declared.BulkAnswer.{BulkAnswer}
@@ -102,6 +102,11 @@ bulk-prefix (suc n) (x ∷ xs) v k few s =
           room = λ t l. omega (arith, s .room (suc t) (omega arith), length-append (v .refs) (x ∷ []));
         }
 
+-- nothing is taken: the recorder that stands for a sheet still does
+pub none-taken : (R : Recorder) (xs : List ℕ) (n : ℕ) → n ≡ 0 → (v : SheetValue) → Valid v → R ≡ recorderOf v
+    → R ≡ recorderOf (appended v (take n xs))
+none-taken R xs n e v valid stands = rw (e, appended-none v) stands
+
 -- a recorder R that stands for v: the first n of the references xs were taken, and N is the recorder after them
 module _ (R N : Recorder) (xs : List ℕ) (n segs : ℕ) (clamped : segs ≡ min (R .segs) mostSegs) (s : Takable segs (R .refs) xs n)
     (next : (v : SheetValue) → Valid v → R ≡ recorderOf v → N ≡ recorderOf (appended v (take n xs))) where
@@ -173,6 +178,18 @@ module _ (R N : Recorder) (xs : List ℕ) (n segs : ℕ) (clamped : segs ≡ min
           bulk-full l b (most l b) v valid e
       go true lt false above = bulk-out-of-range (ltb-true n (length xs) lt) (ltb-false (getD xs n 0) segs above) v valid e
       go false le q any = bulk-accepted (ltb-false n (length xs) le) v valid e
+
+  -- all that is promised of it, where the recorder is as it was if none was taken
+  pub bulked : TakesNoMore segs (R .refs) xs n → (n ≡ 0 → N ≡ R)
+      → Bulked R xs (record { verdict = stopVerdict segs xs n; taken = n; recorder = N })
+  bulked most same =
+      record {
+        fit = rw (← clamped) s;
+        stopped = rw (← clamped) most;
+        verdict-is = rw (← clamped) refl;
+        unchanged = same;
+        stands = bulk-answer most;
+      }
 
 -- what can be taken after a recorder that stands for a sheet can be taken after the sheet
 pub takable-of : (R : Recorder) (xs : List ℕ) (n : ℕ) → Takable (min (R .segs) mostSegs) (R .refs) xs n

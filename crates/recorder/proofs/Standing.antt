@@ -16,7 +16,8 @@ use Rattle.model.specs.Sums.{sum}
 use Rattle.model.specs.Traces.{segs, entry, sizeOf, unitOf, touching, unreferenced}
 use Rattle.model.specs.Figures.{ofTime, refCost, refVolume}
 use Rattle.model.specs.Sheets.{SheetValue, Valid, traceOf, mostSegs, mostRows, mostRefs}
-use Rattle.model.proofs.LastTouches.{lastTable, unreferenced-below}
+use Rattle.model.specs.LastTouches.{lastTable}
+use Rattle.model.proofs.LastTouches.{unreferenced-below}
 use Rattle.figures.specs.Buckets.{bucketCount, bucketOf, bucketAfter, tabulate}
 use Rattle.figures.specs.Pass.{touchOf, Limited, bucketOver, passedOf}
 use Rattle.figures.specs.Rows.{partsOf}

@@ -9,7 +9,7 @@ use lib.Seq.{getD-at}
 use Rattle.model.specs.Costs.{unitCost}
 use Rattle.model.specs.Figures.{refCost, refVolume}
 use Rattle.model.specs.Sheets.{SheetValue, Valid, traceOf, mostSegs, mostRows, mostRefs}
-use Rattle.model.proofs.LastTouches.{lastTable}
+use Rattle.model.specs.LastTouches.{lastTable}
 use Rattle.model.proofs.Growth.{grown, steps-grown}
 use Rattle.sheet.specs.Values.{padded, zeros, zeroRows, sheetOf, valueOf}
 use Rattle.sheet.proofs.Held.{held}

@@ -18,7 +18,8 @@ use Rattle.figures.specs.Buckets.{bucketCount, bucketAfter, tabulate}
 use Rattle.figures.specs.Pass.{allUntouched, allEmpty}
 use Rattle.figures.specs.Rows.{noFigures, figuresOf}
 use Rattle.figures.specs.declared.FiguresAnswer.{FiguresAnswer}
-use Rattle.model.proofs.LastTouches.{lastTable}
+use Rattle.model.specs.LastTouches.{lastTable}
+use Rattle.recorder.specs.Guards.{Takable, TakesNoMore, stopVerdict}
 use Rattle.recorder.specs.declared.Recorder.{Recorder}
 use Rattle.recorder.specs.declared.TouchAnswer.{TouchAnswer}
 use Rattle.recorder.specs.declared.BulkAnswer.{BulkAnswer}
@@ -94,3 +95,15 @@ bulkOf v k (x ∷ xs) =
       | Accepted ↦ bulkOf (taken v x) (suc k) xs
       | Refused why ↦ record { verdict = Refused why; taken = k; recorder = recorderOf v }
     ]
+
+-- what taking several references answers
+pub record Bulked (R : Recorder) (xs : List ℕ) (r : BulkAnswer) : Type 0 where
+  -- those that were taken can be taken one after the other, and the next cannot
+  pub fit : Takable (min (R .segs) mostSegs) (R .refs) xs (r .taken)
+  pub stopped : TakesNoMore (min (R .segs) mostSegs) (R .refs) xs (r .taken)
+  -- why the next one is refused, if there is one
+  pub verdict-is : r .verdict ≡ stopVerdict (min (R .segs) mostSegs) xs (r .taken)
+  -- where none was taken the recorder comes back as it was
+  pub unchanged : r .taken ≡ 0 → r .recorder ≡ R
+  -- of a recorder that stands for a sheet it is the same as touching one by one
+  pub stands : (v : SheetValue) → Valid v → R ≡ recorderOf v → r ≡ bulkOf v 0 xs

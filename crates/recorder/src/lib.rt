@@ -15,7 +15,7 @@ use sheet::Sheet;
 ghost use mathlib.Core.Path.{_≡_};
 ghost use Rattle.model.specs.Sheets.{SheetValue, Valid};
 ghost use Rattle.sheet.specs.Values.{sheetOf};
-ghost use Rattle.recorder.specs.Recorders.{recorderOf, emptyRecorder, headOf, Touched, Figured, bulkOf};
+ghost use Rattle.recorder.specs.Recorders.{recorderOf, emptyRecorder, headOf, Touched, Figured, Bulked};
 
 // A recorder by value: kind, a, sizes and rows of its sheet, the references taken, the table of last touches, the buckets, Q and V.
 pub struct Recorder {
@@ -121,12 +121,19 @@ impl Recorder {
         }
     }
 
-    // Takes references one after the other and stops at the first refusal.
+    // Takes references one after the other and stops at the first refusal; where it takes none, the recorder comes back as it was.
     pub fn touch_all(self, refs: &[u16]) -> BulkAnswer
-        ensures { λ r. ⌜ ((v : SheetValue) → Valid v → self ≡ recorderOf v → r ≡ bulkOf v 0 (now (refs .entry))) ⌝ }
+        ensures { λ r. ⌜ Bulked self (now (refs .entry)) r ⌝ }
     {
         let segs = guards::least(self.segs, Recorder::MAX_SEGS);
         let n = taking::acceptable(refs, segs, self.refs);
+        if n == 0 {
+            return BulkAnswer {
+                verdict: taking::verdict(refs, segs, n),
+                taken: n,
+                recorder: self,
+            };
+        }
         let recorder = taking::take_first(self, refs, n);
         BulkAnswer {
             verdict: taking::verdict(refs, segs, n),

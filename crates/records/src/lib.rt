@@ -15,9 +15,9 @@ ghost use Rattle.analyser.specs.Answers.{Standing};
 ghost use Rattle.records.specs.Listed.{noRecords, recordsFor, recordsFound, listAnswer, listAfter};
 
 // The records to be written: the answer, whose length is how many they are, and the figures of every row, zeros where there is none.
-struct Records {
-    answer: PlaceAnswer,
-    figures: [RowFigures; 64],
+pub struct Records {
+    pub answer: PlaceAnswer,
+    pub figures: [RowFigures; 64],
 }
 
 // No records, and why.
@@ -64,8 +64,9 @@ fn sheet_records(s: Sheet, room: usize) -> Records
     }
 }
 
-// The records for a list of so many: refused with 1 to 6, 11.
-fn all_records(bytes: &[u8], room: usize) -> Records
+// The records of the sheet that a run of bytes stands for, for a list of so many: refused with 1 to 6, then 11 where the list is shorter
+// than the rows.
+pub fn all_records(bytes: &[u8], room: usize) -> Records
     ensures { λ r. ⌜ r ≡ recordsFound (now (bytes .entry)) room ⌝ }
 {
     let answer = sheet::reading::read(bytes);

@@ -1,9 +1,13 @@
--- The listing of at most 64 rows, with numbers of 64 bits, fits a place of 65,536 bytes. Assumes nothing.
-use Prim.Native.Nat.{ℕ, _^_, _≤_, _<_}
+-- The listing of at most 64 rows, with numbers of 64 bits, has at most 21,210 bytes, and when a place has room for it. Assumes nothing.
+use Prim.Native.Nat.{ℕ, _+_, _*_, _^_, _≤_, _<_, min}
+use mathlib.Core.Path.{_≡_, refl}
+use mathlib.Core.Bool.{Bool, true, false}
 use mathlib.Core.List.{List}
 use mathlib.Core.Option.{Option, none}
 use native.Mathlib.Omega.{arith}
-use lib.ListN.{length, getD}
+use borrow.Author.Tests.{ltb-true, ltb-false, lt-ltb, le-ltb}
+use lib.Dec.{ltb}
+use lib.ListN.{length, take, getD}
 use lib.Seq.{take-all}
 use Rattle.decimal.specs.Decimal.{written}
 use Rattle.decimal.proofs.Written.{written-length}
@@ -28,10 +32,11 @@ use Rattle.report.specs.Listing.{
   wsoccKey,
   meanKey,
   rowListing,
+  rowsListing,
   listing,
 }
 use Rattle.report.specs.Parts.{threeText}
-use Rattle.report.proofs.ListingParts.{three-length, row-length, rows-listing, listing-length}
+use Rattle.report.proofs.ListingParts.{headText, three-length, row-length, rows-listing, listing-length}
 
 -- every figure of a row is a number of 64 bits
 pub record Words (f : RowFigures) : Type 0 where
@@ -58,7 +63,7 @@ three-within k x l y m z hk hl hm hx hy hz =
     rw (three-length k x l y m z) (omega (arith, line-within k x hk hx, line-within l y hl hy, line-within m z hm hz))
 
 -- a row has at most 330
-row-within : (f : RowFigures) → Words f → length (rowListing f) ≤ 330
+pub row-within : (f : RowFigures) → Words f → length (rowListing f) ≤ 330
 row-within f w =
     rw (row-length f)
     (omega (
@@ -73,9 +78,13 @@ row-within f w =
           (w .wsmem-fits) (w .wsocc-fits) (w .mean-fits),
     ))
 
--- the listing of at most 64 rows fits 65,536 bytes
+-- so a row has room wherever there is room for 330
+pub row-room : (f : RowFigures) (at n : ℕ) → Words f → at + min (length (rowListing f)) 330 ≤ n → at + length (rowListing f) ≤ n
+row-room f at n w h = omega (arith, row-within f w)
+
+-- the listing of at most 64 rows has at most 21,210 bytes
 pub listing-within : (refs segs : ℕ) (fs : List RowFigures) → refs < 2 ^ 64 → segs < 2 ^ 64 → length fs ≤ 64
-    → ((i : ℕ) → i < length fs → Words (getD fs i zeroFigures)) → length (listing refs segs fs) ≤ 65536
+    → ((i : ℕ) → i < length fs → Words (getD fs i zeroFigures)) → length (listing refs segs fs) ≤ 21210
 listing-within refs segs fs hr hs hn w =
     let n = length fs in
     let rows = lines-length rowListing Fits 0 330 (λ prev f h. (omega arith, row-within f h)) none fs (each-of Fits zeroFigures none fs w) in
@@ -84,3 +93,20 @@ listing-within refs segs fs hr hs hn w =
   where
     Fits : Option RowFigures → RowFigures → Type 0
     Fits prev f = Words f
+
+-- a place with room for the smaller of the listing and 21,210 bytes has room for its first lines, and then for the rows or 330 bytes each
+pub listing-room : (refs segs n : ℕ) (fs : List RowFigures) (s : ℕ) → refs < 2 ^ 64 → segs < 2 ^ 64 → n ≤ 64 → n ≤ length fs
+    → min (length (listing refs segs (take n fs))) 21210 ≤ s
+    → (length (headText refs segs n) ≤ s) × (length (headText refs segs n) + min (length (rowsListing (take n fs))) (330 * n) ≤ s)
+listing-room refs segs n fs s hr hs hn hl h =
+    let head = three-within refsKey refs segsKey segs rowsKey n (omega arith) (omega arith) (omega arith) hr hs (omega arith) in
+    let whole = listing-length refs segs n fs hl in
+    (omega arith, omega arith)
+
+-- a place of s bytes, fewer than m, is shorter than l bytes where it is shorter than the smaller of l and m
+pub short-of : (s l m : ℕ) → s < m → ltb s l ≡ ltb s (min l m)
+short-of s l m h = go (ltb s l) refl
+  where
+    go : (b : Bool) → ltb s l ≡ b → ltb s l ≡ ltb s (min l m)
+    go true e = rw (e, lt-ltb s (min l m) (omega (arith, ltb-true s l e)))
+    go false e = rw (e, le-ltb s (min l m) (omega (arith, ltb-false s l e)))

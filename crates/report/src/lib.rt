@@ -1,4 +1,4 @@
-// The listing as text: its length first, then its lines one after the other into a lent place.
+// The listing as text: its length first where the place may be too short, then its lines one after the other into the lent place.
 // What the text is stands in specs/Listing.antt, and its parts in specs/Parts.antt. Nothing is assumed.
 use model::PlaceAnswer;
 use model::Refusal;
@@ -7,7 +7,8 @@ use model::Verdict;
 use sheet::writing::number_length;
 use sheet::writing::put_number;
 ghost use mathlib.Core.Path.{_≡_};
-ghost use Prim.Native.Nat.{ℕ, _+_, _≤_};
+ghost use Prim.Native.Nat.{_+_, _*_, _≤_, min};
+ghost use lib.Dec.{ltb};
 ghost use lib.ListN.{length, take};
 ghost use Rattle.model.specs.Places.{placed, placeAnswer};
 ghost use Rattle.sheet.specs.Parts.{Put};
@@ -62,6 +63,26 @@ fn rows_length(figures: [RowFigures; 64], n: usize) -> usize
         i += 1;
     }
     sum
+}
+
+// Whether a place of `size` bytes is shorter than the listing. No listing exceeds 21,210 bytes, so the length is worked out only for a
+// shorter place.
+fn too_short(refs: usize, segs: usize, figures: [RowFigures; 64], rows: usize, size: usize) -> bool
+    requires { ⌜ rows ≤ 64 ⌝ }
+    ensures { λ r. ⌜ r ≡ ltb size (min (length (listing refs segs (take rows figures))) 21210) ⌝ }
+{
+    if 21210 <= size {
+        return false;
+    }
+    let head = three_length(
+        b"refs=",
+        refs as u64,
+        b"segs=",
+        segs as u64,
+        b"rows=",
+        rows as u64,
+    );
+    size < head + rows_length(figures, rows)
 }
 
 // ---- parts
@@ -125,16 +146,24 @@ fn put_row(f: RowFigures, out: &mut [u8], at: usize) -> usize
     )
 }
 
-// Writes the lines of the first `n` rows, and gives the index after them.
+// The same where there is room for 330 bytes, which no row exceeds.
+fn put_row_within(f: RowFigures, out: &mut [u8], at: usize) -> usize
+    requires { ⌜ at + min (length (rowListing f)) 330 ≤ length (now out) ⌝ }
+    ensures { λ r. ⌜ Put (rowListing f) at (now (out .entry)) r (now (out .exit)) × (r ≤ at + 330) ⌝ }
+{
+    put_row(f, out, at)
+}
+
+// Writes the lines of the first `n` rows, and gives the index after them. There is room for them, or for 330 bytes a row.
 fn put_rows(figures: [RowFigures; 64], n: usize, out: &mut [u8], at: usize) -> usize
-    requires { ⌜ (n ≤ 64) × (at + length (rowsListing (take n figures)) ≤ length (now out)) ⌝ }
+    requires { ⌜ (n ≤ 64) × (at + min (length (rowsListing (take n figures))) (330 * n) ≤ length (now out)) ⌝ }
     ensures { λ r. ⌜ Put (rowsListing (take n figures)) at (now (out .entry)) r (now (out .exit)) ⌝ }
 {
     let mut next = at;
     let mut i = 0;
     while i < n {
         let f = figures[i];
-        next = put_row(f, out, next);
+        next = put_row_within(f, out, next);
         i += 1;
     }
     next
@@ -155,16 +184,7 @@ pub fn write(
     ensures { λ r. ⌜ (r ≡ placeAnswer (listing refs segs (take rows figures)) (now (out .entry)))
         × (now (out .exit) ≡ placed (listing refs segs (take rows figures)) (now (out .entry))) ⌝ }
 {
-    let head = three_length(
-        b"refs=",
-        refs as u64,
-        b"segs=",
-        segs as u64,
-        b"rows=",
-        rows as u64,
-    );
-    let length = head + rows_length(figures, rows);
-    if out.len() < length {
+    if too_short(refs, segs, figures, rows, out.len()) {
         return PlaceAnswer {
             verdict: Verdict::Refused(Refusal::PlaceTooShort),
             length: 0,
@@ -180,7 +200,7 @@ pub fn write(
         out,
         0,
     );
-    put_rows(figures, rows, out, first);
+    let length = put_rows(figures, rows, out, first);
     PlaceAnswer {
         verdict: Verdict::Accepted,
         length,

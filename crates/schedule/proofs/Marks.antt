@@ -17,7 +17,8 @@ use Rattle.model.specs.declared.Kind.{Kind}
 use Rattle.model.specs.declared.PriceRow.{PriceRow}
 use Rattle.model.specs.declared.Kind.the-variants.{Time, Space}
 use Rattle.model.proofs.Bounds.{product-within}
-use Rattle.model.proofs.LastTouches.{lastFrom, lastTable, lastTable-at, lastTable-start, lastTable-step, unreferenced-below}
+use Rattle.model.specs.LastTouches.{lastFrom, lastTable}
+use Rattle.model.proofs.LastTouches.{lastTable-at, lastTable-start, lastTable-step, unreferenced-below}
 use Rattle.schedule.specs.Requires.{runOf, Limits}
 use Rattle.schedule.specs.Writing.{allUntouched, noMarks, keptBy}
 

@@ -16,6 +16,7 @@ pub mod RoundTrip
 pub mod Runs
 pub mod SheetLines
 pub mod SheetParts
+pub mod ShortLines
 pub mod Splits
 pub mod Tails
 pub mod Words

@@ -54,7 +54,7 @@ number-reads key lo hi k = line-reads key _ written (λ n. (lo ≤ n) × (n ≤ 
 -- ---- a kind
 
 -- what is the same is equal
-same-equal : (x y : List ℕ) → sameBytes x y ≡ true → x ≡ y
+pub same-equal : (x y : List ℕ) → sameBytes x y ≡ true → x ≡ y
 unfolding sameBytes
 same-equal [] [] e = refl
 same-equal [] (b ∷ y) e = cc

@@ -8,15 +8,15 @@ use model::PriceRow;
 use model::Refusal;
 use model::Verdict;
 ghost use mathlib.Core.Path.{_≡_};
-ghost use mathlib.Core.List.{List};
+ghost use mathlib.Core.List.{List, _++_};
 ghost use mathlib.Core.Option.{Option, none};
-ghost use Prim.Native.Nat.{ℕ, _≤_, _<_};
-ghost use lib.ListN.{length, take, drop};
+ghost use Prim.Native.Nat.{ℕ, _+_, _*_, _-_, _≤_, _<_};
+ghost use lib.ListN.{length, getD, take, drop};
 ghost use Rattle.model.specs.declared.PriceRow.{PriceRow};
 ghost use Rattle.model.specs.Sheets.{mostSegs, mostRows, mostRefs, largestPrice};
 ghost use Rattle.decimal.specs.Decimal.{readingOf};
 ghost use Rattle.sheet.specs.Keys.{lineFeed, slash};
-ghost use Rattle.sheet.specs.Lines.{splitAt, none as unsplit, sameBytes, inRange, valueLine, numberLine};
+ghost use Rattle.sheet.specs.Lines.{read as parsed, andThen, splitAt, none as unsplit, sameBytes, inRange, valueLine, numberLine};
 ghost use Rattle.sheet.specs.Reading.{above, rowAfter, kindOf, kindLine, numberLines, rowParts, rowLine, rowLines, atEnd, readSheet, rejected};
 ghost use Rattle.sheet.specs.Values.{zeros, zeroRows, answerOf};
 ghost use Rattle.sheet.specs.AtPlace.{splitAtPlace, parsedValue, ValueWithin, parsedNumber, numberNext, parsedLines, linesNext, parsedKind, kindNext, before, parsedRow, rowNext, numberIn, rowOfReadings, Filled, fromA, fromSegs, fromSizes, fromRows, fromRowLines, fromRefs, fromTouches};
@@ -37,6 +37,18 @@ enum NumberAt {
 enum LinesRead {
     Done(usize),
     Refused(Refusal),
+}
+
+// The number of a short line and the place of what follows the line, or the place 0 where the line is of another form.
+struct Short {
+    value: u32,
+    next: usize,
+}
+
+// How many lines were read, and the place of what follows them.
+struct Front {
+    count: usize,
+    at: usize,
 }
 
 // A kind and the place of what follows its line, or the refusal.
@@ -78,14 +90,22 @@ pub fn find(s: &[u8], c: u8) -> usize
     i
 }
 
-// Whether the two are the same bytes.
-fn same(s: &[u8], t: &[u8]) -> bool
+// The first four bytes as one number.
+fn word(s: &[u8]) -> u32
+    requires { ⌜ 4 ≤ length (now s) ⌝ }
+    ensures { λ r. ⌜ r ≡ getD (now (s .entry)) 0 0 + getD (now (s .entry)) 1 0 * 256 + getD (now (s .entry)) 2 0 * 65536
+        + getD (now (s .entry)) 3 0 * 16777216 ⌝ }
+{
+    s[0] as u32 + s[1] as u32 * 256 + s[2] as u32 * 65536 + s[3] as u32 * 16777216
+}
+
+// Whether the two, which are as long and the same before the place `from`, are the same bytes.
+fn same_from(s: &[u8], t: &[u8], from: usize) -> bool
+    requires { ⌜ (from ≤ length (now s)) × (length (now s) ≡ length (now t)) ⌝ }
+    requires { ⌜ sameBytes (drop from (now s)) (drop from (now t)) ≡ sameBytes (now s) (now t) ⌝ }
     ensures { λ r. ⌜ r ≡ sameBytes (now (s .entry)) (now (t .entry)) ⌝ }
 {
-    if s.len() != t.len() {
-        return false;
-    }
-    let mut i = 0;
+    let mut i = from;
     while i < s.len() {
         if s[i] != t[i] {
             return false;
@@ -93,6 +113,22 @@ fn same(s: &[u8], t: &[u8]) -> bool
         i += 1;
     }
     true
+}
+
+// Whether the two are the same bytes: four are compared at once, and the others one by one.
+fn same(s: &[u8], t: &[u8]) -> bool
+    ensures { λ r. ⌜ r ≡ sameBytes (now (s .entry)) (now (t .entry)) ⌝ }
+{
+    if s.len() != t.len() {
+        return false;
+    }
+    if s.len() < 4 {
+        return same_from(s, t, 0);
+    }
+    if word(s) != word(t) {
+        return false;
+    }
+    same_from(s, t, 4)
 }
 
 // Whether `s` starts with `key`.
@@ -148,7 +184,7 @@ fn number_line(s: &[u8], key: &[u8], lo: u32, hi: u32) -> NumberAt
 }
 
 // As many numbers `lo` to `hi` as `out` is long, one from each line with the key. Where it refuses, `out` may be partly filled.
-fn number_lines(s: &[u8], key: &[u8], lo: u32, hi: u32, out: &mut [u16]) -> LinesRead
+fn any_number_lines(s: &[u8], key: &[u8], lo: u32, hi: u32, out: &mut [u16]) -> LinesRead
     requires { ⌜ splitAt lineFeed (now key) ≡ unsplit ⌝ }
     requires { ⌜ hi ≤ 65535 ⌝ }
     ensures { λ r. ⌜ parsedLines (now (s .entry)) r (now (out .exit))
@@ -168,6 +204,84 @@ fn number_lines(s: &[u8], key: &[u8], lo: u32, hi: u32, out: &mut [u16]) -> Line
         }
     }
     LinesRead::Done(at)
+}
+
+// The number `lo` to `hi` of a line with the key, where it has at most 4 digits and lies within its range.
+fn short_line(s: &[u8], key: &[u8], lo: u32, hi: u32) -> Short
+    requires { ⌜ splitAt lineFeed (now key) ≡ unsplit ⌝ }
+    ensures { λ r. ⌜ r .next ≤ length (now (s .entry)) ⌝ }
+    ensures { λ r. ⌜ (0 < r .next
+        → numberLine (now (key .entry)) lo hi (now (s .entry)) ≡ parsed (r .value) (drop (r .next) (now (s .entry)))) ⌝ }
+{
+    if !has_key(s, key) {
+        return Short { value: 0, next: 0 };
+    }
+    let start = key.len();
+    let found = decimal::front(&s[start..]);
+    let value = found.value;
+    let length = found.length;
+    let end = start + length;
+    if length == 0 {
+        return Short { value: 0, next: 0 };
+    }
+    if s.len() <= end {
+        return Short { value: 0, next: 0 };
+    }
+    if s[end] != b'\n' {
+        return Short { value: 0, next: 0 };
+    }
+    if value < lo {
+        return Short { value: 0, next: 0 };
+    }
+    if hi < value {
+        return Short { value: 0, next: 0 };
+    }
+    Short {
+        value: value,
+        next: end + 1,
+    }
+}
+
+// Reads short lines with the key into the front of `out`, up to the first line of another form.
+fn short_lines(s: &[u8], key: &[u8], lo: u32, hi: u32, out: &mut [u16]) -> Front
+    requires { ⌜ splitAt lineFeed (now key) ≡ unsplit ⌝ }
+    requires { ⌜ hi ≤ 65535 ⌝ }
+    ensures { λ r. ⌜ (r .count ≤ length (now (out .entry))) × (r .at ≤ length (now (s .entry))) ⌝ }
+    ensures { λ r. ⌜ length (now (out .exit)) ≡ length (now (out .entry)) ⌝ }
+    ensures { λ r. ⌜ numberLines (now (key .entry)) lo hi (length (now (out .entry))) (now (s .entry))
+        ≡ andThen (numberLines (now (key .entry)) lo hi (length (now (out .entry)) - r .count) (drop (r .at) (now (s .entry))))
+        (λ xs end. parsed (take (r .count) (now (out .exit)) ++ xs) end) ⌝ }
+{
+    let mut at = 0;
+    let mut i = 0;
+    while i < out.len() {
+        let line = short_line(&s[at..], key, lo, hi);
+        let next = line.next;
+        if next == 0 {
+            return Front { count: i, at: at };
+        }
+        out[i] = line.value as u16;
+        at += next;
+        i += 1;
+    }
+    Front { count: i, at: at }
+}
+
+// The same, where the lines at the front are short: these are read in a loop of their own.
+fn number_lines(s: &[u8], key: &[u8], lo: u32, hi: u32, out: &mut [u16]) -> LinesRead
+    requires { ⌜ splitAt lineFeed (now key) ≡ unsplit ⌝ }
+    requires { ⌜ hi ≤ 65535 ⌝ }
+    ensures { λ r. ⌜ parsedLines (now (s .entry)) r (now (out .exit))
+        ≡ numberLines (now (key .entry)) lo hi (length (now (out .entry))) (now (s .entry)) ⌝ }
+    ensures { λ r. ⌜ linesNext r ≤ length (now (s .entry)) ⌝ }
+{
+    let front = short_lines(s, key, lo, hi, out);
+    let at = front.at;
+    let count = front.count;
+    match any_number_lines(&s[at..], key, lo, hi, &mut out[count..]) {
+        LinesRead::Refused(why) => LinesRead::Refused(why),
+        LinesRead::Done(next) => LinesRead::Done(at + next),
+    }
 }
 
 // The kind that the value names, and the next place.

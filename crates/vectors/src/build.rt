@@ -1,6 +1,4 @@
 // Long sheets, put together part by part.
-ghost use mathlib.Core.Path.{_≡_};
-ghost use lib.ListN.{length};
 
 // Puts a part into a place and gives the place after it. Where it has no room, nothing is put.
 fn put(place: &mut [u8], at: usize, part: &[u8]) -> usize {

@@ -7,7 +7,7 @@ use native.Mathlib.Omega.{arith}
 use borrow.Author.Needs.{needs}
 use lib.ListN.{length, take, drop, length-set}
 use Rattle.decimal.specs.Decimal.{written}
-use Rattle.decimal.proofs.Padded.{Filling, fill-start, fill-step, fill-end}
+use Rattle.decimal.proofs.Padded.{Filling, fill-start, fill-four, fill-end, fill-last, fill-last-two, fill-last-three}
 use Rattle.decimal.proofs.write.Statement.{statement}
 use Rattle.decimal.proofs.write.Tie as tie
 
@@ -27,32 +27,99 @@ loop-holds c = (refl, rw (c .width .ensures) (fill-start _ _ _ (c .before .befor
 sub-left : tie.Need-sub-left Inv-loop μ-loop
 sub-left c = search needs
 
+add-put-pair : tie.Need-add-put-pair Inv-loop μ-loop
+add-put-pair c = search needs
+
+add-put-pair-2 : tie.Need-add-put-pair-2 Inv-loop μ-loop
+add-put-pair-2 c = search needs
+
+put-pair-requires : tie.Need-put-pair-requires Inv-loop μ-loop
+put-pair-requires c κs = search needs
+
+add-put-pair-3 : tie.Need-add-put-pair-3 Inv-loop μ-loop
+add-put-pair-3 c = search needs
+
+put-pair-requires-2 : tie.Need-put-pair-requires-2 Inv-loop μ-loop
+put-pair-requires-2 c κs = search needs
+
+loop-less : tie.Need-loop-less Inv-loop μ-loop
+loop-less c = search needs
+
+loop-again : tie.Need-loop-again Inv-loop μ-loop
+loop-again c =
+    let two = c .before .before in
+    let four = two .before .before .before .before in
+    let l = four .before .before .before .loop in (
+      search needs,
+      fill-four _ _ _ _ _ _ (l .inv .1) (omega arith) (four .put-pair .ensures) (two .put-pair2 .ensures),
+    )
+
+add-result : tie.Need-add-result Inv-loop μ-loop
+add-result c = search needs
+
+same-length : tie.Need-same-length Inv-loop μ-loop
+same-length c = c .before .before .loop .inv .0
+
+returns : tie.Need-returns Inv-loop μ-loop
+returns c = (omega arith, fill-end _ _ _ _ _ (c .before .before .loop .inv .1) (omega arith))
+
 cast-out : tie.Need-cast-out Inv-loop μ-loop
 cast-out c = search needs
 
 add-out : tie.Need-add-out Inv-loop μ-loop
 add-out c = search needs
 
-add-out-2 : tie.Need-add-out-2 Inv-loop μ-loop
-add-out-2 c = search needs
-
 slice-write-out : tie.Need-slice-write-out Inv-loop μ-loop
 slice-write-out c = search needs
 
-loop-less : tie.Need-loop-less Inv-loop μ-loop
-loop-less c = search needs
+add-result-2 : tie.Need-add-result-2 Inv-loop μ-loop
+add-result-2 c = search needs
 
-loop-again : tie.Need-loop-again Inv-loop μ-loop
-loop-again c = (simp length-set (c .before .loop .inv .0), fill-step _ _ _ _ _ _ (c .before .loop .inv .1) (omega arith))
+same-length-2 : tie.Need-same-length-2 Inv-loop μ-loop
+same-length-2 c = simp length-set (c .before .before .before .loop .inv .0)
 
-add-result : tie.Need-add-result Inv-loop μ-loop
-add-result c = search needs
+returns-2 : tie.Need-returns-2 Inv-loop μ-loop
+returns-2 c = (omega arith, fill-last _ _ _ _ _ (c .before .before .before .loop .inv .1) (omega arith))
 
-same-length : tie.Need-same-length Inv-loop μ-loop
-same-length c = c .before .loop .inv .0
+put-pair-requires-3 : tie.Need-put-pair-requires-3 Inv-loop μ-loop
+put-pair-requires-3 c κs = search needs
 
-returns : tie.Need-returns Inv-loop μ-loop
-returns c = (omega arith, fill-end _ _ _ _ _ (c .before .loop .inv .1) (omega arith))
+add-result-3 : tie.Need-add-result-3 Inv-loop μ-loop
+add-result-3 c = search needs
+
+same-length-3 : tie.Need-same-length-3 Inv-loop μ-loop
+same-length-3 c = search needs
+
+returns-3 : tie.Need-returns-3 Inv-loop μ-loop
+returns-3 c =
+    let l = c .before .before .before .before .before .before .before .before .loop in
+    (omega arith, fill-last-two _ _ _ _ _ (l .inv .1) (omega arith) (c .before .before .put-pair3 .ensures))
+
+add-put-pair-4 : tie.Need-add-put-pair-4 Inv-loop μ-loop
+add-put-pair-4 c = search needs
+
+put-pair-requires-4 : tie.Need-put-pair-requires-4 Inv-loop μ-loop
+put-pair-requires-4 c κs = search needs
+
+cast-out-2 : tie.Need-cast-out-2 Inv-loop μ-loop
+cast-out-2 c = search needs
+
+add-out-2 : tie.Need-add-out-2 Inv-loop μ-loop
+add-out-2 c = search needs
+
+slice-write-out-2 : tie.Need-slice-write-out-2 Inv-loop μ-loop
+slice-write-out-2 c = search needs
+
+add-result-4 : tie.Need-add-result-4 Inv-loop μ-loop
+add-result-4 c = search needs
+
+same-length-4 : tie.Need-same-length-4 Inv-loop μ-loop
+same-length-4 c = simp length-set (search needs)
+
+returns-4 : tie.Need-returns-4 Inv-loop μ-loop
+returns-4 c =
+    let l = c .before .before .before .before .before .before .before .before .loop in
+    (omega arith, fill-last-three _ _ _ _ _ (l .inv .1) (omega arith) (c .before .before .put-pair4 .ensures))
 
 pub write-spec : {M : Type 1} → statement M
 write-spec =
@@ -63,12 +130,31 @@ write-spec =
     width-requires
     loop-holds
     sub-left
-    cast-out
-    add-out
-    add-out-2
-    slice-write-out
+    add-put-pair
+    add-put-pair-2
+    put-pair-requires
+    add-put-pair-3
+    put-pair-requires-2
     loop-less
     loop-again
     add-result
     same-length
-    returns)
+    returns
+    cast-out
+    add-out
+    slice-write-out
+    add-result-2
+    same-length-2
+    returns-2
+    put-pair-requires-3
+    add-result-3
+    same-length-3
+    returns-3
+    add-put-pair-4
+    put-pair-requires-4
+    cast-out-2
+    add-out-2
+    slice-write-out-2
+    add-result-4
+    same-length-4
+    returns-4)

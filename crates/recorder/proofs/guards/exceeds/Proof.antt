@@ -1,6 +1,5 @@
 -- `recorder::guards::exceeds` meets its contract: products of 16-bit numbers fit. Assumes nothing.
 use native.Mathlib.Omega.{arith}
-use borrow.Author.Needs.{needs}
 use Rattle.model.proofs.Bounds.{product-within}
 use Rattle.recorder.proofs.Telling.{tells-true, tells-false}
 use Rattle.recorder.proofs.guards.exceeds.Statement.{statement}

@@ -1,5 +1,4 @@
 -- `recorder::guards::in_order` meets its contract. Assumes nothing.
-use native.Mathlib.Omega.{arith}
 use borrow.Author.Needs.{needs}
 use Rattle.recorder.proofs.Guarding.{no-price, first-in-order, later-in-order}
 use Rattle.recorder.proofs.Telling.{tells-true, tells-false}

@@ -1,61 +1,59 @@
--- `reading::same` meets its contract. The loop's invariant: what is left compares as the whole does. Assumes nothing.
-use Prim.Native.Nat.{_-_}
-use mathlib.Core.Path.{sym}
+-- `reading::same` meets its contract: the lengths are compared, then the first four bytes, and then the others. Assumes nothing.
+use mathlib.Core.Path.{sym, _∙_}
+use native.Mathlib.Omega.{arith}
 use borrow.Author.Needs.{needs}
-use lib.ListN.{length}
-use Rattle.sheet.proofs.Splits.{Compared, same-lengths, compare-start, compare-step, compare-stop, compare-end}
+use Rattle.sheet.proofs.ShortLines.{word-differs, word-same}
+use Rattle.sheet.proofs.Splits.{same-lengths}
 use Rattle.sheet.proofs.reading.same.Statement.{statement}
 use Rattle.sheet.proofs.reading.same.Tie as tie
 
-abbrev Inv-loop : tie.InvT-loop
-Inv-loop s t i₀ i = Compared s t i
-
-abbrev μ-loop : tie.MeasureT-loop
-μ-loop s t i₀ i = length s - i
-
-returns : tie.Need-returns Inv-loop μ-loop
+returns : tie.Need-returns
 returns c = sym (same-lengths _ _ (c .if1 .taken))
 
-loop-holds : tie.Need-loop-holds Inv-loop μ-loop
-loop-holds c = compare-start _ _ (c .if1 .left)
+same-from-requires : tie.Need-same-from-requires
+same-from-requires c κs = search needs
 
-shared-slice-read-if2 : tie.Need-shared-slice-read-if2 Inv-loop μ-loop
-shared-slice-read-if2 c = search needs
+returns-2 : tie.Need-returns-2
+returns-2 c = search needs
 
-shared-slice-read-if2-2 : tie.Need-shared-slice-read-if2-2 Inv-loop μ-loop
-shared-slice-read-if2-2 c = search needs
+word-requires : tie.Need-word-requires
+word-requires c κs = search needs
 
-returns-2 : tie.Need-returns-2 Inv-loop μ-loop
-returns-2 c =
-    let d = c .before .before .before in
-    sym (compare-stop _ _ _ (d .before .loop .inv) (d .loop-test .taken) (c .if2 .taken))
+word-requires-2 : tie.Need-word-requires-2
+word-requires-2 c κs = search needs
 
-add-i : tie.Need-add-i Inv-loop μ-loop
-add-i c = search needs
+returns-3 : tie.Need-returns-3
+returns-3 c =
+    let w = c .before in
+    let a = w .before .before .before .before .before .before .args in
+    sym (word-differs (a .s .now) (a .t .now) (λ e. c .if3 .taken (w .before .word .ensures ∙ (e ∙ sym (w .word2 .ensures)))))
 
-loop-less : tie.Need-loop-less Inv-loop μ-loop
-loop-less c = search needs
+same-from-requires-2 : tie.Need-same-from-requires-2
+same-from-requires-2 c κs =
+    let w = c .before in
+    let l = w .before .before in
+    let k = l .before .before in
+    let a = k .before .before .args in (
+      (omega arith, l .before .if1 .left),
+      word-same (a .s .now) (a .t .now) (λ i. omega (arith, k .before .shared-slice-known .given i))
+          (λ i. omega (arith, k .shared-slice-known2 .given i))
+          (l .if2 .left)
+          (l .before .if1 .left)
+          (sym (w .before .word .ensures) ∙ (c .if3 .left ∙ w .word2 .ensures)),
+    )
 
-loop-again : tie.Need-loop-again Inv-loop μ-loop
-loop-again c =
-    let d = c .before .before .before in
-    compare-step _ _ _ (d .before .loop .inv) (d .loop-test .taken) (c .if2 .left)
-
-returns-3 : tie.Need-returns-3 Inv-loop μ-loop
-returns-3 c = sym (compare-end _ _ _ (c .before .loop .inv) (c .loop-test .left))
+returns-4 : tie.Need-returns-4
+returns-4 c = search needs
 
 pub same-spec : {M : Type 1} → statement M
 same-spec =
     tie.close
     (tie.spec
-    Inv-loop
-    μ-loop
     returns
-    loop-holds
-    shared-slice-read-if2
-    shared-slice-read-if2-2
+    same-from-requires
     returns-2
-    add-i
-    loop-less
-    loop-again
-    returns-3)
+    word-requires
+    word-requires-2
+    returns-3
+    same-from-requires-2
+    returns-4)

@@ -1,0 +1,66 @@
+-- `analyser::row_alone` meets its contract: the sheet with the row alone is valid, and its only row has the figures. Assumes nothing.
+use mathlib.Core.Path.{sym, ap, _∙_}
+use native.Mathlib.Omega.{arith}
+use borrow.Author.Needs.{needs}
+use mathlib.Core.List.{[], _∷_}
+use lib.ListN.{getD}
+use lib.Seq.{length-take-le}
+use Rattle.model.specs.Rows.{zeroFigures}
+use Rattle.sheet.specs.Values.{valueOf}
+use Rattle.figures.specs.Rows.{partsOf, allFigures}
+use Rattle.analyser.proofs.Alone.{alone-valid, alone-figures}
+use Rattle.analyser.proofs.Standings.{rows-counted, row-of}
+use Rattle.analyser.proofs.row_alone.Statement.{statement}
+use Rattle.analyser.proofs.row_alone.Tie as tie
+
+mul-price : tie.Need-mul-price
+mul-price c = search needs
+
+array-copy-out-price : tie.Need-array-copy-out-price
+array-copy-out-price c = search needs
+
+array-share-prefix-sizes : tie.Need-array-share-prefix-sizes
+array-share-prefix-sizes c = search needs
+
+slice-aggregate-figures : tie.Need-slice-aggregate-figures
+slice-aggregate-figures c = sym (length-take-le _ _ (omega (arith, c .before .before .before .before .before .pre .0)))
+
+array-share-prefix-touches : tie.Need-array-share-prefix-touches
+array-share-prefix-touches c = search needs
+
+slice-aggregate-figures-2 : tie.Need-slice-aggregate-figures-2
+slice-aggregate-figures-2 c = sym (length-take-le _ _ (omega (arith, c .before .before .before .before .before .before .pre .0)))
+
+figures-requires : tie.Need-figures-requires
+unfolding valueOf
+figures-requires c κs =
+    let s = c .before .before .before .before .before .before in
+    let n = rows-counted (s .args .s) (s .pre .0) in
+    (omega arith, rw (row-of (s .args .s) (s .pre .0) (s .args .row) (s .pre .1)) at (alone-valid (valueOf (s .args .s)) (s .pre .0 .valid) (s .args .row) (omega (arith, s .pre .1))))
+
+array-copy-out-result : tie.Need-array-copy-out-result
+array-copy-out-result c = search needs
+
+returns : tie.Need-returns
+unfolding valueOf
+returns c =
+    let s = c .before .before .before .before .before .before .before .before in
+    let v = valueOf (s .args .s) in
+    ap (λ fs. getD fs 0 zeroFigures) (c .before .figures .ensures)
+    ∙ ap (λ q. getD (allFigures (partsOf (v .kind) (v .a) (v .sizes) (q ∷ []) (v .refs))) 0 zeroFigures)
+    (sym (row-of (s .args .s) (s .pre .0) (s .args .row) (s .pre .1)))
+    ∙ alone-figures v (s .args .row) zeroFigures
+
+pub row-alone-spec : {M : Type 1} → statement M
+row-alone-spec =
+    tie.close
+    (tie.spec
+    mul-price
+    array-copy-out-price
+    array-share-prefix-sizes
+    slice-aggregate-figures
+    array-share-prefix-touches
+    slice-aggregate-figures-2
+    figures-requires
+    array-copy-out-result
+    returns)

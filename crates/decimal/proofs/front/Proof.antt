@@ -1,0 +1,134 @@
+-- `decimal::front` meets its contract. The loop's invariant: the digits passed are a number, and `v` is its value.
+-- Assumes nothing.
+use mathlib.Core.Path.{_≡_, refl, sym, _∙_}
+use mathlib.Core.Bool.{true}
+use Prim.Native.Nat.{ℕ, _-_, _≤_}
+use native.Mathlib.Omega.{arith}
+use borrow.Author.Needs.{needs}
+use borrow.Author.Tests.{not-false}
+use lib.ListN.{getD}
+use Rattle.decimal.specs.Decimal.{isDigit, valueFrom}
+use Rattle.decimal.proofs.Digits.{digit-bounds}
+use Rattle.decimal.proofs.Leading.{Led, led-start, led-step, led-room, led-gives, zero-number}
+use Rattle.decimal.proofs.front.Statement.{statement}
+use Rattle.decimal.proofs.front.Tie as tie
+
+abbrev Inv-loop : tie.InvT-loop
+Inv-loop s first v₀ i₀ v i = Led s v i
+
+abbrev μ-loop : tie.MeasureT-loop
+μ-loop s first v₀ i₀ v i = 4 - i
+
+-- the first byte, and that it is a digit
+abbrev first-byte : tie.Else2 Inv-loop μ-loop → ℕ
+first-byte c = getD (c .before .before .before .before .before .args .s .now) 0 0
+
+first-digit : (c : tie.Else2 Inv-loop μ-loop) → isDigit (first-byte c) ≡ true
+first-digit c = sym (c .before .is-digit .ensures) ∙ not-false _ (c .if2 .left)
+
+first-bounds : (c : tie.Else2 Inv-loop μ-loop) → (48 ≤ first-byte c) × (first-byte c ≤ 57)
+first-bounds c = digit-bounds (first-byte c) (first-digit c)
+
+-- the same of the next byte
+abbrev next-byte : tie.Else4 Inv-loop μ-loop → ℕ
+next-byte c =
+    let l = c .before .before .before .before in
+    getD (l .before .before .before .before .before .before .before .args .s .now) (l .loop .i) 0
+
+next-digit : (c : tie.Else4 Inv-loop μ-loop) → isDigit (next-byte c) ≡ true
+next-digit c = sym (c .before .is-digit2 .ensures) ∙ not-false _ (c .if4 .left)
+
+next-bounds : (c : tie.Else4 Inv-loop μ-loop) → (48 ≤ next-byte c) × (next-byte c ≤ 57)
+next-bounds c = digit-bounds (next-byte c) (next-digit c)
+
+returns : tie.Need-returns Inv-loop μ-loop
+unfolding valueFrom
+returns c = (omega arith, ((λ h. absurd (omega arith)), refl))
+
+shared-slice-read-first : tie.Need-shared-slice-read-first Inv-loop μ-loop
+shared-slice-read-first c = search needs
+
+is-digit-requires : tie.Need-is-digit-requires Inv-loop μ-loop
+is-digit-requires c κs = search needs
+
+returns-2 : tie.Need-returns-2 Inv-loop μ-loop
+unfolding valueFrom
+returns-2 c = (omega arith, ((λ h. absurd (omega arith)), refl))
+
+returns-3 : tie.Need-returns-3 Inv-loop μ-loop
+returns-3 c =
+    let e = c .before .before .before .before in
+    let z = zero-number (e .before .before .args .s .now) (e .if1 .left) (c .if3 .taken) in
+    (omega arith, ((λ h. z .0), z .1))
+
+sub-v : tie.Need-sub-v Inv-loop μ-loop
+sub-v c = omega (arith, first-bounds (c .before))
+
+cast-v : tie.Need-cast-v Inv-loop μ-loop
+cast-v c = omega (arith, first-bounds (c .before))
+
+loop-holds : tie.Need-loop-holds Inv-loop μ-loop
+loop-holds c = led-start _ (c .before .before .before .before .if1 .left) (first-digit (c .before)) (c .if3 .left)
+
+shared-slice-read-b : tie.Need-shared-slice-read-b Inv-loop μ-loop
+shared-slice-read-b c = search needs
+
+is-digit-requires-2 : tie.Need-is-digit-requires-2 Inv-loop μ-loop
+is-digit-requires-2 c κs = search needs
+
+returns-4 : tie.Need-returns-4 Inv-loop μ-loop
+returns-4 c = led-gives _ _ _ (c .before .before .before .before .loop .inv)
+
+mul-v : tie.Need-mul-v Inv-loop μ-loop
+mul-v c =
+    let d = c .before .before .before in omega (arith, led-room _ _ _ (d .before .loop .inv) (d .loop-test .taken))
+
+sub-v-2 : tie.Need-sub-v-2 Inv-loop μ-loop
+sub-v-2 c = omega (arith, next-bounds c)
+
+cast-v-2 : tie.Need-cast-v-2 Inv-loop μ-loop
+cast-v-2 c = omega (arith, next-bounds c)
+
+add-v : tie.Need-add-v Inv-loop μ-loop
+add-v c =
+    let d = c .before .before .before in
+    omega (arith, led-room _ _ _ (d .before .loop .inv) (d .loop-test .taken), next-bounds c)
+
+add-i : tie.Need-add-i Inv-loop μ-loop
+add-i c = search needs
+
+loop-less : tie.Need-loop-less Inv-loop μ-loop
+loop-less c = search needs
+
+loop-again : tie.Need-loop-again Inv-loop μ-loop
+loop-again c =
+    let d = c .before .before .before in led-step _ _ _ (d .before .loop .inv) (d .loop-test .taken) (next-digit c)
+
+returns-5 : tie.Need-returns-5 Inv-loop μ-loop
+returns-5 c = led-gives _ _ _ (c .before .loop .inv)
+
+pub front-spec : {M : Type 1} → statement M
+front-spec =
+    tie.close
+    (tie.spec
+    Inv-loop
+    μ-loop
+    returns
+    shared-slice-read-first
+    is-digit-requires
+    returns-2
+    returns-3
+    sub-v
+    cast-v
+    loop-holds
+    shared-slice-read-b
+    is-digit-requires-2
+    returns-4
+    mul-v
+    sub-v-2
+    cast-v-2
+    add-v
+    add-i
+    loop-less
+    loop-again
+    returns-5)

@@ -1,0 +1,19 @@
+-- The table of last touches: for each of 256 segments the number of the step of its last touch, or the mark "untouched". Assumes nothing.
+use Prim.Native.Nat.{ℕ, _-_}
+use mathlib.Core.List.{List}
+use mathlib.Core.Option.{Option, none, some}
+use Rattle.model.specs.Sums.{listOf}
+use Rattle.model.specs.Traces.{Trace, unreferenced}
+
+-- the mark of an untouched segment
+abbrev pub untouchedMark : ℕ
+untouchedMark = 65535
+
+-- what the table holds after n steps for a segment with this unreferenced time
+abbrev pub lastFrom : ℕ → Option ℕ → ℕ
+lastFrom n none = untouchedMark
+lastFrom n (some k) = n - k
+
+-- the table after n steps
+unfoldable pub lastTable : Trace → ℕ → List ℕ
+lastTable T n = listOf 256 (λ i. lastFrom n (unreferenced T n i))
