@@ -1,0 +1,6 @@
+pub mod Found
+pub mod Rows
+pub mod Told
+pub mod RecorderCalls
+pub mod RecorderParts
+pub mod RecorderSums

@@ -1,0 +1,48 @@
+-- What an exported call returns and leaves in a lent value, from the answer that it had. Assumes nothing.
+use Prim.Native.Nat.{ℕ}
+use mathlib.Core.Path.{_≡_, refl}
+use mathlib.Core.List.{List}
+use Rattle.model.specs.Refusals.{numberOf, verdictNumber}
+use Rattle.model.specs.declared.PlaceAnswer.{PlaceAnswer}
+use Rattle.model.specs.declared.Refusal.{Refusal}
+use Rattle.model.specs.declared.Verdict.{Verdict}
+use Rattle.model.specs.declared.Verdict.the-variants.{Accepted, Refused}
+use Rattle.sheet.specs.Reading.{Outcome}
+use Rattle.analyser.specs.Answers.{Result, refuses, answerFor, placeFor}
+use Rattle.analyser.specs.Sizing.{SizingOf}
+use Rattle.analyser.specs.declared.sizing.SizingAnswer.{SizingAnswer}
+use Rattle.exports.specs.Exported.{orOld, PlaceCall, SizeCall}
+
+-- a call with an answer R, which has a verdict and a value: the answer is the one that is due
+module _ {R A : Type 0} (verdict : R → Verdict) (value : R → A) (answer due : R) (e : answer ≡ due) (old : A) where
+  abbrev pub Tells : ℕ → A → Type 0
+  Tells n x = (n ≡ verdictNumber (verdict due)) × (x ≡ orOld (verdict due) (value due) old)
+
+  pub accepted-tells : {x : A} → verdict answer ≡ Accepted → x ≡ value answer → Tells 0 x
+  accepted-tells a h = rw (← e, a) (refl, h)
+
+  pub refused-tells : {n : ℕ} {q : Refusal} → verdict answer ≡ Refused q → n ≡ numberOf q → Tells n old
+  refused-tells r h = rw (← e, r) (h, refl)
+
+-- a call that writes into a lent place, from what the analyser's call answered and left, and from what was told of the answer
+pub place-call : {result : Result} {place place' : List ℕ} {written written' returned : ℕ} (answer : PlaceAnswer)
+    → (answer ≡ answerFor result place) × (place' ≡ placeFor result place)
+    → (returned ≡ verdictNumber (answer .verdict)) × (written' ≡ orOld (answer .verdict) (answer .length) written)
+    → PlaceCall result place place' written written' returned
+place-call answer a t =
+    record {
+      returned-is = rw (a .0) at (t .0);
+      place-is = a .1;
+      written-is = rw (a .0) at (t .1);
+    }
+
+-- a call that is refused before it writes
+pub place-refused : {result : Result} {place : List ℕ} {written returned : ℕ} {q : Refusal} → result ≡ refuses q → returned ≡ numberOf q
+    → PlaceCall result place place written written returned
+place-refused e h = rw e (record { returned-is = h; place-is = refl; written-is = refl })
+
+-- the sizing call, from what was told of its answer
+pub size-call : {outcome : Outcome} {ceiling row row' returned : ℕ} (answer : SizingAnswer) → SizingOf outcome ceiling answer
+    → (returned ≡ verdictNumber (answer .verdict)) × (row' ≡ orOld (answer .verdict) (answer .row) row)
+    → SizeCall outcome ceiling row row' returned
+size-call answer p t = record { answer = answer; permitted = p; returned-is = t .0; row-is = t .1 }

@@ -1,0 +1,76 @@
+-- `exports::put_rows` meets its contract. The loop's invariant: the numbers of the rows passed are put at the front. Assumes nothing.
+use mathlib.Core.Path.{_≡_, refl, sym}
+use Prim.Native.Nat.{_-_, _≤_}
+use native.Mathlib.Omega.{arith}
+use borrow.Author.Needs.{needs}
+use lib.ListN.{length, take}
+use Rattle.sheet.specs.Parts.{Put}
+use Rattle.sheet.proofs.Putting.{put-nothing, put-same, put-then}
+use Rattle.sheet.proofs.Runs.{linesText, lines-next}
+use Rattle.exports.specs.Exported.{figureList}
+use Rattle.exports.proofs.Rows.{rows-run, run-length}
+use Rattle.exports.proofs.put_rows.Statement.{statement}
+use Rattle.exports.proofs.put_rows.Tie as tie
+
+abbrev Inv-loop : tie.InvT-loop
+Inv-loop n out₀ figures next₀ i₀ out next i =
+    (i ≤ n) × (length out ≡ length out₀) × Put (linesText figureList (take i figures)) 0 out₀ next out
+
+abbrev μ-loop : tie.MeasureT-loop
+μ-loop n out₀ figures next₀ i₀ out next i = n - i
+
+loop-holds : tie.Need-loop-holds Inv-loop μ-loop
+unfolding linesText
+loop-holds c = (omega arith, refl, put-nothing _ _ (omega arith))
+
+mul-f : tie.Need-mul-f Inv-loop μ-loop
+mul-f c = search needs
+
+array-copy-out-f : tie.Need-array-copy-out-f Inv-loop μ-loop
+array-copy-out-f c = search needs
+
+put-row-requires : tie.Need-put-row-requires Inv-loop μ-loop
+put-row-requires c κs =
+    let t = c .before .before in
+    let l = t .before .loop in
+    let a = t .before .before .before .args in
+    let r = run-length (a .t1) (l .i) (search needs) in
+    omega (arith, r, t .loop-test .taken, l .inv .2 .ends)
+
+add-i : tie.Need-add-i Inv-loop μ-loop
+add-i c = search needs
+
+loop-less : tie.Need-loop-less Inv-loop μ-loop
+loop-less c = search needs
+
+loop-again : tie.Need-loop-again Inv-loop μ-loop
+loop-again c =
+    let t = c .before .before .before .before .before in
+    let l = t .before .loop in
+    let p = put-then (l .inv .2) (c .before .before .put-row .ensures) in
+    (omega arith, omega arith, put-same (sym (lines-next _ _ (l .i) _ (search needs))) p)
+
+same-length : tie.Need-same-length Inv-loop μ-loop
+same-length c = c .before .loop .inv .1
+
+returns : tie.Need-returns Inv-loop μ-loop
+returns c =
+    let l = c .before .loop in
+    let e : l .i ≡ c .before .before .before .args .n = omega arith in
+    rw (e, ← rows-run) at (l .inv .2)
+
+pub put-rows-spec : {M : Type 1} → statement M
+put-rows-spec =
+    tie.close
+    (tie.spec
+    Inv-loop
+    μ-loop
+    loop-holds
+    mul-f
+    array-copy-out-f
+    put-row-requires
+    add-i
+    loop-less
+    loop-again
+    same-length
+    returns)

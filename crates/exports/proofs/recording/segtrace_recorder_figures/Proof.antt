@@ -1,0 +1,48 @@
+-- `recording::segtrace_recorder_figures` meets its contract. Assumes nothing.
+use Rattle.exports.proofs.RecorderCalls.{figures-accepted, figures-refused}
+use borrow.Author.Needs.{needs}
+use Rattle.exports.proofs.recording.segtrace_recorder_figures.Statement.{statement}
+use Rattle.exports.proofs.recording.segtrace_recorder_figures.Tie as tie
+
+recorder-of-requires : tie.Need-recorder-of-requires
+recorder-of-requires c κs = search needs
+
+figures-requires : tie.Need-figures-requires
+figures-requires c κs = search needs
+
+enum-told : tie.Need-enum-told
+enum-told c = search needs
+
+numbers-requires : tie.Need-numbers-requires
+numbers-requires c κs = search needs
+
+enum-known-verdict : tie.Need-enum-known-verdict
+enum-known-verdict c = search needs
+
+number-requires : tie.Need-number-requires
+number-requires c κs = search needs
+
+returns : tie.Need-returns
+returns c =
+    let f = c .before .before .before in
+    figures-accepted _ _ _ _ _ _ _ _ _ _ (f .figures .result) (f .before .recorder-of .ensures) (f .figures .ensures) _ (c .before .enum-told .given .1)
+    (c .numbers .ensures)
+
+returns-2 : tie.Need-returns-2
+returns-2 c =
+    let f = c .before .before .before .before in
+    figures-refused _ _ _ _ _ _ _ _ _ _ (f .figures .result) (f .before .recorder-of .ensures) (f .figures .ensures) _ _ (c .before .before .verdict .given .1)
+    (c .number .ensures)
+
+pub segtrace-recorder-figures-spec : {M : Type 1} → statement M
+segtrace-recorder-figures-spec =
+    tie.close
+    (tie.spec
+    recorder-of-requires
+    figures-requires
+    enum-told
+    numbers-requires
+    enum-known-verdict
+    number-requires
+    returns
+    returns-2)

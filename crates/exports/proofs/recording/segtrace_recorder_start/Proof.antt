@@ -1,0 +1,47 @@
+-- `recording::segtrace_recorder_start` meets its contract. Assumes nothing.
+use Rattle.exports.proofs.RecorderCalls.{start-accepted, start-refused}
+use borrow.Author.Needs.{needs}
+use Rattle.exports.proofs.recording.segtrace_recorder_start.Statement.{statement}
+use Rattle.exports.proofs.recording.segtrace_recorder_start.Tie as tie
+
+start-requires : tie.Need-start-requires
+start-requires c κs = search needs
+
+enum-told : tie.Need-enum-told
+enum-told c = search needs
+
+store-head-requires : tie.Need-store-head-requires
+store-head-requires c κs = search needs
+
+store-taken-requires : tie.Need-store-taken-requires
+store-taken-requires c κs = search needs
+
+enum-known-verdict : tie.Need-enum-known-verdict
+enum-known-verdict c = search needs
+
+number-requires : tie.Need-number-requires
+number-requires c κs = search needs
+
+returns : tie.Need-returns
+returns c =
+    let r = c .before .before .before .before .before .before .before .before .before .before .before .before .start in
+    start-accepted _ _ (r .result) (r .ensures) _ _ _ _ _ _ _ (c .before .before .before .before .before .before .before .before .before .enum-told .given .1) (search needs) (c .before .before .before .before .store-head .ensures)
+    (c .store-taken .ensures)
+
+returns-2 : tie.Need-returns-2
+returns-2 c =
+    let r = c .before .before .before .before .before .start in
+    start-refused _ _ (r .result) (r .ensures) _ _ (c .before .before .verdict .given .1) (c .number .ensures)
+
+pub segtrace-recorder-start-spec : {M : Type 1} → statement M
+segtrace-recorder-start-spec =
+    tie.close
+    (tie.spec
+    start-requires
+    enum-told
+    store-head-requires
+    store-taken-requires
+    enum-known-verdict
+    number-requires
+    returns
+    returns-2)

@@ -1,0 +1,62 @@
+-- `exports::segtrace_all_figures` meets its contract: the verdict of the records decides, and their numbers are put at the front.
+-- Assumes nothing.
+use mathlib.Core.Path.{refl}
+use native.Mathlib.Omega.{arith}
+use borrow.Author.Needs.{needs}
+use Rattle.model.specs.Places.{nothingPlaced}
+use Rattle.model.specs.declared.Verdict.the-variants.{Accepted}
+use Rattle.sheet.proofs.Placing.{place-put}
+use Rattle.exports.proofs.Found.{found-fits, found-refuses}
+use Rattle.exports.proofs.Told.{place-call}
+use Rattle.exports.proofs.segtrace_all_figures.Statement.{statement}
+use Rattle.exports.proofs.segtrace_all_figures.Tie as tie
+
+all-records-requires : tie.Need-all-records-requires
+all-records-requires c κs = search needs
+
+enum-told : tie.Need-enum-told
+enum-told c = search needs
+
+put-rows-requires : tie.Need-put-rows-requires
+put-rows-requires c κs =
+    let r = c .before .before .before .before .before in
+    let f = found-fits _ (r .before .before .before .args .out .now) (r .all-records .result) (r .all-records .ensures) (cc) in
+    (f .most, f .room)
+
+enum-known-verdict : tie.Need-enum-known-verdict
+enum-known-verdict c = search needs
+
+number-requires : tie.Need-number-requires
+number-requires c κs = search needs
+
+same-length : tie.Need-same-length
+same-length c = search needs
+
+returns : tie.Need-returns
+returns c =
+    let w = c .before .before in
+    let r = w .before .before .before .before .before .before in
+    let f = found-fits _ (r .before .before .before .args .out .now) (r .all-records .result) (r .all-records .ensures) (cc) in
+    place-call (record { verdict = Accepted; length = w .put-rows .result })
+    (rw (f .result) (place-put _ _ _ _ _ (omega (arith, w .put-rows .ensures .ends)) (w .put-rows .ensures)))
+    (refl, refl)
+
+returns-2 : tie.Need-returns-2
+returns-2 c =
+    let r = c .before .before .before .before .before in
+    place-call (nothingPlaced _)
+    (found-refuses _ _ (r .all-records .result) (r .all-records .ensures) (c .before .before .verdict .given .1))
+    (c .number .ensures, refl)
+
+pub segtrace-all-figures-spec : {M : Type 1} → statement M
+segtrace-all-figures-spec =
+    tie.close
+    (tie.spec
+    all-records-requires
+    enum-told
+    put-rows-requires
+    enum-known-verdict
+    number-requires
+    same-length
+    returns
+    returns-2)

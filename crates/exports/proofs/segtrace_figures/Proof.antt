@@ -1,0 +1,43 @@
+-- `exports::segtrace_figures` meets its contract: the verdict of the figures decides. Assumes nothing.
+use borrow.Author.Needs.{needs}
+use Rattle.exports.specs.Exported.{figureList}
+use Rattle.exports.proofs.Told.{accepted-tells, refused-tells}
+use Rattle.exports.proofs.segtrace_figures.Statement.{statement}
+use Rattle.exports.proofs.segtrace_figures.Tie as tie
+
+figures-requires : tie.Need-figures-requires
+figures-requires c κs = search needs
+
+enum-told : tie.Need-enum-told
+enum-told c = search needs
+
+numbers-requires : tie.Need-numbers-requires
+numbers-requires c κs = search needs
+
+enum-known-verdict : tie.Need-enum-known-verdict
+enum-known-verdict c = search needs
+
+number-requires : tie.Need-number-requires
+number-requires c κs = search needs
+
+returns : tie.Need-returns
+returns c =
+    let r = c .before .before .before in
+    accepted-tells (λ a. a .verdict) (λ a. figureList (a .figures)) (r .figures .result) _ (r .figures .ensures) _ (cc) (c .numbers .ensures)
+
+returns-2 : tie.Need-returns-2
+returns-2 c =
+    let r = c .before .before .before .before in
+    refused-tells (λ a. a .verdict) (λ a. figureList (a .figures)) (r .figures .result) _ (r .figures .ensures) _ (c .before .before .verdict .given .1) (c .number .ensures)
+
+pub segtrace-figures-spec : {M : Type 1} → statement M
+segtrace-figures-spec =
+    tie.close
+    (tie.spec
+    figures-requires
+    enum-told
+    numbers-requires
+    enum-known-verdict
+    number-requires
+    returns
+    returns-2)

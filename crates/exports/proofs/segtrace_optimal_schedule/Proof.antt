@@ -1,0 +1,23 @@
+-- `exports::segtrace_optimal_schedule` meets its contract: what was told of the schedule's answer. Assumes nothing.
+use borrow.Author.Needs.{needs}
+use Rattle.exports.proofs.Told.{place-call}
+use Rattle.exports.proofs.segtrace_optimal_schedule.Statement.{statement}
+use Rattle.exports.proofs.segtrace_optimal_schedule.Tie as tie
+
+optimal-schedule-requires : tie.Need-optimal-schedule-requires
+optimal-schedule-requires c κs = search needs
+
+tell-requires : tie.Need-tell-requires
+tell-requires c κs = search needs
+
+same-length : tie.Need-same-length
+same-length c = search needs
+
+returns : tie.Need-returns
+returns c =
+    let r = c .before .before .before .before in
+    place-call (r .optimal-schedule .result) (r .optimal-schedule .ensures) (c .tell .ensures)
+
+pub segtrace-optimal-schedule-spec : {M : Type 1} → statement M
+segtrace-optimal-schedule-spec =
+    tie.close (tie.spec optimal-schedule-requires tell-requires same-length returns)

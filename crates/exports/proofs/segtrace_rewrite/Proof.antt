@@ -1,0 +1,60 @@
+-- `exports::segtrace_rewrite` meets its contract: what the sheet reads as decides. Assumes nothing.
+use borrow.Author.Needs.{needs}
+use Rattle.sheet.specs.Writing.{sheetText}
+use Rattle.analyser.specs.Answers.{gives, refuses}
+use Rattle.analyser.proofs.Standings.{on-refused, on-accepted}
+use Rattle.exports.specs.Exported.{rewriteResult}
+use Rattle.exports.proofs.Told.{place-call, place-refused}
+use Rattle.exports.proofs.segtrace_rewrite.Statement.{statement}
+use Rattle.exports.proofs.segtrace_rewrite.Tie as tie
+
+read-requires : tie.Need-read-requires
+read-requires c κs = search needs
+
+enum-told : tie.Need-enum-told
+enum-told c = search needs
+
+write-requires : tie.Need-write-requires
+write-requires c κs = search needs
+
+tell-requires : tie.Need-tell-requires
+tell-requires c κs = search needs
+
+enum-known-verdict : tie.Need-enum-known-verdict
+enum-known-verdict c = search needs
+
+number-requires : tie.Need-number-requires
+number-requires c κs = search needs
+
+same-length : tie.Need-same-length
+same-length c = search needs
+
+returns : tie.Need-returns
+unfolding rewriteResult
+returns c =
+    let w = c .before .before .before .before in
+    let r = w .before .before .before .before in
+    rw (on-accepted _ (r .read .result) (r .read .ensures) (cc) refuses (λ v. gives (sheetText v)))
+    (place-call (w .write .result) (w .write .ensures) (c .tell .ensures))
+
+returns-2 : tie.Need-returns-2
+unfolding rewriteResult
+returns-2 c =
+    let r = c .before .before .before .before in
+    place-refused
+    (on-refused _ (r .read .result) (r .read .ensures) _ (c .before .before .verdict .given .1) refuses (λ v. gives (sheetText v)))
+    (c .number .ensures)
+
+pub segtrace-rewrite-spec : {M : Type 1} → statement M
+segtrace-rewrite-spec =
+    tie.close
+    (tie.spec
+    read-requires
+    enum-told
+    write-requires
+    tell-requires
+    enum-known-verdict
+    number-requires
+    same-length
+    returns
+    returns-2)

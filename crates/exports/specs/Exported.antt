@@ -1,0 +1,55 @@
+-- What the exported calls return and leave in what they are lent. Assumes nothing.
+use Prim.Native.Nat.{ℕ}
+use mathlib.Core.Path.{_≡_}
+use mathlib.Core.List.{List, [], _∷_, _++_}
+use Rattle.model.specs.Refusals.{verdictNumber}
+use Rattle.model.specs.declared.RowFigures.{RowFigures}
+use Rattle.model.specs.declared.Verdict.{Verdict}
+use Rattle.model.specs.declared.Verdict.the-variants.{Accepted, Refused}
+use Rattle.sheet.specs.Reading.{Outcome, readSheet}
+use Rattle.sheet.specs.Writing.{sheetText}
+use Rattle.schedule.specs.declared.PriceAnswer.{PriceAnswer}
+use Rattle.analyser.specs.Answers.{Result, gives, refuses, onSheet, answerFor, placeFor}
+use Rattle.analyser.specs.Sizing.{SizingOf}
+use Rattle.analyser.specs.declared.sizing.SizingAnswer.{SizingAnswer}
+use Rattle.records.specs.Listed.{rowRecords}
+
+-- a lent value after a call: the new one, or where the call is refused the old one
+abbrev pub orOld : {A : Type 0} → Verdict → A → A → A
+orOld Accepted new old = new
+orOld (Refused r) new old = old
+
+-- the figures of a row as numbers, in the listing's order
+abbrev pub figureList : RowFigures → List ℕ
+figureList f =
+    f .h ∷ f .d ∷ f .misses ∷ f .volume ∷ f .load .0 ∷ f .optmem .0 ∷ f .opttotal ∷ f .optocc ∷ f .wsmem ∷ f .wsocc ∷ f .mean ∷ []
+
+-- the figures of rows, one after the other
+unfoldable pub figureLists : List RowFigures → List ℕ
+figureLists [] = []
+figureLists (f ∷ fs) = figureList f ++ figureLists fs
+
+-- a price as numbers: memory, load, total
+abbrev pub priceList : PriceAnswer → List ℕ
+priceList p = p .memory .0 ∷ p .load .0 ∷ p .total ∷ []
+
+-- the sheet that the bytes stand for, written again: 1 to 6, then 11 by the place
+unfoldable pub rewriteResult : List ℕ → Result
+rewriteResult s = onSheet (readSheet s) refuses (λ v. gives (sheetText v))
+
+-- the figures of every row of the sheet that the bytes stand for: 1 to 6, then 11 by the place
+unfoldable pub rowsResult : List ℕ → Result
+rowsResult s = onSheet (readSheet s) refuses (λ v. gives (figureLists (rowRecords v)))
+
+-- a call that writes a result into a lent place: what it returns, the place afterwards, and a lent number, which becomes the length
+pub record PlaceCall (result : Result) (place place' : List ℕ) (written written' returned : ℕ) : Type 0 where
+  pub returned-is : returned ≡ verdictNumber (answerFor result place .verdict)
+  pub place-is : place' ≡ placeFor result place
+  pub written-is : written' ≡ orOld (answerFor result place .verdict) (answerFor result place .length) written
+
+-- the sizing call: some answer that sizing may give, and the lent number after it
+pub record SizeCall (outcome : Outcome) (ceiling row row' returned : ℕ) : Type 0 where
+  pub answer : SizingAnswer
+  pub permitted : SizingOf outcome ceiling answer
+  pub returned-is : returned ≡ verdictNumber (answer .verdict)
+  pub row-is : row' ≡ orOld (answer .verdict) (answer .row) row

@@ -1,0 +1,228 @@
+// The analyser's calls for programs in C and other languages, as include/segtrace.h declares them: on numbers, slices and lists of
+// numbers. Each returns 0 or the number of the refusal; refused, it leaves all that it was lent as it was.
+// What each returns and leaves is written in specs/; nothing is assumed.
+pub mod recording;
+
+use model::PlaceAnswer;
+use model::RowFigures;
+use model::Verdict;
+ghost use mathlib.Core.Path.{_≡_};
+ghost use Prim.Native.Nat.{_*_, _+_, _≤_};
+ghost use lib.ListN.{length, take};
+ghost use Rattle.model.specs.Refusals.{verdictNumber};
+ghost use Rattle.sheet.specs.Parts.{Put};
+ghost use Rattle.sheet.specs.Reading.{readSheet};
+ghost use Rattle.sheet.specs.Values.{answerOf};
+ghost use Rattle.analyser.specs.Answers.{figuresAnswer, listingResult, scheduleResult, pricing};
+ghost use Rattle.analyser.specs.Margins.{marginAnswer};
+ghost use Rattle.exports.specs.Exported.{orOld, figureList, figureLists, priceList, rewriteResult, rowsResult, PlaceCall, SizeCall};
+
+// Whether the bytes are a sheet: 1 to 6.
+#[no_mangle]
+pub extern "C" fn segtrace_check(sheet: &[u8]) -> u64
+    ensures { λ r. ⌜ r ≡ verdictNumber (answerOf (readSheet (now (sheet .entry))) .verdict) ⌝ }
+{
+    let answer = analyser::read(sheet);
+    let verdict = answer.verdict;
+    model::verdict_number(verdict)
+}
+
+// What a call that wrote into a place returns, and its length into `written`, unless it was refused.
+fn tell(answer: PlaceAnswer, written: &mut u64) -> u64
+    ensures { λ r. ⌜ (r ≡ verdictNumber (answer .verdict))
+        × (now (written .exit) ≡ orOld (answer .verdict) (answer .length) (now (written .entry))) ⌝ }
+{
+    let verdict = answer.verdict;
+    match verdict {
+        Verdict::Accepted => {
+            *written = answer.length as u64;
+            0
+        }
+        Verdict::Refused(why) => model::number(why),
+    }
+}
+
+// The sheet read and written again, and its length: 1 to 6, 11.
+#[no_mangle]
+pub extern "C" fn segtrace_rewrite(sheet: &[u8], out: &mut [u8], written: &mut u64) -> u64
+    ensures { λ r. ⌜ PlaceCall (rewriteResult (now (sheet .entry))) (now (out .entry)) (now (out .exit))
+        (now (written .entry)) (now (written .exit)) r ⌝ }
+{
+    let answer = analyser::read(sheet);
+    let verdict = answer.verdict;
+    match verdict {
+        Verdict::Accepted => tell(analyser::write(answer.sheet, out), written),
+        Verdict::Refused(why) => model::number(why),
+    }
+}
+
+// The figures of a row in the listing's order: 1 to 6, 7.
+#[no_mangle]
+pub extern "C" fn segtrace_figures(sheet: &[u8], row: u64, figures: &mut [u64; 11]) -> u64
+    ensures { λ r. ⌜ (r ≡ verdictNumber (figuresAnswer (now (sheet .entry)) row .verdict))
+        × (now (figures .exit) ≡ orOld (figuresAnswer (now (sheet .entry)) row .verdict)
+        (figureList (figuresAnswer (now (sheet .entry)) row .figures)) (now (figures .entry))) ⌝ }
+{
+    let answer = analyser::figures(sheet, row as usize);
+    let verdict = answer.verdict;
+    match verdict {
+        Verdict::Accepted => {
+            *figures = numbers(answer.figures);
+            0
+        }
+        Verdict::Refused(why) => model::number(why),
+    }
+}
+
+// The figures of a row as numbers.
+pub fn numbers(f: RowFigures) -> [u64; 11]
+    ensures { λ r. ⌜ r ≡ figureList f ⌝ }
+{
+    [
+        f.h,
+        f.d,
+        f.misses,
+        f.volume,
+        f.load.0,
+        f.optmem.0,
+        f.opttotal,
+        f.optocc,
+        f.wsmem,
+        f.wsocc,
+        f.mean,
+    ]
+}
+
+// Puts the numbers of a row from `at` on, and gives the index after them.
+fn put_row(f: RowFigures, out: &mut [u64], at: usize) -> usize
+    requires { ⌜ at + 11 ≤ length (now out) ⌝ }
+    ensures { λ r. ⌜ Put (figureList f) at (now (out .entry)) r (now (out .exit)) ⌝ }
+{
+    let row = numbers(f);
+    let mut i = 0;
+    while i < 11 {
+        out[at + i] = row[i];
+        i += 1;
+    }
+    at + 11
+}
+
+// Puts the numbers of the first `n` rows at the front, and gives how many they are.
+fn put_rows(figures: [RowFigures; 64], n: usize, out: &mut [u64]) -> usize
+    requires { ⌜ (n ≤ 64) × (11 * n ≤ length (now out)) ⌝ }
+    ensures { λ r. ⌜ Put (figureLists (take n figures)) 0 (now (out .entry)) r (now (out .exit)) ⌝ }
+{
+    let mut next = 0;
+    let mut i = 0;
+    while i < n {
+        let f = figures[i];
+        next = put_row(f, out, next);
+        i += 1;
+    }
+    next
+}
+
+// The figures of every row, 11 numbers each, one row after the other, and how many numbers: 1 to 6, 11.
+#[no_mangle]
+pub extern "C" fn segtrace_all_figures(sheet: &[u8], out: &mut [u64], written: &mut u64) -> u64
+    ensures { λ r. ⌜ PlaceCall (rowsResult (now (sheet .entry))) (now (out .entry)) (now (out .exit))
+        (now (written .entry)) (now (written .exit)) r ⌝ }
+{
+    let all = records::all_records(sheet, out.len() / 11);
+    let answer = all.answer;
+    let verdict = answer.verdict;
+    match verdict {
+        Verdict::Accepted => {
+            let n = answer.length;
+            let figures = all.figures;
+            let end = put_rows(figures, n, out);
+            *written = end as u64;
+            0
+        }
+        Verdict::Refused(why) => model::number(why),
+    }
+}
+
+// The listing, and its length: 1 to 6, 11.
+#[no_mangle]
+pub extern "C" fn segtrace_listing(sheet: &[u8], out: &mut [u8], written: &mut u64) -> u64
+    ensures { λ r. ⌜ PlaceCall (listingResult (now (sheet .entry))) (now (out .entry)) (now (out .exit))
+        (now (written .entry)) (now (written .exit)) r ⌝ }
+{
+    tell(analyser::listing(sheet, out), written)
+}
+
+// The optimal schedule of a row, and its length: 1 to 6, 7, 11.
+#[no_mangle]
+pub extern "C" fn segtrace_optimal_schedule(
+    sheet: &[u8],
+    row: u64,
+    out: &mut [u8],
+    written: &mut u64,
+) -> u64
+    ensures { λ r. ⌜ PlaceCall (scheduleResult (now (sheet .entry)) row) (now (out .entry)) (now (out .exit))
+        (now (written .entry)) (now (written .exit)) r ⌝ }
+{
+    tell(
+        analyser::optimal_schedule(sheet, row as usize, out),
+        written,
+    )
+}
+
+// Memory, load and total of a schedule at a row: 1 to 6, 7, 8, 9, 10.
+#[no_mangle]
+pub extern "C" fn segtrace_price(
+    sheet: &[u8],
+    row: u64,
+    schedule: &[u8],
+    price: &mut [u64; 3],
+) -> u64
+    ensures { λ r. ⌜ (r ≡ verdictNumber (pricing (now (sheet .entry)) row (now (schedule .entry)) .verdict))
+        × (now (price .exit) ≡ orOld (pricing (now (sheet .entry)) row (now (schedule .entry)) .verdict)
+        (priceList (pricing (now (sheet .entry)) row (now (schedule .entry)))) (now (price .entry))) ⌝ }
+{
+    let answer = analyser::price(sheet, row as usize, schedule);
+    let verdict = answer.verdict;
+    match verdict {
+        Verdict::Accepted => {
+            *price = [answer.memory.0, answer.load.0, answer.total];
+            0
+        }
+        Verdict::Refused(why) => model::number(why),
+    }
+}
+
+// The margin of a reference, counted from 1, at a row: 1 to 6, 7, 14, 15.
+#[no_mangle]
+pub extern "C" fn segtrace_margin(sheet: &[u8], row: u64, reference: u64, margin: &mut i64) -> u64
+    ensures { λ r. ⌜ (r ≡ verdictNumber (marginAnswer (now (sheet .entry)) row reference .verdict))
+        × (now (margin .exit) ≡ orOld (marginAnswer (now (sheet .entry)) row reference .verdict)
+        (marginAnswer (now (sheet .entry)) row reference .margin) (now (margin .entry))) ⌝ }
+{
+    let answer = analyser::margins::margin(sheet, row as usize, reference as usize);
+    let verdict = answer.verdict;
+    let value = answer.margin;
+    match verdict {
+        Verdict::Accepted => {
+            *margin = value;
+            0
+        }
+        Verdict::Refused(why) => model::number(why),
+    }
+}
+
+// A row with optmem within the ceiling and the least load among such rows: 1 to 6, 12.
+#[no_mangle]
+pub extern "C" fn segtrace_size(sheet: &[u8], ceiling: u64, row: &mut u64) -> u64
+    ensures { λ r. ⌜ SizeCall (readSheet (now (sheet .entry))) ceiling (now (row .entry)) (now (row .exit)) r ⌝ }
+{
+    let answer = analyser::sizing::size(sheet, ceiling);
+    let verdict = answer.verdict;
+    match verdict {
+        Verdict::Accepted => {
+            *row = answer.row as u64;
+            0
+        }
+        Verdict::Refused(why) => model::number(why),
+    }
+}

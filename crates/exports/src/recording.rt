@@ -1,0 +1,288 @@
+// The recorder's calls, on a recorder that the caller holds as lists of numbers. Whatever numbers stand there, each call returns.
+// What each returns and leaves is written in specs/Recording.antt; nothing is assumed.
+use crate::numbers;
+use figures::Bucket;
+use model::Kind;
+use model::PriceRow;
+use model::Verdict;
+use recorder::Recorder;
+ghost use mathlib.Core.Path.{_≡_};
+ghost use Prim.Native.Nat.{min};
+ghost use lib.ListN.{length};
+ghost use Rattle.figures.specs.Buckets.{bucketCount, tabulate};
+ghost use Rattle.figures.specs.Pass.{rowsOf};
+ghost use Rattle.exports.specs.Recording.{StartCall, TouchCall, TouchAllCall, FiguresCall, HeadStored, TakenStored};
+ghost use Rattle.exports.specs.Recording.{parts, recorderIn, kindIn, bucketIn};
+
+// The kind that a number stands for.
+fn kind_of(n: u64) -> Kind
+    ensures { λ r. ⌜ r ≡ kindIn n ⌝ }
+{
+    if n == 0 {
+        return Kind::Time;
+    }
+    Kind::Space
+}
+
+// The number of a kind.
+fn kind_number(kind: Kind) -> u64
+    ensures { λ r. ⌜ kindIn r ≡ kind ⌝ }
+{
+    match kind {
+        Kind::Time => 0,
+        Kind::Space => 1,
+    }
+}
+
+// A number, cut off at 255.
+fn cut(n: u64) -> u8
+    ensures { λ r. ⌜ r ≡ min n 255 ⌝ }
+{
+    if n < 255 {
+        return n as u8;
+    }
+    255
+}
+
+// The rows of prices that stand apart.
+fn rows_of(h: &[u16], d: &[u16]) -> [PriceRow; 64]
+    requires { ⌜ (length (now h) ≡ 64) × (length (now d) ≡ 64) ⌝ }
+    ensures { λ r. ⌜ r ≡ rowsOf (now (h .entry)) (now (d .entry)) ⌝ }
+{
+    let mut rows = [PriceRow { h: 0, d: 0 }; 64];
+    let mut i = 0;
+    while i < 64 {
+        rows[i] = PriceRow { h: h[i], d: d[i] };
+        i += 1;
+    }
+    rows
+}
+
+// The buckets that the sums hold.
+fn buckets_of(sums: &[u64; 390]) -> [Bucket; 65]
+    ensures { λ r. ⌜ r ≡ tabulate bucketCount (bucketIn (now (sums .entry))) ⌝ }
+{
+    let mut buckets = figures::pass::empty_buckets();
+    let mut k = 0;
+    while k < 65 {
+        let at = 6 * k;
+        buckets[k] = Bucket {
+            count: sums[at],
+            volume: sums[at + 1],
+            retention: sums[at + 2],
+            swap: sums[at + 3],
+            retentionz: sums[at + 4],
+            swapz: sums[at + 5],
+        };
+        k += 1;
+    }
+    buckets
+}
+
+// Stores the buckets in the sums.
+fn store_buckets(buckets: [Bucket; 65], sums: &mut [u64])
+    requires { ⌜ length (now sums) ≡ 390 ⌝ }
+    ensures { λ u. ⌜ tabulate bucketCount (bucketIn (now (sums .exit))) ≡ buckets ⌝ }
+{
+    let mut k = 0;
+    while k < 65 {
+        let b = buckets[k];
+        let at = 6 * k;
+        sums[at] = b.count;
+        sums[at + 1] = b.volume;
+        sums[at + 2] = b.retention;
+        sums[at + 3] = b.swap;
+        sums[at + 4] = b.retentionz;
+        sums[at + 5] = b.swapz;
+        k += 1;
+    }
+}
+
+// The recorder that the parts hold.
+fn recorder_of(
+    head: &[u64; 4],
+    counts: &[u64; 3],
+    sizes: &[u16; 256],
+    h: &[u16; 64],
+    d: &[u16; 64],
+    last: &[u16; 256],
+    sums: &[u64; 390],
+) -> Recorder
+    ensures { λ r. ⌜ r ≡ recorderIn (parts (now (head .entry)) (now (counts .entry)) (now (sizes .entry)) (now (h .entry))
+        (now (d .entry)) (now (last .entry)) (now (sums .entry))) ⌝ }
+{
+    let kind = kind_of(head[0]);
+    let prices = rows_of(h, d);
+    let buckets = buckets_of(sums);
+    let of_segments = *sizes;
+    let table = *last;
+    Recorder {
+        kind: kind,
+        a: cut(head[1]),
+        segs: head[2] as usize,
+        sizes: of_segments,
+        rows: head[3] as usize,
+        prices: prices,
+        refs: counts[0] as usize,
+        last: table,
+        buckets: buckets,
+        cost: counts[1],
+        volume: counts[2],
+    }
+}
+
+// Stores the kind, a, segs and rows, the sizes and the prices.
+fn store_head(
+    r: Recorder,
+    head: &mut [u64; 4],
+    sizes: &mut [u16; 256],
+    h: &mut [u16; 64],
+    d: &mut [u16; 64],
+)
+    ensures { λ u. ⌜ HeadStored r (now (head .exit)) (now (sizes .exit)) (now (h .exit)) (now (d .exit)) ⌝ }
+{
+    let kind = r.kind;
+    let of_segments = r.sizes;
+    let prices = r.prices;
+    let apart = figures::pass::split(prices);
+    let of_load = apart.h;
+    let of_memory = apart.d;
+    *head = [kind_number(kind), r.a as u64, r.segs as u64, r.rows as u64];
+    *sizes = of_segments;
+    *h = of_load;
+    *d = of_memory;
+}
+
+// Stores the references taken, Q and V, the table of last touches and the buckets.
+fn store_taken(r: Recorder, counts: &mut [u64; 3], last: &mut [u16; 256], sums: &mut [u64; 390])
+    ensures { λ u. ⌜ TakenStored r (now (counts .exit)) (now (last .exit)) (now (sums .exit)) ⌝ }
+{
+    let table = r.last;
+    let buckets = r.buckets;
+    *counts = [r.refs as u64, r.cost, r.volume];
+    *last = table;
+    store_buckets(buckets, sums);
+}
+
+// A recorder with the kind, a, sizes and rows of a sheet and no references: 1 to 6.
+#[no_mangle]
+pub extern "C" fn segtrace_recorder_start(
+    sheet: &[u8],
+    head: &mut [u64; 4],
+    counts: &mut [u64; 3],
+    sizes: &mut [u16; 256],
+    h: &mut [u16; 64],
+    d: &mut [u16; 64],
+    last: &mut [u16; 256],
+    sums: &mut [u64; 390],
+) -> u64
+    ensures { λ r. ⌜ StartCall (now (sheet .entry))
+        (parts (now (head .entry)) (now (counts .entry)) (now (sizes .entry)) (now (h .entry))
+        (now (d .entry)) (now (last .entry)) (now (sums .entry)))
+        (parts (now (head .exit)) (now (counts .exit)) (now (sizes .exit)) (now (h .exit))
+        (now (d .exit)) (now (last .exit)) (now (sums .exit))) r ⌝ }
+{
+    let answer = analyser::recording::start(sheet);
+    let verdict = answer.verdict;
+    let r = answer.recorder;
+    match verdict {
+        Verdict::Accepted => {
+            store_head(r, head, sizes, h, d);
+            store_taken(r, counts, last, sums);
+            0
+        }
+        Verdict::Refused(why) => model::number(why),
+    }
+}
+
+// Takes one reference: 4, 13.
+#[no_mangle]
+pub extern "C" fn segtrace_recorder_touch(
+    head: &[u64; 4],
+    counts: &mut [u64; 3],
+    sizes: &[u16; 256],
+    h: &[u16; 64],
+    d: &[u16; 64],
+    last: &mut [u16; 256],
+    sums: &mut [u64; 390],
+    segment: u64,
+) -> u64
+    ensures { λ r. ⌜ TouchCall
+        (parts (now (head .entry)) (now (counts .entry)) (now (sizes .entry)) (now (h .entry))
+        (now (d .entry)) (now (last .entry)) (now (sums .entry)))
+        (parts (now (head .exit)) (now (counts .exit)) (now (sizes .exit)) (now (h .exit))
+        (now (d .exit)) (now (last .exit)) (now (sums .exit))) segment r ⌝ }
+{
+    let r = recorder_of(head, counts, sizes, h, d, last, sums);
+    let answer = analyser::recording::touch(r, segment as usize);
+    let verdict = answer.verdict;
+    let next = answer.recorder;
+    match verdict {
+        Verdict::Accepted => {
+            store_taken(next, counts, last, sums);
+            0
+        }
+        Verdict::Refused(why) => model::number(why),
+    }
+}
+
+// Takes references one after the other, stops at the first that is refused, and tells how many were taken: 4, 13.
+#[no_mangle]
+pub extern "C" fn segtrace_recorder_touch_all(
+    head: &[u64; 4],
+    counts: &mut [u64; 3],
+    sizes: &[u16; 256],
+    h: &[u16; 64],
+    d: &[u16; 64],
+    last: &mut [u16; 256],
+    sums: &mut [u64; 390],
+    segments: &[u16],
+    taken: &mut u64,
+) -> u64
+    ensures { λ r. ⌜ TouchAllCall
+        (parts (now (head .entry)) (now (counts .entry)) (now (sizes .entry)) (now (h .entry))
+        (now (d .entry)) (now (last .entry)) (now (sums .entry)))
+        (parts (now (head .exit)) (now (counts .exit)) (now (sizes .exit)) (now (h .exit))
+        (now (d .exit)) (now (last .exit)) (now (sums .exit))) (now (segments .entry)) (now (taken .exit)) r ⌝ }
+{
+    let r = recorder_of(head, counts, sizes, h, d, last, sums);
+    let answer = analyser::recording::touch_all(r, segments);
+    let verdict = answer.verdict;
+    let after = answer.recorder;
+    *taken = answer.taken as u64;
+    if answer.taken == 0 {
+        return model::verdict_number(verdict);
+    }
+    store_taken(after, counts, last, sums);
+    model::verdict_number(verdict)
+}
+
+// The figures of a row at this moment: 7.
+#[no_mangle]
+pub extern "C" fn segtrace_recorder_figures(
+    head: &[u64; 4],
+    counts: &[u64; 3],
+    sizes: &[u16; 256],
+    h: &[u16; 64],
+    d: &[u16; 64],
+    last: &[u16; 256],
+    sums: &[u64; 390],
+    row: u64,
+    figures: &mut [u64; 11],
+) -> u64
+    ensures { λ r. ⌜ FiguresCall
+        (parts (now (head .entry)) (now (counts .entry)) (now (sizes .entry)) (now (h .entry))
+        (now (d .entry)) (now (last .entry)) (now (sums .entry)))
+        row (now (figures .entry)) (now (figures .exit)) r ⌝ }
+{
+    let r = recorder_of(head, counts, sizes, h, d, last, sums);
+    let answer = analyser::recording::figures(r, row as usize);
+    let verdict = answer.verdict;
+    match verdict {
+        Verdict::Accepted => {
+            *figures = numbers(answer.figures);
+            0
+        }
+        Verdict::Refused(why) => model::number(why),
+    }
+}

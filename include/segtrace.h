@@ -1,0 +1,133 @@
+/*
+ * The segment trace analyser as a library: link libexports.a, which `rt staticlib exports` makes.
+ *
+ * Every call returns 0, or the number of the refusal, 1 to 15 (README.md lists them; where several apply, the first that the call's
+ * comment names). A refused call writes nothing: every lent place, number and recorder is as it was, but for segtrace_touch_all, which
+ * says so. No call keeps a pointer or allocates. Pointers are not null, and lent places overlap nothing else; an empty run of bytes
+ * may have any valid pointer.
+ */
+#ifndef SEGTRACE_INCLUDED
+#define SEGTRACE_INCLUDED
+
+#include <stddef.h>
+#include <stdint.h>
+
+#ifdef __cplusplus
+extern "C" {
+#endif
+
+/* The most bytes of a sheet, of a listing and of a schedule; the most rows and references. */
+enum {
+    SEGTRACE_SHEET_BYTES = 20012,
+    SEGTRACE_LISTING_BYTES = 21210,
+    SEGTRACE_SCHEDULE_BYTES = 65536,
+    SEGTRACE_ROWS = 64,
+    SEGTRACE_REFERENCES = 2048
+};
+
+/* The places of a row's figures in a list of SEGTRACE_FIGURES numbers. */
+enum {
+    SEGTRACE_H,
+    SEGTRACE_D,
+    SEGTRACE_MISSES,
+    SEGTRACE_VOLUME,
+    SEGTRACE_LOAD,
+    SEGTRACE_OPTMEM,
+    SEGTRACE_OPTTOTAL,
+    SEGTRACE_OPTOCC,
+    SEGTRACE_WSMEM,
+    SEGTRACE_WSOCC,
+    SEGTRACE_MEAN,
+    SEGTRACE_FIGURES
+};
+
+/* The places of a price in a list of SEGTRACE_PRICE numbers. */
+enum { SEGTRACE_PRICE_MEMORY, SEGTRACE_PRICE_LOAD, SEGTRACE_PRICE_TOTAL, SEGTRACE_PRICE };
+
+/* Whether the bytes are a sheet: 1 to 6. */
+uint64_t segtrace_check(const uint8_t *sheet, size_t sheet_length);
+
+/* The sheet read and written again, at the front of `out`, and its length: 1 to 6, 11. The bytes are the sheet's own. */
+uint64_t segtrace_rewrite(const uint8_t *sheet, size_t sheet_length, uint8_t *out, size_t out_length, uint64_t *written);
+
+/* The eleven figures of a row, counted from 0: 1 to 6, 7. */
+uint64_t segtrace_figures(const uint8_t *sheet, size_t sheet_length, uint64_t row, uint64_t figures[SEGTRACE_FIGURES]);
+
+/* The figures of every row, SEGTRACE_FIGURES numbers each, at the front of `out`, and how many numbers: 1 to 6, 11. */
+uint64_t segtrace_all_figures(const uint8_t *sheet, size_t sheet_length, uint64_t *out, size_t out_length, uint64_t *written);
+
+/* The listing at the front of `out`, and its length: 1 to 6, 11. */
+uint64_t segtrace_listing(const uint8_t *sheet, size_t sheet_length, uint8_t *out, size_t out_length, uint64_t *written);
+
+/* The optimal schedule of a row, 32 bytes a step, at the front of `out`, and its length: 1 to 6, 7, 11. */
+uint64_t segtrace_optimal_schedule(const uint8_t *sheet, size_t sheet_length, uint64_t row, uint8_t *out, size_t out_length,
+                                   uint64_t *written);
+
+/* Memory, load and total of a schedule at a row: 1 to 6, 7, 8, then 9 or 10 of the earliest faulty step. */
+uint64_t segtrace_price(const uint8_t *sheet, size_t sheet_length, uint64_t row, const uint8_t *schedule, size_t schedule_length,
+                        uint64_t price[SEGTRACE_PRICE]);
+
+/* The margin h*w - d*R of a reference, counted from 1, at a row; the reuse is kept where it is 0 or more: 1 to 6, 7, 14, 15. */
+uint64_t segtrace_margin(const uint8_t *sheet, size_t sheet_length, uint64_t row, uint64_t reference, int64_t *margin);
+
+/* A row with optmem within the ceiling and the least load among such rows; of several any one: 1 to 6, 12. */
+uint64_t segtrace_size(const uint8_t *sheet, size_t sheet_length, uint64_t ceiling, uint64_t *row);
+
+/*
+ * A recorder: filled by segtrace_start, and then handed to the calls below. With any other numbers in it a call still returns and does
+ * nothing undefined.
+ */
+typedef struct {
+    uint64_t head[4];    /* kind (0 time, 1 space), a, segs, rows */
+    uint64_t counts[3];  /* references taken, their cost Q, their volume V */
+    uint16_t sizes[256]; /* of the segments, then 0 */
+    uint16_t h[64];      /* prices of the rows, then 0 */
+    uint16_t d[64];
+    uint16_t last[256];  /* last steps of the segments */
+    uint64_t sums[390];  /* 65 buckets: count, volume, retention, swap, and the last two times the size */
+} segtrace_recorder;
+
+/* The calls on the parts of a recorder; the calls below them take it whole. */
+uint64_t segtrace_recorder_start(const uint8_t *sheet, size_t sheet_length, uint64_t *head, uint64_t *counts, uint16_t *sizes,
+                                 uint16_t *h, uint16_t *d, uint16_t *last, uint64_t *sums);
+uint64_t segtrace_recorder_touch(const uint64_t *head, uint64_t *counts, const uint16_t *sizes, const uint16_t *h, const uint16_t *d,
+                                 uint16_t *last, uint64_t *sums, uint64_t segment);
+uint64_t segtrace_recorder_touch_all(const uint64_t *head, uint64_t *counts, const uint16_t *sizes, const uint16_t *h,
+                                     const uint16_t *d, uint16_t *last, uint64_t *sums, const uint16_t *segments,
+                                     size_t segments_length, uint64_t *taken);
+uint64_t segtrace_recorder_figures(const uint64_t *head, const uint64_t *counts, const uint16_t *sizes, const uint16_t *h,
+                                   const uint16_t *d, const uint16_t *last, const uint64_t *sums, uint64_t row, uint64_t *figures);
+
+/* A recorder with the kind, a, sizes and rows of a sheet and no references: 1 to 6. */
+static inline uint64_t segtrace_start(const uint8_t *sheet, size_t sheet_length, segtrace_recorder *r)
+{
+    return segtrace_recorder_start(sheet, sheet_length, r->head, r->counts, r->sizes, r->h, r->d, r->last, r->sums);
+}
+
+/* Takes one reference: 4 for a segment not below segs, then 13 where 2,048 were taken. */
+static inline uint64_t segtrace_touch(segtrace_recorder *r, uint64_t segment)
+{
+    return segtrace_recorder_touch(r->head, r->counts, r->sizes, r->h, r->d, r->last, r->sums, segment);
+}
+
+/*
+ * Takes references one after the other and stops at the first that is refused (4, 13). `taken` becomes how many were taken, refused or
+ * not: those before the refused one stay taken. This is the one call that writes where it is refused; where it takes none, the
+ * recorder is as it was.
+ */
+static inline uint64_t segtrace_touch_all(segtrace_recorder *r, const uint16_t *segments, size_t segments_length, uint64_t *taken)
+{
+    return segtrace_recorder_touch_all(r->head, r->counts, r->sizes, r->h, r->d, r->last, r->sums, segments, segments_length, taken);
+}
+
+/* The eleven figures of a row at this moment: those of the sheet ending there: 7. */
+static inline uint64_t segtrace_figures_now(const segtrace_recorder *r, uint64_t row, uint64_t figures[SEGTRACE_FIGURES])
+{
+    return segtrace_recorder_figures(r->head, r->counts, r->sizes, r->h, r->d, r->last, r->sums, row, figures);
+}
+
+#ifdef __cplusplus
+}
+#endif
+
+#endif

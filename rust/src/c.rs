@@ -1,0 +1,117 @@
+//! The functions of include/segtrace.h, as it declares them.
+//!
+//! They ask for pointers that are not null, aligned and valid for the lengths given, and for lent places that overlap nothing else. The
+//! arrays of a recorder have the lengths of [`crate::Recorder`]; a list of figures has 11 numbers, a price 3.
+
+extern "C" {
+    /// Whether the bytes are a sheet.
+    pub fn segtrace_check(sheet: *const u8, sheet_length: usize) -> u64;
+
+    /// The sheet read and written again.
+    pub fn segtrace_rewrite(
+        sheet: *const u8,
+        sheet_length: usize,
+        out: *mut u8,
+        out_length: usize,
+        written: *mut u64,
+    ) -> u64;
+
+    /// The eleven figures of a row.
+    pub fn segtrace_figures(sheet: *const u8, sheet_length: usize, row: u64, figures: *mut u64) -> u64;
+
+    /// The figures of every row.
+    pub fn segtrace_all_figures(
+        sheet: *const u8,
+        sheet_length: usize,
+        out: *mut u64,
+        out_length: usize,
+        written: *mut u64,
+    ) -> u64;
+
+    /// The listing.
+    pub fn segtrace_listing(
+        sheet: *const u8,
+        sheet_length: usize,
+        out: *mut u8,
+        out_length: usize,
+        written: *mut u64,
+    ) -> u64;
+
+    /// The optimal schedule of a row.
+    pub fn segtrace_optimal_schedule(
+        sheet: *const u8,
+        sheet_length: usize,
+        row: u64,
+        out: *mut u8,
+        out_length: usize,
+        written: *mut u64,
+    ) -> u64;
+
+    /// Memory, load and total of a schedule.
+    pub fn segtrace_price(
+        sheet: *const u8,
+        sheet_length: usize,
+        row: u64,
+        schedule: *const u8,
+        schedule_length: usize,
+        price: *mut u64,
+    ) -> u64;
+
+    /// The margin of a reference.
+    pub fn segtrace_margin(sheet: *const u8, sheet_length: usize, row: u64, reference: u64, margin: *mut i64) -> u64;
+
+    /// A row within a ceiling.
+    pub fn segtrace_size(sheet: *const u8, sheet_length: usize, ceiling: u64, row: *mut u64) -> u64;
+
+    /// Fills a recorder.
+    pub fn segtrace_recorder_start(
+        sheet: *const u8,
+        sheet_length: usize,
+        head: *mut u64,
+        counts: *mut u64,
+        sizes: *mut u16,
+        h: *mut u16,
+        d: *mut u16,
+        last: *mut u16,
+        sums: *mut u64,
+    ) -> u64;
+
+    /// Takes one reference.
+    pub fn segtrace_recorder_touch(
+        head: *const u64,
+        counts: *mut u64,
+        sizes: *const u16,
+        h: *const u16,
+        d: *const u16,
+        last: *mut u16,
+        sums: *mut u64,
+        segment: u64,
+    ) -> u64;
+
+    /// Takes references one after the other.
+    pub fn segtrace_recorder_touch_all(
+        head: *const u64,
+        counts: *mut u64,
+        sizes: *const u16,
+        h: *const u16,
+        d: *const u16,
+        last: *mut u16,
+        sums: *mut u64,
+        segments: *const u16,
+        segments_length: usize,
+        taken: *mut u64,
+    ) -> u64;
+
+    /// The eleven figures of a row at this moment.
+    pub fn segtrace_recorder_figures(
+        head: *const u64,
+        counts: *const u64,
+        sizes: *const u16,
+        h: *const u16,
+        d: *const u16,
+        last: *const u16,
+        sums: *const u64,
+        row: u64,
+        figures: *mut u64,
+    ) -> u64;
+}

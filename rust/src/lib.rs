@@ -1,0 +1,174 @@
+//! The segment trace analyser: safe functions and types over the calls of `include/segtrace.h`.
+//!
+//! A sheet is handed in as bytes. Each function says in numbers what may refuse it; [`Refusal`] lists them. A refused call leaves every
+//! lent place as it was.
+//!
+//! ```
+//! let sheet = b"kind=space\na=1\nsegs=2\nsize=1\nsize=3\nrows=2\nrow=1/2\nrow=1/1\nrefs=3\nref=0\nref=1\nref=0\n";
+//! let figures = segtrace::figures(sheet, 0).unwrap();
+//! assert_eq!((figures.misses, figures.load), (2, 6));
+//! assert_eq!(segtrace::figures(sheet, 2), Err(segtrace::Refusal::NoSuchRow));
+//!
+//! let mut recorder = segtrace::Recorder::start(sheet).unwrap();
+//! assert_eq!(recorder.touch_all(&[0, 1, 0, 2]), (3, Err(segtrace::Refusal::OutOfRange)));
+//! assert_eq!(recorder.figures(0), Ok(figures));
+//! ```
+
+pub mod c;
+mod recorder;
+mod refusal;
+
+pub use recorder::Recorder;
+pub use refusal::Refusal;
+
+/// The most bytes of a sheet.
+pub const SHEET_BYTES: usize = 20_012;
+/// The most bytes of a listing.
+pub const LISTING_BYTES: usize = 21_210;
+/// The most bytes of a schedule.
+pub const SCHEDULE_BYTES: usize = 65_536;
+/// The most rows of a sheet.
+pub const ROWS: usize = 64;
+/// The most references of a sheet or a recorder.
+pub const REFERENCES: usize = 2_048;
+
+/// The eleven figures of a row.
+#[derive(Clone, Copy, Debug, Default, PartialEq, Eq)]
+#[repr(C)]
+pub struct Figures {
+    /// The price of a load unit.
+    pub h: u64,
+    /// The price of a memory unit.
+    pub d: u64,
+    /// References that are not kept, first touches included.
+    pub misses: u64,
+    /// The sizes of the misses, added.
+    pub volume: u64,
+    /// Misses and a times the volume.
+    pub load: u64,
+    /// Memory of the optimal schedule.
+    pub optmem: u64,
+    /// Cost of the optimal schedule: d times optmem and h times the load.
+    pub opttotal: u64,
+    /// Occupancy of the optimal schedule.
+    pub optocc: u64,
+    /// Memory of the working set, times d.
+    pub wsmem: u64,
+    /// Occupancy of the working set, times d.
+    pub wsocc: u64,
+    /// Mean occupancy of the working set in thousandths, rounded down.
+    pub mean: u64,
+}
+
+impl Figures {
+    /// How many figures a row has.
+    pub const COUNT: usize = 11;
+
+    /// The figures in the listing's order.
+    pub fn items(&self) -> [u64; Figures::COUNT] {
+        [
+            self.h,
+            self.d,
+            self.misses,
+            self.volume,
+            self.load,
+            self.optmem,
+            self.opttotal,
+            self.optocc,
+            self.wsmem,
+            self.wsocc,
+            self.mean,
+        ]
+    }
+
+    /// The figures as the list of numbers that they are in memory.
+    fn as_mut_ptr(&mut self) -> *mut u64 {
+        std::ptr::from_mut(self).cast()
+    }
+}
+
+/// What a schedule costs at a row.
+#[derive(Clone, Copy, Debug, Default, PartialEq, Eq)]
+pub struct Price {
+    /// Q and what the held untouched segments cost.
+    pub memory: u64,
+    /// The swap costs of the touches that load.
+    pub load: u64,
+    /// d times the memory and h times the load.
+    pub total: u64,
+}
+
+// In each call below the pointers come from slices and references, so they are valid, and the lent ones overlap nothing else.
+
+/// Whether the bytes are a sheet: 1 to 6.
+pub fn check(sheet: &[u8]) -> Result<(), Refusal> {
+    Refusal::answer(unsafe { c::segtrace_check(sheet.as_ptr(), sheet.len()) })
+}
+
+/// The sheet read and written again, at the front of `out`. Gives its length: 1 to 6, 11.
+pub fn rewrite(sheet: &[u8], out: &mut [u8]) -> Result<usize, Refusal> {
+    let mut written = 0;
+    Refusal::answer(unsafe {
+        c::segtrace_rewrite(sheet.as_ptr(), sheet.len(), out.as_mut_ptr(), out.len(), &mut written)
+    })?;
+    Ok(written as usize)
+}
+
+/// The figures of a row, counted from 0: 1 to 6, 7.
+pub fn figures(sheet: &[u8], row: u64) -> Result<Figures, Refusal> {
+    let mut figures = Figures::default();
+    Refusal::answer(unsafe { c::segtrace_figures(sheet.as_ptr(), sheet.len(), row, figures.as_mut_ptr()) })?;
+    Ok(figures)
+}
+
+/// The figures of every row, at the front of `out`. Gives how many rows: 1 to 6, 11.
+pub fn all_figures(sheet: &[u8], out: &mut [Figures]) -> Result<usize, Refusal> {
+    let mut written = 0;
+    // A record is eleven numbers one after the other, so a list of records is one list of numbers.
+    let numbers = out.as_mut_ptr().cast();
+    let length = Figures::COUNT * out.len();
+    Refusal::answer(unsafe { c::segtrace_all_figures(sheet.as_ptr(), sheet.len(), numbers, length, &mut written) })?;
+    Ok(written as usize / Figures::COUNT)
+}
+
+/// The listing, at the front of `out`. Gives its length: 1 to 6, 11.
+pub fn listing(sheet: &[u8], out: &mut [u8]) -> Result<usize, Refusal> {
+    let mut written = 0;
+    Refusal::answer(unsafe {
+        c::segtrace_listing(sheet.as_ptr(), sheet.len(), out.as_mut_ptr(), out.len(), &mut written)
+    })?;
+    Ok(written as usize)
+}
+
+/// The optimal schedule of a row, 32 bytes a step, at the front of `out`. Gives its length: 1 to 6, 7, 11.
+pub fn optimal_schedule(sheet: &[u8], row: u64, out: &mut [u8]) -> Result<usize, Refusal> {
+    let mut written = 0;
+    Refusal::answer(unsafe {
+        c::segtrace_optimal_schedule(sheet.as_ptr(), sheet.len(), row, out.as_mut_ptr(), out.len(), &mut written)
+    })?;
+    Ok(written as usize)
+}
+
+/// What a schedule costs at a row: 1 to 6, 7, 8, then 9 or 10 of the earliest faulty step.
+pub fn price(sheet: &[u8], row: u64, schedule: &[u8]) -> Result<Price, Refusal> {
+    let mut price = [0; 3];
+    Refusal::answer(unsafe {
+        c::segtrace_price(sheet.as_ptr(), sheet.len(), row, schedule.as_ptr(), schedule.len(), price.as_mut_ptr())
+    })?;
+    let [memory, load, total] = price;
+    Ok(Price { memory, load, total })
+}
+
+/// The margin h*w - d*R of a reference, counted from 1, at a row; the reuse is kept where it is 0 or more: 1 to 6, 7, 14, 15.
+pub fn margin(sheet: &[u8], row: u64, reference: u64) -> Result<i64, Refusal> {
+    let mut margin = 0;
+    Refusal::answer(unsafe { c::segtrace_margin(sheet.as_ptr(), sheet.len(), row, reference, &mut margin) })?;
+    Ok(margin)
+}
+
+/// A row with optmem within the ceiling and the least load among such rows; of several any one: 1 to 6, 12.
+pub fn size(sheet: &[u8], ceiling: u64) -> Result<u64, Refusal> {
+    let mut row = 0;
+    Refusal::answer(unsafe { c::segtrace_size(sheet.as_ptr(), sheet.len(), ceiling, &mut row) })?;
+    Ok(row)
+}

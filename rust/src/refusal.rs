@@ -1,0 +1,103 @@
+//! Why a call is refused.
+
+use std::fmt;
+
+/// Why a call was refused. Where several apply, a call gives the first that its comment names.
+#[derive(Clone, Copy, Debug, PartialEq, Eq, Hash)]
+#[repr(u64)]
+pub enum Refusal {
+    /// The sheet is longer than 20,012 bytes.
+    SheetTooLong = 1,
+    /// A line is missing, lacks its line feed, or does not begin with its key and "=".
+    LineMalformed,
+    /// A value is not a kind word, a number, or for a row two numbers around "/".
+    ValueMalformed,
+    /// A number lies outside its range.
+    OutOfRange,
+    /// A row's threshold does not exceed the one before.
+    ThresholdNotAbove,
+    /// Bytes follow the last line.
+    BytesAfterEnd,
+    /// The row asked for is not below rows.
+    NoSuchRow,
+    /// The schedule does not have 32 bytes a reference.
+    ScheduleLength,
+    /// In the earliest faulty step the touched segment is not held.
+    TouchedNotHeld,
+    /// In the earliest faulty step a segment is held that was neither touched nor held before.
+    HeldNotBefore,
+    /// The lent place is shorter than the result.
+    PlaceTooShort,
+    /// Every row's optmem exceeds the ceiling.
+    NoRowFits,
+    /// The recorder already has 2,048 references.
+    RecorderFull,
+    /// The reference asked for is not between 1 and refs.
+    NoSuchReference,
+    /// The reference is a first touch and has no margin.
+    FirstTouch,
+}
+
+impl Refusal {
+    /// All refusals, in the order of their numbers.
+    pub const ALL: [Refusal; 15] = [
+        Refusal::SheetTooLong,
+        Refusal::LineMalformed,
+        Refusal::ValueMalformed,
+        Refusal::OutOfRange,
+        Refusal::ThresholdNotAbove,
+        Refusal::BytesAfterEnd,
+        Refusal::NoSuchRow,
+        Refusal::ScheduleLength,
+        Refusal::TouchedNotHeld,
+        Refusal::HeldNotBefore,
+        Refusal::PlaceTooShort,
+        Refusal::NoRowFits,
+        Refusal::RecorderFull,
+        Refusal::NoSuchReference,
+        Refusal::FirstTouch,
+    ];
+
+    /// The number of the refusal, 1 to 15.
+    pub fn number(self) -> u64 {
+        self as u64
+    }
+
+    /// The refusal of a number.
+    pub fn of_number(number: u64) -> Option<Refusal> {
+        Refusal::ALL.into_iter().find(|refusal| refusal.number() == number)
+    }
+
+    /// What a call returned, as a result: 0, or the number of a refusal. The library returns no other number.
+    #[inline]
+    pub(crate) fn answer(returned: u64) -> Result<(), Refusal> {
+        match returned {
+            0 => Ok(()),
+            number => Err(Refusal::of_number(number).expect("the number of a refusal")),
+        }
+    }
+}
+
+impl fmt::Display for Refusal {
+    fn fmt(&self, formatter: &mut fmt::Formatter<'_>) -> fmt::Result {
+        formatter.write_str(match self {
+            Refusal::SheetTooLong => "the sheet is longer than 20,012 bytes",
+            Refusal::LineMalformed => "a line is missing, lacks its line feed or does not begin with its key",
+            Refusal::ValueMalformed => "a value is not written as asked",
+            Refusal::OutOfRange => "a number lies outside its range",
+            Refusal::ThresholdNotAbove => "a row's threshold does not exceed the one before",
+            Refusal::BytesAfterEnd => "bytes follow the last line",
+            Refusal::NoSuchRow => "there is no such row",
+            Refusal::ScheduleLength => "the schedule does not have 32 bytes a reference",
+            Refusal::TouchedNotHeld => "a touched segment is not held",
+            Refusal::HeldNotBefore => "a segment is held that was neither touched nor held before",
+            Refusal::PlaceTooShort => "the lent place is shorter than the result",
+            Refusal::NoRowFits => "no row fits the ceiling",
+            Refusal::RecorderFull => "the recorder has 2,048 references",
+            Refusal::NoSuchReference => "there is no such reference",
+            Refusal::FirstTouch => "a first touch has no margin",
+        })
+    }
+}
+
+impl std::error::Error for Refusal {}
