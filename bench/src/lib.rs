@@ -1,5 +1,4 @@
-//! The segment trace analyser in plain, fast, safe Rust: the baseline of the benchmark, and the stand-in under test
-//! where no library is given.
+//! The segment trace analyser in plain, fast, safe Rust: the baseline of the benchmark.
 #![forbid(unsafe_code)]
 // A row or a word numbers several lists at once.
 #![allow(clippy::needless_range_loop)]

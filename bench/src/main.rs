@@ -1,34 +1,18 @@
-//! Measures the baseline, and the library beside it where SEGTRACE_LIB_DIR was given.
+//! Measures the library beside the baseline.
 //!
 //! segtrace-bench [--milliseconds M]    M for each number of the table, 150 if not given
 //!
 //! Every number is the mean over 16 or more different sheets, taken in rotation, of the best time of each. Baseline and library take
 //! turns, so that both meet the same load of the machine.
 
-#[cfg(library)]
-#[path = "../../tests/src/ffi.rs"]
-#[allow(dead_code)]
-mod ffi;
 mod inputs;
+mod summary;
 
 use inputs::Input;
 use plain::{Figures, Recorder, Sheet};
 use std::hint::black_box;
 use std::time::{Duration, Instant};
-
-/// A call of the library to be measured, or none where there is no library.
-#[cfg(library)]
-macro_rules! library {
-    ($call:expr) => {
-        Some($call)
-    };
-}
-#[cfg(not(library))]
-macro_rules! library {
-    ($call:expr) => {
-        NONE
-    };
-}
+use summary::{Line, ALL_FIGURES, FIGURES, LISTING, READING};
 
 /// No call to be measured.
 const NONE: Option<fn(usize)> = None;
@@ -36,15 +20,23 @@ const NONE: Option<fn(usize)> = None;
 fn main() {
     let budget = Duration::from_millis(milliseconds());
     floors(budget);
-    println!("all figures: the header has no call for all rows, so the library is called once a row");
+    println!(
+        "baseline: plain Rust; library: libexports.a through the crate segtrace; ratio: library divided by baseline"
+    );
+    println!(
+        "recorders take all references of a sheet, from a recorder started before; -: the library has no such call"
+    );
     println!();
     println!(
         "{:<40} {:<36} {:>9} {:>9} {:>6}",
         "operation", "input (times in microseconds)", "baseline", "library", "ratio"
     );
+    let mut lines = Vec::new();
     for input in Input::all() {
-        Table { input, budget }.measure();
+        Table { input, budget, lines: &mut lines }.measure();
     }
+    println!();
+    summary::print(&lines);
 }
 
 fn milliseconds() -> u64 {
@@ -124,23 +116,31 @@ fn floors(budget: Duration) {
 }
 
 /// The lines of one input.
-struct Table {
+struct Table<'a> {
     input: Input,
     budget: Duration,
+    lines: &'a mut Vec<Line>,
 }
 
-impl Table {
-    fn line(&self, operation: &str, count: usize, baseline: impl FnMut(usize), library: Option<impl FnMut(usize)>) {
+impl Table<'_> {
+    fn line(
+        &mut self,
+        operation: &'static str,
+        count: usize,
+        baseline: impl FnMut(usize),
+        library: Option<impl FnMut(usize)>,
+    ) {
         let title = self.input.title();
         let (baseline, library) = times(self.budget, count, baseline, library);
-        let (library, ratio) = match library {
+        let (shown, ratio) = match library {
             Some(library) => (format!("{library:.2}"), format!("{:.2}", library / baseline)),
             None => ("-".to_string(), "-".to_string()),
         };
-        println!("{operation:<40} {title:<36} {baseline:>9.2} {library:>9} {ratio:>6}");
+        println!("{operation:<40} {title:<36} {baseline:>9.2} {shown:>9} {ratio:>6}");
+        self.lines.push(Line { operation, input: self.input, baseline, library });
     }
 
-    fn measure(&self) {
+    fn measure(&mut self) {
         let bytes = self.input.sheets();
         let read: Vec<Sheet> = bytes.iter().map(|bytes| read(bytes)).collect();
         let row = self.input.rows as u64 / 2;
@@ -152,66 +152,68 @@ impl Table {
                 schedule
             })
             .collect();
-        #[cfg(library)]
-        same_answers(&bytes, row, &schedules);
-        self.whole_calls(&bytes, row, &schedules);
+        same_answers(&bytes, &read, row, &schedules);
+        self.figures(&bytes, row);
+        self.schedules(&bytes, row, &schedules);
         self.after_reading(&read, row, &schedules);
         self.recorder(&bytes, &read);
     }
 
-    /// The operations of the header, each from the bytes of a sheet.
-    fn whole_calls(&self, bytes: &[Vec<u8>], row: u64, schedules: &[Vec<u8>]) {
+    /// Reading, figures and the listing, each from the bytes of a sheet.
+    fn figures(&mut self, bytes: &[Vec<u8>], row: u64) {
         let count = bytes.len();
         let mut sheet = Sheet::empty();
         let mut list = [Figures::default(); Sheet::ROWS];
-        let mut text = vec![0; 16_384];
-        let mut schedule = vec![0; 65_536];
+        let mut records = [segtrace::Figures::default(); segtrace::ROWS];
+        let mut text = vec![0; segtrace::LISTING_BYTES];
+        let mut other_text = text.clone();
         self.line(
-            "reading (check)",
+            READING,
             count,
             |number| sheet.read(black_box(&bytes[number])).expect("a sheet"),
-            library!(|number: usize| ffi::check(black_box(&bytes[number])).expect("a sheet")),
+            Some(|number: usize| segtrace::check(black_box(&bytes[number])).expect("a sheet")),
         );
         self.line(
-            "figures of one row, from bytes",
+            FIGURES,
             count,
             |number| {
                 sheet.read(black_box(&bytes[number])).expect("a sheet");
                 black_box(plain::row_figures(&sheet, row).expect("a row"));
             },
-            library!(|number: usize| {
-                let mut out = [0; 11];
-                ffi::figures(black_box(&bytes[number]), row, black_box(&mut out)).expect("a row");
+            Some(|number: usize| {
+                black_box(segtrace::figures(black_box(&bytes[number]), row).expect("a row"));
             }),
         );
         self.line(
-            "all figures, from bytes",
+            ALL_FIGURES,
             count,
             |number| {
                 sheet.read(black_box(&bytes[number])).expect("a sheet");
                 plain::all_figures(&sheet, black_box(&mut list)).expect("room");
             },
-            library!(|number: usize| {
-                for row in 0..self.input.rows as u64 {
-                    let mut out = [0; 11];
-                    ffi::figures(black_box(&bytes[number]), row, black_box(&mut out)).expect("a row");
-                }
+            Some(|number: usize| {
+                segtrace::all_figures(black_box(&bytes[number]), black_box(&mut records)).expect("room");
             }),
         );
         self.line(
-            "listing, from bytes",
+            LISTING,
             count,
             |number| {
                 plain::listing(black_box(&bytes[number]), black_box(&mut text)).expect("room");
             },
-            library!({
-                let mut text = vec![0; 16_384];
-                let mut written = 0;
-                move |number: usize| {
-                    ffi::listing(black_box(&bytes[number]), black_box(&mut text), &mut written).expect("room")
-                }
+            Some(|number: usize| {
+                segtrace::listing(black_box(&bytes[number]), black_box(&mut other_text)).expect("room");
             }),
         );
+    }
+
+    /// Writing the optimal schedule and pricing it, each from the bytes of a sheet.
+    fn schedules(&mut self, bytes: &[Vec<u8>], row: u64, schedules: &[Vec<u8>]) {
+        let count = bytes.len();
+        let mut sheet = Sheet::empty();
+        let mut other_sheet = Sheet::empty();
+        let mut schedule = vec![0; segtrace::SCHEDULE_BYTES];
+        let mut other_schedule = schedule.clone();
         self.line(
             "optimal schedule, from bytes",
             count,
@@ -219,32 +221,27 @@ impl Table {
                 sheet.read(black_box(&bytes[number])).expect("a sheet");
                 plain::optimal_schedule(&sheet, row, black_box(&mut schedule)).expect("room");
             },
-            library!({
-                let mut schedule = vec![0; 65_536];
-                let mut written = 0;
-                move |number: usize| {
-                    let place = black_box(&mut schedule);
-                    ffi::optimal_schedule(black_box(&bytes[number]), row, place, &mut written).expect("room")
-                }
+            Some(|number: usize| {
+                let place = black_box(&mut other_schedule);
+                segtrace::optimal_schedule(black_box(&bytes[number]), row, place).expect("room");
             }),
         );
         self.line(
             "price of it, from bytes",
             count,
             |number| {
-                sheet.read(black_box(&bytes[number])).expect("a sheet");
-                black_box(plain::price(&sheet, row, black_box(&schedules[number])).expect("permitted"));
+                other_sheet.read(black_box(&bytes[number])).expect("a sheet");
+                black_box(plain::price(&other_sheet, row, black_box(&schedules[number])).expect("permitted"));
             },
-            library!(|number: usize| {
-                let mut out = [0; 3];
+            Some(|number: usize| {
                 let schedule = black_box(&schedules[number]);
-                ffi::price(black_box(&bytes[number]), row, schedule, black_box(&mut out)).expect("permitted");
+                black_box(segtrace::price(black_box(&bytes[number]), row, schedule).expect("permitted"));
             }),
         );
     }
 
     /// What comes after reading, of the baseline alone.
-    fn after_reading(&self, read: &[Sheet], row: u64, schedules: &[Vec<u8>]) {
+    fn after_reading(&mut self, read: &[Sheet], row: u64, schedules: &[Vec<u8>]) {
         let count = read.len();
         let mut list = [Figures::default(); Sheet::ROWS];
         let mut schedule = vec![0; 65_536];
@@ -262,23 +259,44 @@ impl Table {
         self.line("  price, sheet read before", count, price, NONE);
     }
 
-    /// The recorder of the baseline: every reference by a call, and all in one call. The library's goes beside it when the header has it.
-    fn recorder(&self, bytes: &[Vec<u8>], read: &[Sheet]) {
+    /// The recorder: every reference by a call, and all in one call.
+    fn recorder(&mut self, bytes: &[Vec<u8>], read: &[Sheet]) {
+        let count = bytes.len();
         let started: Vec<Recorder> = bytes.iter().map(|bytes| Recorder::start(bytes).expect("a sheet")).collect();
-        let by_calls = |number: usize| {
-            let mut recorder = started[number].clone();
-            for &segment in read[number].references() {
-                recorder.touch(black_box(segment as u64)).expect("room");
-            }
-            black_box(&recorder);
-        };
-        self.line("  recorder, every reference by a call", bytes.len(), by_calls, NONE);
-        let in_bulk = |number: usize| {
-            let mut recorder = started[number].clone();
-            recorder.touch_all(black_box(read[number].references())).1.expect("room");
-            black_box(&recorder);
-        };
-        self.line("  recorder, all references in bulk", bytes.len(), in_bulk, NONE);
+        let others: Vec<segtrace::Recorder> =
+            bytes.iter().map(|bytes| segtrace::Recorder::start(bytes).expect("a sheet")).collect();
+        self.line(
+            "recorder, every reference by a call",
+            count,
+            |number| {
+                let mut recorder = started[number].clone();
+                for &segment in read[number].references() {
+                    recorder.touch(black_box(segment as u64)).expect("room");
+                }
+                black_box(&recorder);
+            },
+            Some(|number: usize| {
+                let mut recorder = others[number].clone();
+                for &segment in read[number].references() {
+                    recorder.touch(black_box(segment as u64)).expect("room");
+                }
+                black_box(&recorder);
+            }),
+        );
+        self.line(
+            "recorder, all references in bulk",
+            count,
+            |number| {
+                let mut recorder = started[number].clone();
+                recorder.touch_all(black_box(read[number].references())).1.expect("room");
+                black_box(&recorder);
+            },
+            Some(|number: usize| {
+                let mut recorder = others[number].clone();
+                recorder.touch_all(black_box(read[number].references())).1.expect("room");
+                black_box(&recorder);
+            }),
+        );
     }
 }
 
@@ -288,17 +306,33 @@ fn read(bytes: &[u8]) -> Sheet {
     sheet
 }
 
-/// Stops where baseline and library give different listings or schedules of what is measured.
-#[cfg(library)]
-fn same_answers(bytes: &[Vec<u8>], row: u64, schedules: &[Vec<u8>]) {
-    for (bytes, wanted) in bytes.iter().zip(schedules) {
+/// Stops where baseline and library give different answers of what is measured.
+fn same_answers(bytes: &[Vec<u8>], read: &[Sheet], row: u64, schedules: &[Vec<u8>]) {
+    for ((bytes, read), wanted) in bytes.iter().zip(read).zip(schedules) {
         let (mut ours, mut theirs) = (vec![0; 16_384], vec![0; 16_384]);
-        let mut written = 0;
         let length = plain::listing(bytes, &mut ours).expect("room");
-        ffi::listing(bytes, &mut theirs, &mut written).expect("room");
-        assert!(length as u64 == written && ours == theirs, "the listings differ");
+        assert!(segtrace::listing(bytes, &mut theirs) == Ok(length) && ours == theirs, "the listings differ");
         let mut schedule = vec![0; wanted.len()];
-        ffi::optimal_schedule(bytes, row, &mut schedule, &mut written).expect("room");
+        assert!(segtrace::optimal_schedule(bytes, row, &mut schedule) == Ok(wanted.len()), "the lengths differ");
         assert!(&schedule == wanted, "the schedules differ");
+        let price = plain::price(read, row, wanted).expect("permitted");
+        let other = segtrace::price(bytes, row, wanted).expect("permitted");
+        assert!(
+            [price.memory, price.load, price.total] == [other.memory, other.load, other.total],
+            "the prices differ"
+        );
+        let mut list = [Figures::default(); Sheet::ROWS];
+        let mut records = [segtrace::Figures::default(); segtrace::ROWS];
+        let rows = plain::all_figures(read, &mut list).expect("room");
+        assert!(segtrace::all_figures(bytes, &mut records) == Ok(rows), "the rows differ");
+        let mut by_calls = segtrace::Recorder::start(bytes).expect("a sheet");
+        let mut in_bulk = by_calls.clone();
+        in_bulk.touch_all(read.references()).1.expect("room");
+        read.references().iter().for_each(|&segment| by_calls.touch(segment as u64).expect("room"));
+        for row in 0..rows {
+            let figures = segtrace::Recorder::figures(&by_calls, row as u64).expect("a row");
+            assert!(records[row].items() == list[row].items(), "the figures differ");
+            assert!(figures == records[row] && by_calls == in_bulk, "the recorders differ");
+        }
     }
 }

@@ -1,10 +1,10 @@
 //! One case: every call on one run of bytes, compared with the reference.
 
+use crate::calls;
 use crate::enumerate;
-use crate::ffi::{self, Refusal};
 use crate::generate::{self, Prng};
 use crate::place::{Item, Place};
-use crate::reference::{self, Figures, Intervals, Row, Sheet, LOAD, OPTMEM, OPTTOTAL, STEP};
+use crate::reference::{self, Figures, Intervals, Price, Row, Sheet, LOAD, OPTMEM, OPTTOTAL, STEP};
 use crate::tally::Tally;
 
 /// What a failing comparison says.
@@ -34,19 +34,19 @@ impl Case<'_> {
         let bytes = self.bytes;
         let (row, reference, ceiling) = (self.odd_number(), self.odd_number(), self.prng.next());
         let schedule = self.some_bytes();
-        self.verdict(Err(number))?;
-        self.call::<u8>("rewrite", Err(number), true, |out, written| ffi::rewrite(bytes, out, written))?;
-        self.call::<u64>("figures", Err(number), false, |out, _| ffi::figures(bytes, row, out))?;
-        self.call::<u8>("listing", Err(number), true, |out, written| ffi::listing(bytes, out, written))?;
-        self.call::<u8>("optimal_schedule", Err(number), true, |out, written| {
-            ffi::optimal_schedule(bytes, row, out, written)
+        self.verdict(number)?;
+        self.call::<u8>("rewrite", Err(number), |out, written| calls::rewrite(bytes, out, written))?;
+        self.list_call::<u64, 11>("figures", Err(number), |out| calls::figures(bytes, row, out))?;
+        self.call::<u64>("all_figures", Err(number), |out, written| calls::all_figures(bytes, out, written))?;
+        self.call::<u8>("listing", Err(number), |out, written| calls::listing(bytes, out, written))?;
+        self.call::<u8>("optimal_schedule", Err(number), |out, written| {
+            calls::optimal_schedule(bytes, row, out, written)
         })?;
-        self.call::<u64>("price", Err(number), false, |out, _| ffi::price(bytes, row, &schedule, out))?;
-        self.one_call::<i64>("margin", 1, Err(number), false, |out, _| {
-            ffi::margin(bytes, row, reference, &mut out[0])
-        })?;
-        self.one_call::<u64>("size", 1, Err(number), false, |out, _| ffi::size(bytes, ceiling, &mut out[0]))?;
-        self.recorder_refused(number)
+        self.list_call::<u64, 3>("price", Err(number), |out| calls::price(bytes, row, &schedule, out))?;
+        self.list_call::<i64, 1>("margin", Err(number), |[out]| calls::margin(bytes, row, reference, out))?;
+        self.list_call::<u64, 1>("size", Err(number), |[out]| calls::size(bytes, ceiling, out))?;
+        self.start_refused(number)?;
+        self.wrapper_refused(number, row, reference, ceiling, &schedule)
     }
 
     /// A small number or any number.
@@ -70,10 +70,11 @@ impl Case<'_> {
         ensure(reference::write(sheet) == bytes, || "the reference writes another sheet than it read".to_string())?;
         let intervals = Intervals::of(sheet);
         let all: Vec<Figures> = sheet.rows.iter().map(|&row| reference::figures(sheet, &intervals, row)).collect();
-        self.verdict(Ok(()))?;
-        self.call("rewrite", Ok(bytes), true, |out, written| ffi::rewrite(bytes, out, written))?;
+        self.verdict(0)?;
+        self.call("rewrite", Ok(bytes), |out, written| calls::rewrite(bytes, out, written))?;
         let listing = reference::listing(sheet, &all);
-        self.call("listing", Ok(&listing), true, |out, written| ffi::listing(bytes, out, written))?;
+        self.call("listing", Ok(&listing), |out, written| calls::listing(bytes, out, written))?;
+        self.call("all_figures", Ok(all.as_flattened()), |out, written| calls::all_figures(bytes, out, written))?;
         self.figures(sheet, &all)?;
         self.schedules(sheet, &all)?;
         self.margins(sheet)?;
@@ -81,25 +82,24 @@ impl Case<'_> {
         if sheet.sizes.len() <= enumerate::MOST_SEGS && sheet.refs.len() <= enumerate::MOST_REFS {
             self.demand_three(sheet)?;
         }
-        self.recorder_accepted(sheet)
+        self.recorder(sheet)?;
+        self.wrapper_accepted(sheet, &all)
     }
 
     /// `check` on the sheet.
-    fn verdict(&mut self, want: Result<(), u64>) -> Outcome {
-        let got = ffi::check(self.bytes);
-        if let Err(number) = want {
-            self.tally.note(number);
-        }
-        ensure(got.map_err(Refusal::number) == want, || format!("check: got {got:?}, wanted {want:?}"))
+    fn verdict(&mut self, want: u64) -> Outcome {
+        let got = calls::check(self.bytes);
+        self.tally.note(want);
+        ensure(got == want, || format!("check: got {got}, wanted {want}"))
     }
 
     fn figures(&mut self, sheet: &Sheet, all: &[Figures]) -> Outcome {
         let bytes = self.bytes;
         for row in self.some_rows(sheet, 8) {
-            self.call("figures", Ok(&all[row]), false, |out, _| ffi::figures(bytes, row as u64, out))?;
+            self.list_call("figures", Ok(&all[row]), |out| calls::figures(bytes, row as u64, out))?;
         }
         let row = self.no_row(sheet);
-        self.call::<u64>("figures", Err(7), false, |out, _| ffi::figures(bytes, row, out))
+        self.list_call::<u64, 11>("figures", Err(7), |out| calls::figures(bytes, row, out))
     }
 
     /// Up to so many row numbers; all of them where there are no more.
@@ -111,12 +111,12 @@ impl Case<'_> {
         (0..most).map(|_| self.prng.below(count)).collect()
     }
 
-    fn some_row(&mut self, sheet: &Sheet) -> usize {
+    pub fn some_row(&mut self, sheet: &Sheet) -> usize {
         self.prng.below(sheet.rows.len())
     }
 
     /// A number that is no row.
-    fn no_row(&mut self, sheet: &Sheet) -> u64 {
+    pub fn no_row(&mut self, sheet: &Sheet) -> u64 {
         let rows = sheet.rows.len() as u64;
         let row = self.some_row(sheet) as u64;
         self.prng.pick(&[rows, rows + 1, 64, 65, row + (1 << 8), row + (1 << 16), row + (1 << 32), u64::MAX])
@@ -127,47 +127,45 @@ impl Case<'_> {
     fn schedules(&mut self, sheet: &Sheet, all: &[Figures]) -> Outcome {
         let bytes = self.bytes;
         let row = self.no_row(sheet);
-        self.call::<u8>("optimal_schedule", Err(7), true, |out, written| {
-            ffi::optimal_schedule(bytes, row, out, written)
-        })?;
+        self.call::<u8>("optimal_schedule", Err(7), |out, written| calls::optimal_schedule(bytes, row, out, written))?;
         let few = if sheet.refs.len() > 100 { 1 } else { 3 };
         for row in self.some_rows(sheet, few) {
             let optimal = reference::optimal_schedule(sheet, sheet.rows[row]);
-            let price = reference::price(sheet, sheet.rows[row], &optimal);
+            let price = self.price(sheet, &optimal, row)?;
             ensure(price == Ok([all[row][OPTMEM], all[row][LOAD], all[row][OPTTOTAL]]), || {
                 "the reference prices its optimal schedule otherwise than its figures say".to_string()
             })?;
-            self.call("optimal_schedule", Ok(&optimal), true, |out, written| {
-                ffi::optimal_schedule(bytes, row as u64, out, written)
+            self.call("optimal_schedule", Ok(&optimal), |out, written| {
+                calls::optimal_schedule(bytes, row as u64, out, written)
             })?;
-            self.price(sheet, &optimal, row)?;
             let damaged = generate::damaged_schedule(&mut self.prng, sheet, &optimal);
-            self.price(sheet, &damaged, row)?;
+            self.price(sheet, &damaged, row).map(drop)?;
         }
         for _ in 0..few {
             let row = self.some_row(sheet);
             let permitted = generate::permitted_schedule(&mut self.prng, sheet);
-            let [_, load, total] = reference::price(sheet, sheet.rows[row], &permitted)
+            let [_, load, total] = self
+                .price(sheet, &permitted, row)?
                 .map_err(|number| format!("the reference refuses a permitted schedule with {number}"))?;
             ensure((total, load) >= (all[row][OPTTOTAL], all[row][LOAD]), || {
                 format!("the reference finds a permitted schedule of total {total} and load {load} below the optimum")
             })?;
-            self.price(sheet, &permitted, row)?;
             let damaged = generate::damaged_schedule(&mut self.prng, sheet, &permitted);
-            self.price(sheet, &damaged, row)?;
+            self.price(sheet, &damaged, row).map(drop)?;
             let no_row = self.no_row(sheet);
-            self.call::<u64>("price", Err(7), false, |out, _| ffi::price(bytes, no_row, &damaged, out))?;
+            self.list_call::<u64, 3>("price", Err(7), |out| calls::price(bytes, no_row, &damaged, out))?;
         }
         Ok(())
     }
 
-    /// Prices a schedule, permitted or not, at a row.
-    fn price(&mut self, sheet: &Sheet, schedule: &[u8], row: usize) -> Outcome {
+    /// Prices a schedule, permitted or not, at a row. Gives the price or the number that the reference finds.
+    fn price(&mut self, sheet: &Sheet, schedule: &[u8], row: usize) -> Result<Result<Price, u64>, String> {
         let bytes = self.bytes;
         let want = reference::price(sheet, sheet.rows[row], schedule);
-        let want = want.as_ref().map(|price| &price[..]).map_err(|&number| number);
-        self.call("price", want, false, |out, _| ffi::price(bytes, row as u64, schedule, out))
-            .map_err(|message| format!("{message}; the schedule was {}", hexadecimal(schedule)))
+        let given = want.as_ref().map_err(|&number| number);
+        self.list_call("price", given, |out| calls::price(bytes, row as u64, schedule, out))
+            .map_err(|message| format!("{message}; the schedule was {}", hexadecimal(schedule)))?;
+        Ok(want)
     }
 
     /// Demand 3 on a small sheet, from the answers of the calls alone.
@@ -177,9 +175,10 @@ impl Case<'_> {
             let mut figures = [0; 11];
             let mut schedule = vec![0; STEP * sheet.refs.len()];
             let mut written = 0;
-            ffi::figures(self.bytes, number as u64, &mut figures).map_err(|refusal| format!("figures: {refusal:?}"))?;
-            ffi::optimal_schedule(self.bytes, number as u64, &mut schedule, &mut written)
-                .map_err(|refusal| format!("optimal_schedule: {refusal:?}"))?;
+            done("figures", calls::figures(self.bytes, number as u64, &mut figures))?;
+            let returned = calls::optimal_schedule(self.bytes, number as u64, &mut schedule, &mut written);
+            done("optimal_schedule", returned)?;
+            (0..2).for_each(|_| self.tally.note(0));
             enumerate::check_row(&permitted, row, figures[OPTTOTAL], figures[LOAD], &schedule)
                 .map_err(|message| format!("demand 3, row {number}: {message}"))?;
         }
@@ -201,8 +200,7 @@ impl Case<'_> {
         for pattern in 0..1u32 << (width * refs) {
             let sets: Vec<u8> = (0..refs).map(|step| (pattern >> (width * step) & ((1 << width) - 1)) as u8).collect();
             let schedule = enumerate::bytes_of(&sets);
-            priced += usize::from(reference::price(sheet, sheet.rows[row], &schedule).is_ok());
-            self.price(sheet, &schedule, row)?;
+            priced += usize::from(self.price(sheet, &schedule, row)?.is_ok());
         }
         ensure(priced == permitted.len(), || "the enumeration and the reference permit different schedules".to_string())
     }
@@ -224,7 +222,7 @@ impl Case<'_> {
         let bytes = self.bytes;
         let row = self.no_row(sheet);
         let reference = self.prng.between(0, refs + 1);
-        self.one_call::<i64>("margin", 1, Err(7), false, |out, _| ffi::margin(bytes, row, reference, &mut out[0]))
+        self.list_call::<i64, 1>("margin", Err(7), |[out]| calls::margin(bytes, row, reference, out))
     }
 
     fn margin(&mut self, sheet: &Sheet, row: usize, reference: u64) -> Outcome {
@@ -233,15 +231,15 @@ impl Case<'_> {
         if reference != 0 && reference <= sheet.refs.len() as u64 {
             self.margin_agrees(sheet, sheet.rows[row], reference as usize, margin)?;
         }
-        let want = margin.as_ref().map(std::slice::from_ref).map_err(|&number| number);
-        self.one_call("margin", 1, want, false, |out, _| ffi::margin(bytes, row as u64, reference, &mut out[0]))
+        let want = margin.as_ref().map(std::array::from_ref).map_err(|&number| number);
+        self.list_call("margin", want, |[out]| calls::margin(bytes, row as u64, reference, out))
             .map_err(|message| format!("{message} (row {row}, reference {reference})"))
     }
 
     /// A reuse is kept exactly when its margin is 0 or more.
     fn margin_agrees(&self, sheet: &Sheet, row: Row, step: usize, margin: Result<i64, u64>) -> Outcome {
         let segment = sheet.touched(step);
-        let kept = sheet.last_touch(segment, step).map(|last| sheet.keeps(row, segment, (step - last - 1) as u128));
+        let kept = sheet.last_touch(segment, step).map(|last| sheet.keeps(row, segment, (step - last - 1) as u64));
         ensure(kept == margin.ok().map(|margin| margin >= 0), || {
             "the reference's margin and keep rule differ".to_string()
         })
@@ -257,41 +255,16 @@ impl Case<'_> {
         ceilings.push(all[0][OPTMEM].saturating_sub(1) + (1 << 32));
         for ceiling in ceilings {
             let mut place = Place::<u64>::new(&mut self.prng, 1);
-            let got = ffi::size(self.bytes, ceiling, &mut place.lent()[0]).map_err(Refusal::number);
+            let returned = calls::size(self.bytes, ceiling, &mut place.lent()[0]);
             let found = place.lent()[0];
-            let answer = got.map(|()| found);
+            let answer = if returned == 0 { Ok(found) } else { Err(returned) };
             ensure(reference::sizing_is_right(all, ceiling, answer), || {
                 format!("size: the answer {answer:?} for the ceiling {ceiling} is not right")
             })?;
-            let result = if got.is_ok() { &[found][..] } else { &[] };
+            let result = if answer.is_ok() { &[found][..] } else { &[] };
             place.check(result).map_err(|message| format!("size: {message}"))?;
-            if let Err(number) = got {
-                self.tally.note(number);
-            }
+            self.tally.note(returned);
         }
-        Ok(())
-    }
-
-    // ---- The recorder ----
-
-    #[cfg(stand_in)]
-    fn recorder_refused(&mut self, number: u64) -> Outcome {
-        crate::recorder::start_is_refused::<RecorderUnderTest>(self.bytes, number)
-    }
-
-    #[cfg(stand_in)]
-    fn recorder_accepted(&mut self, sheet: &Sheet) -> Outcome {
-        crate::recorder::run::<RecorderUnderTest>(&mut self.prng, self.bytes, sheet, self.tally)?;
-        crate::recorder::run_bulk(self.bytes, sheet)
-    }
-
-    #[cfg(not(stand_in))]
-    fn recorder_refused(&mut self, _number: u64) -> Outcome {
-        Ok(())
-    }
-
-    #[cfg(not(stand_in))]
-    fn recorder_accepted(&mut self, _sheet: &Sheet) -> Outcome {
         Ok(())
     }
 
@@ -303,8 +276,7 @@ impl Case<'_> {
         &mut self,
         name: &str,
         want: Result<&[T], u64>,
-        gives_length: bool,
-        call: impl Fn(&mut [T], &mut u64) -> Result<(), Refusal>,
+        call: impl Fn(&mut [T], &mut u64) -> u64,
     ) -> Outcome {
         match want {
             Ok(result) => {
@@ -321,14 +293,14 @@ impl Case<'_> {
                 }
                 for length in lengths {
                     let want = if length < exact { Err(11) } else { Ok(result) };
-                    self.one_call(name, length, want, gives_length, &call)?;
+                    self.one_call(name, length, want, &call)?;
                 }
             }
             Err(number) => {
                 let any = self.prng.below(100);
                 let large = if self.prng.one_in(50) { 70_000 } else { any };
                 for length in [0, any, large] {
-                    self.one_call(name, length, Err(number), gives_length, &call)?;
+                    self.one_call(name, length, Err(number), &call)?;
                 }
             }
         }
@@ -341,32 +313,39 @@ impl Case<'_> {
         name: &str,
         length: usize,
         want: Result<&[T], u64>,
-        gives_length: bool,
-        call: impl Fn(&mut [T], &mut u64) -> Result<(), Refusal>,
+        call: impl Fn(&mut [T], &mut u64) -> u64,
     ) -> Outcome {
         let mut place = Place::<T>::new(&mut self.prng, length);
         let mut written = Place::<u64>::new(&mut self.prng, 1);
         let got = call(place.lent(), &mut written.lent()[0]);
-        ensure(got.map_err(Refusal::number) == want.map(|_| ()), || {
-            let wanted = want.map(|_| ());
-            format!("{name}: got {got:?}, wanted {wanted:?} (a place of {length})")
-        })?;
+        let number = want.err().unwrap_or(0);
+        self.tally.note(number);
+        ensure(got == number, || format!("{name}: got {got}, wanted {number} (a place of {length})"))?;
         place.check(want.unwrap_or(&[])).map_err(|message| format!("{name}: {message}"))?;
-        let length_given = match want {
-            Ok(result) if gives_length => vec![result.len() as u64],
-            _ => vec![],
-        };
-        written.check(&length_given).map_err(|message| format!("{name}, length written: {message}"))?;
-        if let Err(number) = want {
-            self.tally.note(number);
-        }
-        Ok(())
+        let length_given: &[u64] = &want.map_or(vec![], |result| vec![result.len() as u64]);
+        written.check(length_given).map_err(|message| format!("{name}, length written: {message}"))
+    }
+
+    /// Makes a call with a list of fixed length and looks at its answer, at every item and around the list.
+    pub fn list_call<T: Item, const N: usize>(
+        &mut self,
+        name: &str,
+        want: Result<&[T; N], u64>,
+        call: impl FnOnce(&mut [T; N]) -> u64,
+    ) -> Outcome {
+        let mut place = Place::<T>::new(&mut self.prng, N);
+        let got = call(place.array());
+        let number = want.err().unwrap_or(0);
+        self.tally.note(number);
+        ensure(got == number, || format!("{name}: got {got}, wanted {number}"))?;
+        place.check(want.map_or(&[], |list| &list[..])).map_err(|message| format!("{name}: {message}"))
     }
 }
 
-/// The recorder that is compared with the model. With the library it is to be the one of the header.
-#[cfg(stand_in)]
-type RecorderUnderTest = plain::Recorder;
+/// A call that must be carried out.
+pub fn done(name: &str, returned: u64) -> Outcome {
+    ensure(returned == 0, || format!("{name}: got {returned}, wanted 0"))
+}
 
 pub fn ensure(holds: bool, message: impl FnOnce() -> String) -> Outcome {
     if holds {

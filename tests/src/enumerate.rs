@@ -9,12 +9,12 @@ pub const MOST_REFS: usize = 5;
 /// Memory and load of a schedule.
 #[derive(Clone, Copy, Debug, PartialEq, Eq)]
 pub struct Cost {
-    pub memory: u128,
-    pub load: u128,
+    pub memory: u64,
+    pub load: u64,
 }
 
 impl Cost {
-    fn total(self, row: Row) -> u128 {
+    fn total(self, row: Row) -> u64 {
         row.d * self.memory + row.h * self.load
     }
 }
@@ -46,7 +46,7 @@ fn extend(sheet: &Sheet, sets: Vec<u8>, cost: Cost, found: &mut Vec<Permitted>) 
         if !has(set, touched) || others().any(|segment| !has(before, segment)) {
             continue;
         }
-        let held: u128 = others().map(|segment| sheet.holding_cost(segment)).sum();
+        let held: u64 = others().map(|segment| sheet.holding_cost(segment)).sum();
         let swap = if has(before, touched) { 0 } else { sheet.swap_cost(touched) };
         let cost = Cost { memory: cost.memory + sheet.reference_cost(touched) + held, load: cost.load + swap };
         extend(sheet, [&sets[..], &[set]].concat(), cost, found);
@@ -64,7 +64,6 @@ pub fn bytes_of(sets: &[u8]) -> Vec<u8> {
 
 /// Checks the answers for a row against every permitted schedule: its opttotal and load, and the optimal schedule written.
 pub fn check_row(all: &[Permitted], row: Row, opttotal: u64, load: u64, written: &[u8]) -> Result<(), String> {
-    let (opttotal, load) = (u128::from(opttotal), u128::from(load));
     let mut written_found = false;
     for schedule in all {
         let total = schedule.cost.total(row);

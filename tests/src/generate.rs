@@ -154,7 +154,7 @@ pub fn sheet(prng: &mut Prng, shape: Shape) -> Sheet {
         0 => 0,
         1 => 1,
         _ => prng.any_size(0, 255),
-    } as u128;
+    };
     let size_style = if longest_lines { 3 } else { prng.below(4) };
     let sizes = (0..segs)
         .map(|_| match size_style {
@@ -162,7 +162,7 @@ pub fn sheet(prng: &mut Prng, shape: Shape) -> Sheet {
             1 => 1,
             2 => prng.any_size(1, 4_095),
             _ => prng.between(1_000, 4_095),
-        } as u128)
+        })
         .collect();
     let pattern = prng.pick(&[Pattern::Uniform, Pattern::Cyclic, Pattern::Local, Pattern::Runs]);
     let lowest = if longest_lines { 100 } else { 0 };
@@ -214,13 +214,11 @@ fn rows(prng: &mut Prng, sheet: &Sheet, style: RowStyle, count: usize) -> Vec<Ro
 
 fn threshold(prng: &mut Prng, sheet: &Sheet, style: RowStyle, centre: Row) -> Row {
     let near =
-        |prng: &mut Prng, value: u128, low: u128| (value + prng.below(7) as u128).saturating_sub(3).clamp(low, 65_535);
+        |prng: &mut Prng, value: u64, low: u64| (value + prng.below(7) as u64).saturating_sub(3).clamp(low, 65_535);
     match style {
-        RowStyle::Any => Row { h: prng.any_size(0, 65_535) as u128, d: prng.any_size(1, 65_535) as u128 },
-        RowStyle::FiveDigits => {
-            Row { h: prng.between(10_000, 65_535) as u128, d: prng.between(10_000, 65_535) as u128 }
-        }
-        RowStyle::FewDigits => Row { h: prng.between(0, 12) as u128, d: prng.between(1, 3) as u128 },
+        RowStyle::Any => Row { h: prng.any_size(0, 65_535), d: prng.any_size(1, 65_535) },
+        RowStyle::FiveDigits => Row { h: prng.between(10_000, 65_535), d: prng.between(10_000, 65_535) },
+        RowStyle::FewDigits => Row { h: prng.between(0, 12), d: prng.between(1, 3) },
         RowStyle::Close => Row { h: near(prng, centre.h, 0), d: near(prng, centre.d, 1) },
         RowStyle::AtReuses => at_reuse(prng, sheet).unwrap_or(centre),
         RowStyle::Mixed => {
@@ -238,7 +236,7 @@ fn at_reuse(prng: &mut Prng, sheet: &Sheet) -> Option<Row> {
     let step = 1 + prng.below(sheet.refs.len());
     let segment = sheet.touched(step);
     let last = sheet.last_touch(segment, step)?;
-    let retention = sheet.retention(segment, (step - last - 1) as u128);
+    let retention = sheet.retention(segment, (step - last - 1) as u64);
     let swap = sheet.swap_cost(segment);
     if prng.one_in(2) {
         return Some(close_to(prng, retention, swap));
@@ -247,7 +245,7 @@ fn at_reuse(prng: &mut Prng, sheet: &Sheet) -> Option<Row> {
     let (mut h, mut d) = (retention / divisor, swap / divisor);
     let most = MOST_PRICE / h.max(d);
     if most > 1 {
-        let times = prng.between(1, most as u64) as u128;
+        let times = prng.between(1, most);
         (h, d) = (h * times, d * times);
     }
     while h > MOST_PRICE || d > MOST_PRICE {
@@ -261,15 +259,15 @@ fn at_reuse(prng: &mut Prng, sheet: &Sheet) -> Option<Row> {
     Some(Row { h, d })
 }
 
-const MOST_PRICE: u128 = 65_535;
+const MOST_PRICE: u64 = 65_535;
 
 /// One of the closest fractions h/d to p/q, equal to it or not, along its continued fraction.
-fn close_to(prng: &mut Prng, mut p: u128, mut q: u128) -> Row {
+fn close_to(prng: &mut Prng, mut p: u64, mut q: u64) -> Row {
     let (mut before, mut last) = (Row { h: 0, d: 1 }, Row { h: 1, d: 0 });
     let between =
-        |before: Row, last: Row, times: u128| Row { h: times * last.h + before.h, d: times * last.d + before.d };
+        |before: Row, last: Row, times: u64| Row { h: times * last.h + before.h, d: times * last.d + before.d };
     // The most times that give prices in range.
-    let room = |before: u128, last: u128| (MOST_PRICE - before).checked_div(last).unwrap_or(MOST_PRICE);
+    let room = |before: u64, last: u64| (MOST_PRICE - before).checked_div(last).unwrap_or(MOST_PRICE);
     let most = |before: Row, last: Row| room(before.h, last.h).min(room(before.d, last.d));
     let mut found = Vec::new();
     while q > 0 {
@@ -290,7 +288,7 @@ fn close_to(prng: &mut Prng, mut p: u128, mut q: u128) -> Row {
     prng.pick(&found[recent..])
 }
 
-fn common_divisor(x: u128, y: u128) -> u128 {
+fn common_divisor(x: u64, y: u64) -> u64 {
     if y == 0 {
         x
     } else {

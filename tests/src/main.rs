@@ -1,24 +1,28 @@
 //! Compares every call of the segment trace analyser with a plain reference on random sheets.
 //!
-//! segtrace-tests [--sheets N] [--seed S] [--seconds T] [--case C] [--trace 1]
+//! segtrace-tests [SHEETS [SEED]] [--sheets N] [--seed S] [--seconds T] [--case C] [--trace 1]
 
+mod calls;
 mod compare;
+mod crash;
 mod enumerate;
-mod ffi;
 mod generate;
 mod place;
 mod recorder;
 mod reference;
-#[cfg(stand_in)]
-mod stand_in;
 mod tally;
 mod vectors;
+mod wrapper;
+mod wrong;
 
-use compare::Case;
+use compare::{Case, Outcome};
 use generate::{Prng, Shape};
+use reference::Sheet;
+use std::cell::Cell;
 use std::panic::{catch_unwind, AssertUnwindSafe};
 use std::process::exit;
 use std::sync::atomic::{AtomicU64, Ordering};
+use std::sync::Mutex;
 use std::time::{Duration, Instant};
 use tally::Tally;
 
@@ -34,79 +38,163 @@ struct Arguments {
     trace: bool,
 }
 
-/// The case that runs.
-static CASE: AtomicU64 = AtomicU64::new(0);
+/// What runs: an example of the documents, or a case of a seed.
+#[derive(Clone, Copy)]
+enum Run {
+    Example(usize),
+    Case { seed: u64, case: u64 },
+}
+
+thread_local! {
+    static NOW: Cell<Run> = const { Cell::new(Run::Example(0)) };
+}
+
+impl Run {
+    fn name(self) -> String {
+        match self {
+            Run::Example(number) => format!("example {number} of the documents"),
+            Run::Case { seed, case } => {
+                format!("seed {seed}, case {case}; again: tests/run --seed {seed} --case {case}")
+            }
+        }
+    }
+
+    /// The sheet.
+    fn bytes(self) -> Vec<u8> {
+        match self {
+            Run::Example(number) => vectors::sheet(number),
+            Run::Case { seed, case } => Given::of_case(seed, case).bytes,
+        }
+    }
+}
 
 fn main() {
     let arguments = arguments();
-    let under_test = if cfg!(stand_in) { "the stand-in (SEGTRACE_LIB_DIR was not set)" } else { "the library" };
-    println!("under test: {under_test}; seed {}", arguments.seed);
-    name_the_case_on_panic(arguments.seed);
-    let mut tally = Tally::new();
+    let seed = arguments.seed;
+    name_the_case_on_panic();
+    crash::watch();
+    let mut tally = Tally::default();
     match vectors::run(&mut tally) {
         Ok(count) => println!("examples of the documents: {count}, all equal"),
-        Err((bytes, message)) => fail("an example of the documents", &bytes, &message),
+        Err(message) => fail(NOW.get(), &message),
     }
     if let Some(case) = arguments.case {
-        run_case(&arguments, case, &mut tally);
-        println!("case {case}: equal");
+        run_case(seed, case, &mut tally).unwrap_or_else(|message| fail(NOW.get(), &message));
+        println!("seed {seed}, case {case}: equal");
         return;
     }
-    let start = Instant::now();
-    let mut case = 0;
-    while match arguments.seconds {
-        Some(seconds) => start.elapsed() < Duration::from_secs(seconds),
-        None => case < arguments.sheets,
-    } {
-        run_case(&arguments, case, &mut tally);
-        case += 1;
-    }
-    println!("sheets that reached each refusal: {}", tally.line());
+    find_wrong_answers(seed);
+    let sheets = run_sheets(&arguments, &mut tally);
+    println!("how often each refusal was reached:\n{}", tally.lines());
     let missing = tally.missing();
     if !missing.is_empty() {
-        println!("never reached: {missing:?}");
+        println!("FAILED: never reached: {missing:?}");
         exit(1);
     }
-    println!("tests: {case} sheets, all equal");
+    println!("seed {seed}: {sheets} sheets, {} calls compared, all equal", tally.calls());
 }
 
-fn run_case(arguments: &Arguments, case: u64, tally: &mut Tally) {
-    CASE.store(case, Ordering::Relaxed);
-    if arguments.trace {
-        println!("case {case}");
-    }
-    let seed = arguments.seed;
-    let mut prng = Prng::of_case(seed, case);
-    let shape = Shape::random(&mut prng);
-    let sheet = generate::sheet(&mut prng, shape);
-    let damaged = prng.one_in(3);
-    let bytes = if damaged { generate::damaged(&mut prng, &sheet) } else { reference::write(&sheet) };
-    let outcome = catch_unwind(AssertUnwindSafe(|| {
+/// Runs the sheets in as many threads as the machine has processors, and gives how many they were.
+fn run_sheets(arguments: &Arguments, tally: &mut Tally) -> u64 {
+    let start = Instant::now();
+    let next = AtomicU64::new(0);
+    let goes_on = |case: u64| match arguments.seconds {
+        Some(seconds) => start.elapsed() < Duration::from_secs(seconds),
+        None => case < arguments.sheets,
+    };
+    let work = || {
+        let mut tally = Tally::default();
+        let mut sheets = 0;
+        loop {
+            let case = next.fetch_add(1, Ordering::Relaxed);
+            if !goes_on(case) {
+                return (sheets, tally);
+            }
+            if arguments.trace {
+                println!("case {case}");
+            }
+            run_case(arguments.seed, case, &mut tally).unwrap_or_else(|message| fail(NOW.get(), &message));
+            sheets += 1;
+        }
+    };
+    let processors = if arguments.trace { 1 } else { std::thread::available_parallelism().map_or(1, usize::from) };
+    std::thread::scope(|scope| {
+        let threads: Vec<_> = (0..processors).map(|_| scope.spawn(work)).collect();
+        let ended = threads.into_iter().map(|thread| thread.join().expect("a thread that ended"));
+        ended.fold(0, |all, (sheets, counted)| {
+            tally.add(&counted);
+            all + sheets
+        })
+    })
+}
+
+fn run_case(seed: u64, case: u64, tally: &mut Tally) -> Outcome {
+    NOW.set(Run::Case { seed, case });
+    let Given { prng, sheet, damaged, bytes } = Given::of_case(seed, case);
+    let outcome = catch_unwind(AssertUnwindSafe(|| -> Outcome {
         if !damaged && reference::read(&bytes).as_ref() != Ok(&sheet) {
             return Err("the reference does not read the sheet that was written".to_string());
         }
         Case { prng, bytes: &bytes, tally }.run()
     }));
-    let outcome = outcome.unwrap_or_else(|_| Err("a panic".to_string()));
-    if let Err(message) = outcome {
-        fail(&format!("seed {seed}, case {case} ({shape:?})"), &bytes, &message);
+    tally.end_of_sheet();
+    outcome.unwrap_or_else(|_| Err("a panic".to_string()))
+}
+
+/// What a case is run on.
+struct Given {
+    prng: Prng,
+    sheet: Sheet,
+    damaged: bool,
+    bytes: Vec<u8>,
+}
+
+impl Given {
+    fn of_case(seed: u64, case: u64) -> Given {
+        let mut prng = Prng::of_case(seed, case);
+        let shape = Shape::random(&mut prng);
+        let sheet = generate::sheet(&mut prng, shape);
+        let damaged = prng.one_in(3);
+        let bytes = if damaged { generate::damaged(&mut prng, &sheet) } else { reference::write(&sheet) };
+        Given { prng, sheet, damaged, bytes }
     }
-    tally.end_of_case();
+}
+
+/// Puts in every wrong answer, one at a time, and runs sheets until a comparison fails.
+fn find_wrong_answers(seed: u64) {
+    const MOST: u64 = 20_000;
+    let all = wrong::all();
+    let mut most = 0;
+    for (place, (call, way)) in all.iter().enumerate() {
+        wrong::put_in(place);
+        match (0..MOST).find(|&case| run_case(seed, case, &mut Tally::default()).is_err()) {
+            Some(case) => most = most.max(case + 1),
+            None => {
+                println!("FAILED: a wrong answer of {call:?} ({way:?}) was not found in {MOST} sheets");
+                exit(1);
+            }
+        }
+    }
+    wrong::put_in(usize::MAX);
+    println!("wrong answers put in: {}, all found, each within {most} sheets", all.len());
 }
 
 /// A panic says in which case it happened, also where it ends the program at once.
-fn name_the_case_on_panic(seed: u64) {
+fn name_the_case_on_panic() {
     let hook = std::panic::take_hook();
     std::panic::set_hook(Box::new(move |information| {
-        println!("panic in seed {seed}, case {}", CASE.load(Ordering::Relaxed));
+        println!("panic in {}", NOW.get().name());
         hook(information);
     }));
 }
 
 /// Prints what failed and the sheet, and ends the program.
-fn fail(which: &str, bytes: &[u8], message: &str) -> ! {
-    println!("FAILED: {which}");
+fn fail(run: Run, message: &str) -> ! {
+    static ONE: Mutex<()> = Mutex::new(());
+    let _one = ONE.lock();
+    println!("FAILED: {}", run.name());
     println!("{message}");
+    let bytes = run.bytes();
     println!("the sheet, {} bytes:", bytes.len());
     for line in bytes.split_inclusive(|&byte| byte == b'\n') {
         println!("{}", line.escape_ascii());
@@ -117,7 +205,17 @@ fn fail(which: &str, bytes: &[u8], message: &str) -> ! {
 fn arguments() -> Arguments {
     let mut arguments = Arguments { sheets: 100_000, seed: 1, seconds: None, case: None, trace: false };
     let mut words = std::env::args().skip(1);
+    let mut plain = 0;
     while let Some(word) = words.next() {
+        if let Ok(number) = word.parse() {
+            match plain {
+                0 => arguments.sheets = number,
+                1 => arguments.seed = number,
+                _ => usage(),
+            }
+            plain += 1;
+            continue;
+        }
         let value = words.next().and_then(|value| value.parse().ok());
         match (word.as_str(), value) {
             ("--sheets", Some(value)) => arguments.sheets = value,
@@ -125,11 +223,13 @@ fn arguments() -> Arguments {
             ("--seconds", Some(value)) => arguments.seconds = Some(value),
             ("--case", Some(value)) => arguments.case = Some(value),
             ("--trace", Some(value)) => arguments.trace = value != 0,
-            _ => {
-                println!("usage: segtrace-tests [--sheets N] [--seed S] [--seconds T] [--case C] [--trace 1]");
-                exit(2);
-            }
+            _ => usage(),
         }
     }
     arguments
+}
+
+fn usage() -> ! {
+    println!("usage: segtrace-tests [SHEETS [SEED]] [--sheets N] [--seed S] [--seconds T] [--case C] [--trace 1]");
+    exit(2);
 }

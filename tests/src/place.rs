@@ -5,24 +5,47 @@ use std::fmt::Debug;
 
 /// A value that can be made of random bits.
 pub trait Item: Copy + PartialEq + Debug {
+    const ZERO: Self;
+
     fn list(prng: &mut Prng, length: usize) -> Vec<Self>;
+
+    /// Another value.
+    fn other(self) -> Self;
 }
 
 impl Item for u8 {
+    const ZERO: u8 = 0;
+
     fn list(prng: &mut Prng, length: usize) -> Vec<u8> {
         prng.bytes(length)
+    }
+
+    fn other(self) -> u8 {
+        self ^ 1
     }
 }
 
 impl Item for u64 {
+    const ZERO: u64 = 0;
+
     fn list(prng: &mut Prng, length: usize) -> Vec<u64> {
         (0..length).map(|_| prng.next()).collect()
+    }
+
+    fn other(self) -> u64 {
+        self ^ 1
     }
 }
 
 impl Item for i64 {
+    const ZERO: i64 = 0;
+
     fn list(prng: &mut Prng, length: usize) -> Vec<i64> {
         (0..length).map(|_| prng.next() as i64).collect()
+    }
+
+    fn other(self) -> i64 {
+        self ^ 1
     }
 }
 
@@ -45,6 +68,11 @@ impl<T: Item> Place<T> {
 
     pub fn lent(&mut self) -> &mut [T] {
         &mut self.now[self.start..self.end]
+    }
+
+    /// The place as an array; it is as long.
+    pub fn array<const N: usize>(&mut self) -> &mut [T; N] {
+        self.lent().try_into().expect("a place as long as the array")
     }
 
     /// Whether the result stands at the head of the place and everything else is as it was.

@@ -1,5 +1,5 @@
-//! The segment trace analyser in the plainest way: each answer straight from its definition, in 128-bit numbers.
-//! A refusal is its number.
+//! The segment trace analyser in the plainest way: each answer straight from its definition, in 64-bit numbers of which none may
+//! overflow: the tests are built to panic there. A refusal is its number.
 
 /// The longest sheet, in bytes.
 pub const LONGEST_SHEET: usize = 20_012;
@@ -16,8 +16,8 @@ pub enum Kind {
 
 #[derive(Clone, Copy, Debug, PartialEq, Eq)]
 pub struct Row {
-    pub h: u128,
-    pub d: u128,
+    pub h: u64,
+    pub d: u64,
 }
 
 impl Row {
@@ -30,8 +30,8 @@ impl Row {
 #[derive(Clone, Debug, PartialEq, Eq)]
 pub struct Sheet {
     pub kind: Kind,
-    pub a: u128,
-    pub sizes: Vec<u128>,
+    pub a: u64,
+    pub sizes: Vec<u64>,
     pub rows: Vec<Row>,
     pub refs: Vec<usize>,
 }
@@ -64,7 +64,7 @@ pub fn read(bytes: &[u8]) -> Result<Sheet, u64> {
         }
         rows.push(row);
     }
-    let ref_count = take_number(&mut rest, b"refs=", 0, MOST_REFS as u128)?;
+    let ref_count = take_number(&mut rest, b"refs=", 0, MOST_REFS as u64)?;
     let mut refs = Vec::new();
     for _ in 0..ref_count {
         refs.push(take_number(&mut rest, b"ref=", 0, segs - 1)? as usize);
@@ -84,21 +84,21 @@ fn take_value<'a>(rest: &mut &'a [u8], key: &[u8]) -> Result<&'a [u8], u64> {
     Ok(value)
 }
 
-fn take_number(rest: &mut &[u8], key: &[u8], low: u128, high: u128) -> Result<u128, u64> {
+fn take_number(rest: &mut &[u8], key: &[u8], low: u64, high: u64) -> Result<u64, u64> {
     let value = number_value(take_value(rest, key)?)?;
     in_range(value, low, high)
 }
 
-/// A number of any length: digits with no leading zero. Too many digits for 128 bits count as the largest number.
-fn number_value(text: &[u8]) -> Result<u128, u64> {
+/// A number of any length: digits with no leading zero. Too many digits for 64 bits count as the largest number.
+fn number_value(text: &[u8]) -> Result<u64, u64> {
     let leading_zero = text.len() > 1 && text[0] == b'0';
     if text.is_empty() || leading_zero || !text.iter().all(u8::is_ascii_digit) {
         return Err(3);
     }
-    Ok(text.iter().fold(0u128, |value, byte| value.saturating_mul(10).saturating_add(u128::from(byte - b'0'))))
+    Ok(text.iter().fold(0u64, |value, byte| value.saturating_mul(10).saturating_add(u64::from(byte - b'0'))))
 }
 
-fn in_range(value: u128, low: u128, high: u128) -> Result<u128, u64> {
+fn in_range(value: u64, low: u64, high: u64) -> Result<u64, u64> {
     if value < low || value > high {
         return Err(4);
     }
@@ -142,16 +142,19 @@ pub fn write(sheet: &Sheet) -> Vec<u8> {
 // ---- Costs ----
 
 impl Sheet {
-    pub fn size(&self, segment: usize) -> u128 {
+    #[inline(always)]
+    pub fn size(&self, segment: usize) -> u64 {
         self.sizes[segment]
     }
 
-    pub fn swap_cost(&self, segment: usize) -> u128 {
+    #[inline(always)]
+    pub fn swap_cost(&self, segment: usize) -> u64 {
         1 + self.a * self.size(segment)
     }
 
     /// What a reference costs.
-    pub fn reference_cost(&self, segment: usize) -> u128 {
+    #[inline(always)]
+    pub fn reference_cost(&self, segment: usize) -> u64 {
         match self.kind {
             Kind::Time => 1,
             Kind::Space => self.size(segment),
@@ -159,7 +162,7 @@ impl Sheet {
     }
 
     /// What a step costs in which the segment is held and not touched.
-    pub fn holding_cost(&self, segment: usize) -> u128 {
+    pub fn holding_cost(&self, segment: usize) -> u64 {
         match self.kind {
             Kind::Time => 1,
             Kind::Space => self.size(segment),
@@ -167,7 +170,8 @@ impl Sheet {
     }
 
     /// R after an unreferenced time.
-    pub fn retention(&self, segment: usize, unreferenced: u128) -> u128 {
+    #[inline(always)]
+    pub fn retention(&self, segment: usize, unreferenced: u64) -> u64 {
         match self.kind {
             Kind::Time => unreferenced,
             Kind::Space => unreferenced * self.size(segment),
@@ -175,7 +179,8 @@ impl Sheet {
     }
 
     /// Whether a row keeps a reuse of the segment after an unreferenced time.
-    pub fn keeps(&self, row: Row, segment: usize, unreferenced: u128) -> bool {
+    #[inline(always)]
+    pub fn keeps(&self, row: Row, segment: usize, unreferenced: u64) -> bool {
         row.d * self.retention(segment, unreferenced) <= row.h * self.swap_cost(segment)
     }
 
@@ -193,14 +198,14 @@ impl Sheet {
 /// The unreferenced times of a sheet.
 pub struct Intervals {
     /// For each step: that of the touch, none for a first touch.
-    pub reuses: Vec<Option<u128>>,
+    pub reuses: Vec<Option<u64>>,
     /// For each segment: that of the end interval, none if it is never touched.
-    pub ends: Vec<Option<u128>>,
+    pub ends: Vec<Option<u64>>,
 }
 
 impl Intervals {
     pub fn of(sheet: &Sheet) -> Intervals {
-        let since = |segment, step| sheet.last_touch(segment, step).map(|last| (step - last - 1) as u128);
+        let since = |segment, step| sheet.last_touch(segment, step).map(|last| (step - last - 1) as u64);
         let refs = sheet.refs.len();
         Intervals {
             reuses: (1..=refs).map(|step| since(sheet.touched(step), step)).collect(),
@@ -253,16 +258,11 @@ pub fn figures(sheet: &Sheet, intervals: &Intervals, row: Row) -> Figures {
     if sheet.kind == Kind::Space {
         wsocc = wsmem;
     }
-    let refs = sheet.refs.len() as u128;
+    let refs = sheet.refs.len() as u64;
     let load = misses + sheet.a * volume;
     let opttotal = d * optmem + h * load;
     let mean = if refs == 0 { 0 } else { 1_000 * wsocc / (d * refs) };
-    [h, d, misses, volume, load, optmem, opttotal, optocc, wsmem, wsocc, mean].map(narrow)
-}
-
-/// A figure in 64 bits.
-fn narrow(value: u128) -> u64 {
-    u64::try_from(value).expect("a figure fits 64 bits")
+    [h, d, misses, volume, load, optmem, opttotal, optocc, wsmem, wsocc, mean]
 }
 
 /// The listing of a sheet from the figures of its rows.
@@ -284,9 +284,8 @@ pub fn margin(sheet: &Sheet, row: Row, reference: u64) -> Result<i64, u64> {
     let step = reference as usize;
     let segment = sheet.touched(step);
     let last = sheet.last_touch(segment, step).ok_or(15u64)?;
-    let retention = sheet.retention(segment, (step - last - 1) as u128);
-    let margin = (row.h * sheet.swap_cost(segment)) as i128 - (row.d * retention) as i128;
-    Ok(i64::try_from(margin).expect("a margin fits 64 bits"))
+    let retention = sheet.retention(segment, (step - last - 1) as u64);
+    Ok((row.h * sheet.swap_cost(segment)) as i64 - (row.d * retention) as i64)
 }
 
 /// Whether an answer of the sizing call is right: a row within the ceiling with the least load among such rows, or 12 where no row
@@ -331,7 +330,7 @@ pub fn optimal_schedule(sheet: &Sheet, row: Row) -> Vec<u8> {
             let next = touches.iter().find(|&&touch| touch > step);
             let held = sheet.touched(step) == segment
                 || match (last, next) {
-                    (Some(last), Some(next)) => sheet.keeps(row, segment, (next - last - 1) as u128),
+                    (Some(last), Some(next)) => sheet.keeps(row, segment, (next - last - 1) as u64),
                     _ => false,
                 };
             set_held(&mut schedule[STEP * (step - 1)..STEP * step], segment, held);
@@ -367,5 +366,5 @@ pub fn price(sheet: &Sheet, row: Row, schedule: &[u8]) -> Result<Price, u64> {
         }
         before = held;
     }
-    Ok([memory, load, row.d * memory + row.h * load].map(narrow))
+    Ok([memory, load, row.d * memory + row.h * load])
 }

@@ -1,37 +1,65 @@
-//! How many cases reached each refusal number.
+//! How many calls were compared, and how often each refusal was reached.
 
+#[derive(Clone, Default)]
 pub struct Tally {
-    cases: [u64; 16],
+    calls: u64,
+    /// For each number: the calls refused with it, and the sheets that had such a call.
+    refused: [u64; 16],
+    sheets: [u64; 16],
     reached: [bool; 16],
 }
 
 impl Tally {
-    /// The numbers that every whole run must reach. 13 is the recorder's: add it when the header has its calls.
-    const REQUIRED: [usize; 14] = [1, 2, 3, 4, 5, 6, 7, 8, 9, 10, 11, 12, 14, 15];
+    /// The numbers that every whole run must reach.
+    const REQUIRED: [usize; 15] = [1, 2, 3, 4, 5, 6, 7, 8, 9, 10, 11, 12, 13, 14, 15];
 
-    pub fn new() -> Tally {
-        Tally { cases: [0; 16], reached: [false; 16] }
-    }
-
-    /// Notes that a call of this case was refused with a number.
+    /// Notes a compared call of this sheet and the number that it returned.
     pub fn note(&mut self, number: u64) {
-        self.reached[number as usize] = true;
+        self.calls += 1;
+        if (1..16).contains(&number) {
+            self.refused[number as usize] += 1;
+            self.reached[number as usize] = true;
+        }
     }
 
-    pub fn end_of_case(&mut self) {
-        for (count, reached) in self.cases.iter_mut().zip(&mut self.reached) {
+    /// The same for a call on a recorder. Its 4 is not the sheet's, which alone counts as a sheet's 4.
+    pub fn note_recorder(&mut self, number: u64) {
+        let reached = self.reached[4];
+        self.note(number);
+        self.reached[4] = reached;
+    }
+
+    pub fn end_of_sheet(&mut self) {
+        for (count, reached) in self.sheets.iter_mut().zip(&mut self.reached) {
             *count += u64::from(std::mem::take(reached));
         }
     }
 
-    /// One line with every number and its cases.
-    pub fn line(&self) -> String {
-        let parts: Vec<String> = (1..16).map(|number| format!("{number}: {}", self.cases[number])).collect();
-        parts.join(", ")
+    /// Adds what another thread counted.
+    pub fn add(&mut self, other: &Tally) {
+        self.calls += other.calls;
+        for number in 0..16 {
+            self.refused[number] += other.refused[number];
+            self.sheets[number] += other.sheets[number];
+        }
     }
 
-    /// The required numbers that no case reached.
+    pub fn calls(&self) -> u64 {
+        self.calls
+    }
+
+    /// A line for each number with its calls and its sheets.
+    pub fn lines(&self) -> String {
+        let lines: Vec<String> = (1..16)
+            .map(|number| {
+                format!("  {number:>2}: {:>10} calls, {:>9} sheets", self.refused[number], self.sheets[number])
+            })
+            .collect();
+        lines.join("\n")
+    }
+
+    /// The required numbers that no sheet reached.
     pub fn missing(&self) -> Vec<usize> {
-        Self::REQUIRED.into_iter().filter(|&number| self.cases[number] == 0).collect()
+        Self::REQUIRED.into_iter().filter(|&number| self.sheets[number] == 0).collect()
     }
 }

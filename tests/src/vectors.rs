@@ -1,24 +1,28 @@
 //! The examples of document 01 and every finite line of Tables II and III of document 002.
 
-use crate::compare::{ensure, Case, Outcome};
-use crate::ffi;
+use crate::calls;
+use crate::compare::{done, ensure, Case, Outcome};
 use crate::generate::Prng;
 use crate::reference::{self, Figures, Kind, Row, Sheet};
 use crate::tally::Tally;
+use crate::{Run, NOW};
 
 /// Runs them all and gives their number.
-pub fn run(tally: &mut Tally) -> Result<usize, (Vec<u8>, String)> {
-    let mut count = 0;
-    for (bytes, check) in examples() {
-        let case = Prng::of_case(0, count as u64);
-        Case { prng: case, bytes: &bytes, tally }
-            .run()
-            .and_then(|()| check(&bytes))
-            .map_err(|message| (bytes, message))?;
-        tally.end_of_case();
-        count += 1;
+pub fn run(tally: &mut Tally) -> Result<usize, String> {
+    let all = examples();
+    for (number, (bytes, check)) in all.iter().enumerate() {
+        NOW.set(Run::Example(number));
+        let prng = Prng::of_case(0, number as u64);
+        Case { prng, bytes, tally }.run()?;
+        check(bytes)?;
+        tally.end_of_sheet();
     }
-    Ok(count)
+    Ok(all.len())
+}
+
+/// The bytes of an example.
+pub fn sheet(number: usize) -> Vec<u8> {
+    examples().swap_remove(number).0
 }
 
 type Check = Box<dyn Fn(&[u8]) -> Outcome>;
@@ -55,24 +59,24 @@ fn listing_and_rows(bytes: &[u8]) -> Outcome {
         h=1\nd=1\nmisses=2\nvolume=4\nload=6\noptmem=18\nopttotal=24\noptocc=18\nwsmem=21\nwsocc=21\nmean=3500\n";
     let mut out = vec![0; listing.len()];
     let mut written = 0;
-    ffi::listing(bytes, &mut out, &mut written).map_err(|refusal| format!("listing: {refusal:?}"))?;
+    done("listing", calls::listing(bytes, &mut out, &mut written))?;
     ensure(out == listing.as_bytes(), || "the listing is not the one of document 01".to_string())?;
     ensure(figures(bytes, 0)? == [1, 2, 4, 8, 12, 13, 38, 13, 36, 36, 3_000], || "P1".to_string())?;
     ensure(figures(bytes, 1)? == [1, 1, 2, 4, 6, 18, 24, 18, 21, 21, 3_500], || "P2".to_string())?;
     let mut schedule = vec![0; 6 * 32];
-    ffi::optimal_schedule(bytes, 0, &mut schedule, &mut written).map_err(|refusal| format!("schedule: {refusal:?}"))?;
+    done("optimal_schedule", calls::optimal_schedule(bytes, 0, &mut schedule, &mut written))?;
     let firsts: Vec<u8> = schedule.iter().step_by(32).copied().collect();
     ensure(firsts == [1, 3, 1, 2, 2, 1], || "P3".to_string())
 }
 
 fn figures(bytes: &[u8], row: u64) -> Result<Figures, String> {
     let mut out = [0; 11];
-    ffi::figures(bytes, row, &mut out).map_err(|refusal| format!("figures: {refusal:?}"))?;
+    done("figures", calls::figures(bytes, row, &mut out))?;
     Ok(out)
 }
 
 /// Table II for kind time: h, then misses, volume, optocc, wsocc. Table III for kind space: h, then misses, volume, optmem, wsmem.
-fn table(kind: Kind) -> Vec<(u128, [u64; 4])> {
+fn table(kind: Kind) -> Vec<(u64, [u64; 4])> {
     match kind {
         Kind::Time => vec![
             (0, [13, 41, 43, 43]),
@@ -99,7 +103,7 @@ fn table(kind: Kind) -> Vec<(u128, [u64; 4])> {
 }
 
 /// The reference string of the two tables, at one threshold h/1.
-fn paper_sheet(kind: Kind, h: u128, one_untouched: bool) -> Vec<u8> {
+fn paper_sheet(kind: Kind, h: u64, one_untouched: bool) -> Vec<u8> {
     let mut sizes = vec![1, 2, 3, 4, 5];
     if one_untouched {
         sizes.push(4_095);
@@ -124,7 +128,7 @@ fn all_zero(bytes: &[u8]) -> Outcome {
 }
 
 fn verdict(bytes: &[u8], number: u64) -> Outcome {
-    let got = ffi::check(bytes).err().map_or(0, ffi::Refusal::number);
+    let got = calls::check(bytes);
     ensure(got == number, || format!("check gives {got}, wanted {number}"))
 }
 

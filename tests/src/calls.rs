@@ -1,0 +1,130 @@
+//! The calls of the header on slices and arrays, each giving the number that it returned. A wrong answer can be put in (`wrong.rs`).
+//!
+//! In each call the pointers come from slices, arrays and references, so they are valid, and the lent ones overlap nothing else.
+
+use crate::wrong::{self, Call};
+use segtrace::{c, Recorder};
+use std::slice::from_mut;
+
+pub fn check(sheet: &[u8]) -> u64 {
+    wrong::list::<u8>(Call::Check, &mut [], |_| unsafe { c::segtrace_check(sheet.as_ptr(), sheet.len()) })
+}
+
+pub fn rewrite(sheet: &[u8], out: &mut [u8], written: &mut u64) -> u64 {
+    wrong::lent(Call::Rewrite, out, written, |out, written| unsafe {
+        c::segtrace_rewrite(sheet.as_ptr(), sheet.len(), out.as_mut_ptr(), out.len(), written)
+    })
+}
+
+pub fn figures(sheet: &[u8], row: u64, figures: &mut [u64; 11]) -> u64 {
+    wrong::list(Call::Figures, figures, |figures| unsafe {
+        c::segtrace_figures(sheet.as_ptr(), sheet.len(), row, figures.as_mut_ptr())
+    })
+}
+
+pub fn all_figures(sheet: &[u8], out: &mut [u64], written: &mut u64) -> u64 {
+    wrong::lent(Call::AllFigures, out, written, |out, written| unsafe {
+        c::segtrace_all_figures(sheet.as_ptr(), sheet.len(), out.as_mut_ptr(), out.len(), written)
+    })
+}
+
+pub fn listing(sheet: &[u8], out: &mut [u8], written: &mut u64) -> u64 {
+    wrong::lent(Call::Listing, out, written, |out, written| unsafe {
+        c::segtrace_listing(sheet.as_ptr(), sheet.len(), out.as_mut_ptr(), out.len(), written)
+    })
+}
+
+pub fn optimal_schedule(sheet: &[u8], row: u64, out: &mut [u8], written: &mut u64) -> u64 {
+    wrong::lent(Call::OptimalSchedule, out, written, |out, written| unsafe {
+        c::segtrace_optimal_schedule(sheet.as_ptr(), sheet.len(), row, out.as_mut_ptr(), out.len(), written)
+    })
+}
+
+pub fn price(sheet: &[u8], row: u64, schedule: &[u8], price: &mut [u64; 3]) -> u64 {
+    let (bytes, length) = (schedule.as_ptr(), schedule.len());
+    wrong::list(Call::Price, price, |price| unsafe {
+        c::segtrace_price(sheet.as_ptr(), sheet.len(), row, bytes, length, price.as_mut_ptr())
+    })
+}
+
+pub fn margin(sheet: &[u8], row: u64, reference: u64, margin: &mut i64) -> u64 {
+    wrong::list(Call::Margin, from_mut(margin), |margin| unsafe {
+        c::segtrace_margin(sheet.as_ptr(), sheet.len(), row, reference, margin.as_mut_ptr())
+    })
+}
+
+pub fn size(sheet: &[u8], ceiling: u64, row: &mut u64) -> u64 {
+    wrong::list(Call::Size, from_mut(row), |row| unsafe {
+        c::segtrace_size(sheet.as_ptr(), sheet.len(), ceiling, row.as_mut_ptr())
+    })
+}
+
+pub fn start(sheet: &[u8], recorder: &mut Recorder) -> u64 {
+    wrong::start(recorder, |Recorder { head, counts, sizes, h, d, last, sums }| unsafe {
+        c::segtrace_recorder_start(
+            sheet.as_ptr(),
+            sheet.len(),
+            head.as_mut_ptr(),
+            counts.as_mut_ptr(),
+            sizes.as_mut_ptr(),
+            h.as_mut_ptr(),
+            d.as_mut_ptr(),
+            last.as_mut_ptr(),
+            sums.as_mut_ptr(),
+        )
+    })
+}
+
+pub fn touch(recorder: &mut Recorder, segment: u64) -> u64 {
+    wrong::touch(recorder, |Recorder { head, counts, sizes, h, d, last, sums }| unsafe {
+        c::segtrace_recorder_touch(
+            head.as_ptr(),
+            counts.as_mut_ptr(),
+            sizes.as_ptr(),
+            h.as_ptr(),
+            d.as_ptr(),
+            last.as_mut_ptr(),
+            sums.as_mut_ptr(),
+            segment,
+        )
+    })
+}
+
+pub fn touch_all(recorder: &mut Recorder, segments: &[u16], taken: &mut u64) -> u64 {
+    wrong::touch_all(
+        recorder,
+        segments,
+        taken,
+        |Recorder { head, counts, sizes, h, d, last, sums }, segments, taken| unsafe {
+            c::segtrace_recorder_touch_all(
+                head.as_ptr(),
+                counts.as_mut_ptr(),
+                sizes.as_ptr(),
+                h.as_ptr(),
+                d.as_ptr(),
+                last.as_mut_ptr(),
+                sums.as_mut_ptr(),
+                segments.as_ptr(),
+                segments.len(),
+                taken,
+            )
+        },
+    )
+}
+
+pub fn figures_now(recorder: &Recorder, row: u64, figures: &mut [u64; 11]) -> u64 {
+    let Recorder { head, counts, sizes, h, d, last, sums } = recorder;
+    wrong::list(Call::FiguresNow, figures, |figures| unsafe {
+        c::segtrace_recorder_figures(
+            head.as_ptr(),
+            counts.as_ptr(),
+            sizes.as_ptr(),
+            h.as_ptr(),
+            d.as_ptr(),
+            last.as_ptr(),
+            sums.as_ptr(),
+            row,
+            figures.as_mut_ptr(),
+        )
+    })
+}

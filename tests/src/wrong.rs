@@ -1,0 +1,249 @@
+//! Wrong answers, put in behind a call one at a time to show that the tests find them.
+
+use crate::place::Item;
+use segtrace::Recorder;
+use std::sync::atomic::{AtomicUsize, Ordering};
+
+#[derive(Clone, Copy, Debug, PartialEq, Eq)]
+pub enum Call {
+    Check,
+    Rewrite,
+    Figures,
+    AllFigures,
+    Listing,
+    OptimalSchedule,
+    Price,
+    Margin,
+    Size,
+    Start,
+    Touch,
+    TouchAll,
+    FiguresNow,
+}
+
+/// What is wrong with an answer.
+#[derive(Clone, Copy, Debug, PartialEq, Eq)]
+pub enum Way {
+    /// A refusal gets the next number.
+    OtherNumber,
+    /// A refusal of this number is none.
+    NotRefused(u64),
+    /// What is carried out is refused with this number instead, and left undone.
+    Refused(u64),
+    /// A result that fills its place is refused with 11.
+    ExactRefused,
+    /// Carried out, but everything lent stays as it was.
+    Idle,
+    /// The last item of the result is another.
+    LastItem,
+    /// The item after the result is changed.
+    ItemBeyond,
+    /// The first item of a place is changed by a refused call.
+    ItemRefused,
+    /// The length is one more.
+    Length,
+    /// The length is changed by a refused call.
+    LengthRefused,
+    /// Every row's figures are those of row 0.
+    RowZero,
+    /// A recorder starts with one reference.
+    OneReference,
+    /// Only the first reference is filed.
+    FirstFiled,
+    /// A refused call changes the last steps of a recorder.
+    LastRefused,
+    /// A refused call changes the sums of a recorder.
+    SumsRefused,
+    /// 13 comes before 4.
+    FullFirst,
+    /// The last reference in bulk is not taken.
+    LastNotTaken,
+    /// A refusal in bulk undoes what was taken.
+    Undone,
+}
+
+/// Wrong ways of every call with a lent place, and of every call with a list of fixed length.
+const PLACE_CALLS: [Call; 4] = [Call::Rewrite, Call::AllFigures, Call::Listing, Call::OptimalSchedule];
+const PLACE_WAYS: [Way; 9] = [
+    Way::OtherNumber,
+    Way::Refused(11),
+    Way::ExactRefused,
+    Way::Idle,
+    Way::LastItem,
+    Way::ItemBeyond,
+    Way::ItemRefused,
+    Way::Length,
+    Way::LengthRefused,
+];
+const LIST_CALLS: [Call; 5] = [Call::Figures, Call::Price, Call::Margin, Call::Size, Call::FiguresNow];
+const LIST_WAYS: [Way; 5] = [Way::OtherNumber, Way::Refused(7), Way::Idle, Way::LastItem, Way::ItemRefused];
+
+/// Wrong ways of single calls.
+const OTHERS: [(Call, Way); 29] = [
+    (Call::Check, Way::OtherNumber),
+    (Call::Check, Way::NotRefused(5)),
+    (Call::Check, Way::Refused(6)),
+    (Call::AllFigures, Way::RowZero),
+    (Call::Price, Way::NotRefused(9)),
+    (Call::Price, Way::NotRefused(10)),
+    (Call::Margin, Way::NotRefused(15)),
+    (Call::Size, Way::Refused(12)),
+    (Call::Size, Way::RowZero),
+    (Call::Start, Way::OtherNumber),
+    (Call::Start, Way::Idle),
+    (Call::Start, Way::OneReference),
+    (Call::Start, Way::LastRefused),
+    (Call::Touch, Way::OtherNumber),
+    (Call::Touch, Way::NotRefused(13)),
+    (Call::Touch, Way::FullFirst),
+    (Call::Touch, Way::Idle),
+    (Call::Touch, Way::FirstFiled),
+    (Call::Touch, Way::LastRefused),
+    (Call::Touch, Way::SumsRefused),
+    (Call::TouchAll, Way::OtherNumber),
+    (Call::TouchAll, Way::NotRefused(13)),
+    (Call::TouchAll, Way::FullFirst),
+    (Call::TouchAll, Way::Idle),
+    (Call::TouchAll, Way::LastNotTaken),
+    (Call::TouchAll, Way::Undone),
+    (Call::TouchAll, Way::Length),
+    (Call::TouchAll, Way::LengthRefused),
+    (Call::TouchAll, Way::SumsRefused),
+];
+
+/// Every wrong answer that is put in.
+pub fn all() -> Vec<(Call, Way)> {
+    let of_places = PLACE_CALLS.into_iter().flat_map(|call| PLACE_WAYS.map(|way| (call, way)));
+    let of_lists = LIST_CALLS.into_iter().flat_map(|call| LIST_WAYS.map(|way| (call, way)));
+    of_places.chain(of_lists).chain(OTHERS).collect()
+}
+
+/// The place in the list of the wrong answer that is put in.
+static PUT_IN: AtomicUsize = AtomicUsize::new(usize::MAX);
+
+/// Puts a wrong answer in, by its place in the list; none where there is no such place.
+pub fn put_in(place: usize) {
+    PUT_IN.store(place, Ordering::Relaxed);
+}
+
+/// The wrong way put in behind a call.
+fn way(call: Call) -> Option<Way> {
+    let place = PUT_IN.load(Ordering::Relaxed);
+    if place == usize::MAX {
+        return None;
+    }
+    all().get(place).filter(|(at, _)| *at == call).map(|(_, way)| *way)
+}
+
+/// The number as a wrong answer makes it.
+fn number(way: Way, number: u64) -> u64 {
+    match way {
+        Way::OtherNumber if number > 0 => number % 15 + 1,
+        Way::NotRefused(other) if number == other => 0,
+        Way::Refused(other) if number == 0 => other,
+        _ => number,
+    }
+}
+
+/// A call with a lent place and a length.
+pub fn lent<T: Item>(
+    call: Call,
+    out: &mut [T],
+    written: &mut u64,
+    real: impl FnOnce(&mut [T], &mut u64) -> u64,
+) -> u64 {
+    let Some(way) = way(call) else { return real(out, written) };
+    let (old, old_written) = (out.to_vec(), *written);
+    let returned = real(out, written);
+    if returned > 0 {
+        match way {
+            Way::ItemRefused if !out.is_empty() => out[0] = out[0].other(),
+            Way::LengthRefused => *written = written.wrapping_add(1),
+            _ => {}
+        }
+        return number(way, returned);
+    }
+    let length = *written as usize;
+    match way {
+        Way::ExactRefused if length == out.len() => {
+            out.copy_from_slice(&old);
+            *written = old_written;
+            return 11;
+        }
+        Way::Refused(_) => {
+            out.copy_from_slice(&old);
+            *written = old_written;
+        }
+        Way::Idle => out.copy_from_slice(&old),
+        Way::LastItem if length > 0 => out[length - 1] = out[length - 1].other(),
+        Way::ItemBeyond if length < out.len() => out[length] = out[length].other(),
+        Way::Length => *written += 1,
+        Way::RowZero => (11..length).for_each(|place| out[place] = out[place % 11]),
+        _ => {}
+    }
+    number(way, returned)
+}
+
+/// A call with a list of fixed length.
+pub fn list<T: Item>(call: Call, out: &mut [T], real: impl FnOnce(&mut [T]) -> u64) -> u64 {
+    let way = way(call);
+    let mut length = out.len() as u64;
+    let returned = lent(call, out, &mut length, |out, _| real(out));
+    if returned == 0 && call == Call::Size && way == Some(Way::RowZero) {
+        out[0] = T::ZERO;
+    }
+    returned
+}
+
+pub fn start(recorder: &mut Recorder, real: impl FnOnce(&mut Recorder) -> u64) -> u64 {
+    let Some(way) = way(Call::Start) else { return real(recorder) };
+    let old = recorder.clone();
+    let returned = real(recorder);
+    match (way, returned) {
+        (Way::Idle, 0) => *recorder = old,
+        (Way::OneReference, 0) => recorder.counts[0] = 1,
+        (Way::LastRefused, 1..) => recorder.last[0] ^= 1,
+        _ => {}
+    }
+    number(way, returned)
+}
+
+pub fn touch(recorder: &mut Recorder, real: impl FnOnce(&mut Recorder) -> u64) -> u64 {
+    let Some(way) = way(Call::Touch) else { return real(recorder) };
+    let old = recorder.clone();
+    let returned = real(recorder);
+    match (way, returned) {
+        (Way::Idle, 0) => *recorder = old,
+        (Way::FirstFiled, 0) if old.counts[0] > 0 => recorder.sums = old.sums,
+        (Way::LastRefused, 1..) => recorder.last[255] ^= 1,
+        (Way::SumsRefused, 1..) => recorder.sums[389] ^= 1,
+        (Way::FullFirst, 4) if old.counts[0] >= 2_048 => return 13,
+        _ => {}
+    }
+    number(way, returned)
+}
+
+pub fn touch_all(
+    recorder: &mut Recorder,
+    segments: &[u16],
+    taken: &mut u64,
+    real: impl FnOnce(&mut Recorder, &[u16], &mut u64) -> u64,
+) -> u64 {
+    let Some(way) = way(Call::TouchAll) else { return real(recorder, segments, taken) };
+    let (old, old_taken) = (recorder.clone(), *taken);
+    if way == Way::LastNotTaken && segments.len() > 1 {
+        let returned = real(recorder, &segments[..segments.len() - 1], taken);
+        *taken += u64::from(returned == 0);
+        return returned;
+    }
+    let returned = real(recorder, segments, taken);
+    match (way, returned) {
+        (Way::Idle, 0) | (Way::Undone, 1..) => *recorder = old,
+        (Way::FullFirst, 4) if recorder.counts[0] >= 2_048 => return 13,
+        (Way::Length, 1..) => *taken += 1,
+        (Way::LengthRefused, 1..) => *taken = old_taken,
+        (Way::SumsRefused, 1..) => recorder.sums[0] ^= 1,
+        _ => {}
+    }
+    number(way, returned)
+}
