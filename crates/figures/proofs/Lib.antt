@@ -4,10 +4,13 @@ pub mod Filed
 pub mod Filling
 pub mod FirstRow
 pub mod Growing
+pub mod Halving
 pub mod Limits
+pub mod Looks
 pub mod Marks
 pub mod Passing
 pub mod PriceRows
+pub mod Quotients
 pub mod Sweeps
 pub mod SweptRows
 pub mod SweptSheets

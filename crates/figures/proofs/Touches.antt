@@ -4,6 +4,7 @@ use Prim.Native.Nat.{ℕ, _-_, _^_, _≤_, _<_}
 use mathlib.Core.Path.{_≡_, refl}
 use mathlib.Core.Bool.{Bool, true, false}
 use mathlib.Core.List.{List}
+use mathlib.Core.Option.{Option}
 use native.Mathlib.Omega.{arith}
 use lib.Dec.{ltb}
 use borrow.Author.Tests.{le-leb, lt-leb}
@@ -14,7 +15,7 @@ use Rattle.model.specs.declared.Kind.the-variants.{Time, Space}
 use Rattle.model.specs.declared.PriceRow.{PriceRow}
 use Rattle.model.proofs.Bounds.{product-within}
 use Rattle.figures.specs.Buckets.{lastBucket, firstRow, bucketOf, filed, bucketAfter, ended, endBucket}
-use Rattle.figures.specs.Pass.{touchOf, gathered, bucketOver, timeOf}
+use Rattle.figures.specs.Pass.{touchOf, unplaced, gathered, bucketOver, timeOf, IsBucket, Ascending, Limited, rowsOf}
 use Rattle.figures.specs.declared.pass.Touch.{Touch}
 
 -- a step costs less than 2 ^ 16 memory units
@@ -31,18 +32,31 @@ retention-within kind z k lz lk =
 pub swap-within : (a z : ℕ) → a < 2 ^ 8 → z < 2 ^ 16 → swapCost a z < 2 ^ 32
 swap-within a z la lz = omega (arith, product-within a z (2 ^ 8) (2 ^ 16) (omega arith) (omega arith))
 
-module _ (kind : Kind) (a : ℕ) (rows : List PriceRow) (z n mark w : ℕ) (swap : w ≡ swapCost a z) where
+module _ (kind : Kind) (a z n mark w : ℕ) (swap : w ≡ swapCost a z) where
   -- a segment with a mark up to step n was touched
-  pub reuse-is : mark ≤ n → (R : ℕ) → R ≡ retention kind z (n - mark) → (k : ℕ) → k ≡ firstRow rows 0 R w
-      → record { reuse = true; size = z; retention = R; swap = w; bucket = k } ≡ touchOf kind a rows z (timeOf n mark)
-  unfolding touchOf
-  reuse-is le R retained k row = rw (le-leb mark n le, row, retained, swap) refl
+  pub reuse-is : mark ≤ n → (R : ℕ) → R ≡ retention kind z (n - mark)
+      → record { reuse = true; size = z; retention = R; swap = w; bucket = lastBucket } ≡ unplaced kind a z (timeOf n mark)
+  unfolding unplaced
+  reuse-is le R retained = rw (le-leb mark n le, retained, swap) refl
 
   -- with a later one it was not
   pub first-is : n < mark
-      → record { reuse = false; size = z; retention = 0; swap = w; bucket = lastBucket } ≡ touchOf kind a rows z (timeOf n mark)
-  unfolding touchOf
+      → record { reuse = false; size = z; retention = 0; swap = w; bucket = lastBucket } ≡ unplaced kind a z (timeOf n mark)
+  unfolding unplaced
   first-is lt = rw (lt-leb mark n lt, swap) refl
+
+-- a touch with its bucket
+abbrev pub placed : Touch → ℕ → Touch
+placed x k = record { reuse = x .reuse; size = x .size; retention = x .retention; swap = x .swap; bucket = k }
+
+pub placed-limited : (x : Touch) (k : ℕ) → Limited x → k ≤ lastBucket → Limited (placed x k)
+placed-limited x k l le =
+    record { is-bucket = le; size-within = l .size-within; retention-within = l .retention-within; swap-within = l .swap-within }
+
+pub placed-is : (kind : Kind) (a : ℕ) (hs ds : List ℕ) (z : ℕ) (o : Option ℕ) (x : Touch) (k : ℕ) → x ≡ unplaced kind a z o
+    → IsBucket hs ds (x .reuse) (x .retention) (x .swap) k → Ascending (rowsOf hs ds) → placed x k ≡ touchOf kind a (rowsOf hs ds) z o
+unfolding touchOf unplaced
+placed-is kind a hs ds z o x k is bucket up = rw (bucket up, is) refl
 
 -- the touch of segment i after t steps
 abbrev pub touchAt : List PriceRow → Trace → ℕ → ℕ → Touch

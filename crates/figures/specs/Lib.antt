@@ -1,4 +1,5 @@
 pub mod Buckets
 pub mod Pass
+pub mod Quotients
 pub mod Rows
 pub mod Sweep

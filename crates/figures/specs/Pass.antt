@@ -56,6 +56,21 @@ sheetApart kind a sizes hs ds refs = partsOf kind a sizes (rowsOf hs ds) refs
 abbrev pub IsFirstRow : List ℕ → List ℕ → ℕ → ℕ → ℕ → Type 0
 IsFirstRow hs ds R w r = Ascending (rowsOf hs ds) → r ≡ firstRow (rowsOf hs ds) 0 R w
 
+-- k is the bucket of a touch: that of the first row that keeps a reuse, where the thresholds ascend, and else the last
+abbrev pub IsBucket : List ℕ → List ℕ → Bool → ℕ → ℕ → ℕ → Type 0
+IsBucket hs ds reuse R w k = Ascending (rowsOf hs ds) → k ≡ cond reuse (firstRow (rowsOf hs ds) 0 R w) lastBucket
+
+-- a touch of a segment of size z with unreferenced time o, or its end interval, before its bucket is looked for: with the last
+unfoldable pub unplaced : Kind → ℕ → ℕ → Option ℕ → Touch
+unplaced kind a z o =
+    record {
+      reuse = isReuse o;
+      size = z;
+      retention = ofTime (retention kind z) o;
+      swap = swapCost a z;
+      bucket = lastBucket;
+    }
+
 -- a touch of a segment of size z with unreferenced time o, or its end interval
 unfoldable pub touchOf : Kind → ℕ → List PriceRow → ℕ → Option ℕ → Touch
 touchOf kind a rows z o =

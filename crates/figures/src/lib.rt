@@ -2,6 +2,7 @@
 // Every item is the definition's of crate `model`; nothing is assumed.
 pub mod pass;
 pub mod rows;
+pub mod search;
 
 use model::Kind;
 use model::PriceRow;

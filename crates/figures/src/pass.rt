@@ -2,6 +2,7 @@
 // What each function gives is written in specs/; nothing is assumed.
 use crate::Bucket;
 use crate::Tally;
+use crate::search;
 use model::Kind;
 use model::PriceRow;
 ghost use mathlib.Core.Path.{_≡_};
@@ -12,14 +13,12 @@ ghost use Rattle.model.specs.Costs.{unitCost, keeps};
 ghost use Rattle.model.specs.Sheets.{Valid, traceOf, mostSegs};
 ghost use Rattle.figures.specs.Buckets.{tallyOf, lastBucket};
 ghost use Rattle.figures.specs.Rows.{partsOf};
-ghost use Rattle.figures.specs.Pass.{rowsOf, pricesOf, sheetApart, Ascending, Paired, IsFirstRow, IsTouch, Limited};
+ghost use Rattle.figures.specs.Pass.{rowsOf, pricesOf, sheetApart, Ascending, Paired, unplaced, timeOf, Limited};
+ghost use Rattle.figures.specs.Quotients.{QuotedIfLong};
 ghost use Rattle.figures.specs.Pass.{withTouch, withEnd, Within, allUntouched, allEmpty, sheetPassed, sheetTally, endsOf};
 
 // The mark of a segment that was not touched yet. It is past every step.
 pub const UNTOUCHED: u16 = 65535;
-
-// The largest number whose top bit is clear.
-const BELOW_TOP: u64 = 9_223_372_036_854_775_807;
 
 // The prices of rows, apart: of one load unit and of one memory unit.
 pub struct Prices {
@@ -91,54 +90,20 @@ pub fn unit_cost(kind: Kind, z: u16) -> u64
     }
 }
 
-// Where the rows that keep a reuse may begin: at `lo` still where the row h/d keeps it, and else `half` rows later. The test is the top
-// bit of a sum: a branch on it would often be mispredicted.
-fn narrowed(h: u16, d: u16, retention: u64, swap: u64, lo: usize, half: usize) -> usize
-    requires { ⌜ (retention < 2 ^ 40) × (swap < 2 ^ 40) ⌝ }
-    requires { ⌜ lo + half ≤ lastBucket ⌝ }
-    ensures { λ r. ⌜ r ≡ cond (keeps (d * retention) (h * swap)) lo (lo + half) ⌝ }
-{
-    let memory = (d as u64) * retention;
-    let load = (h as u64) * swap;
-    let dropped = (memory + BELOW_TOP - load) >> 63;
-    lo + half * (dropped as usize)
-}
-
-// The first row that keeps a reuse, found by halving the rows; the last bucket where none does.
-pub fn first_row(hs: &[u16], ds: &[u16], retention: u64, swap: u64) -> usize
-    requires { ⌜ Paired (now hs) (now ds) ⌝ }
-    requires { ⌜ (retention < 2 ^ 40) × (swap < 2 ^ 40) ⌝ }
-    ensures within { λ r. ⌜ r ≤ lastBucket ⌝ }
-    ensures exact { λ r. ⌜ IsFirstRow (now (hs .entry)) (now (ds .entry)) retention swap r ⌝ }
-{
-    let mut lo = 0;
-    let mut n = hs.len();
-    while 0 < n {
-        let rest = n / 2;
-        let half = n - rest;
-        let m = lo + half - 1;
-        lo = narrowed(hs[m], ds[m], retention, swap, lo, half);
-        n = rest;
-    }
-    if lo < hs.len() { lo } else { 64 }
-}
-
-// A touch, after so many steps, of a segment of size z with that mark; or its end interval.
-pub fn touch_of(kind: Kind, a: u8, hs: &[u16], ds: &[u16], z: u16, mark: u16, steps: u16) -> Touch
-    requires { ⌜ Paired (now hs) (now ds) ⌝ }
-    ensures within { λ r. ⌜ Limited r ⌝ }
-    ensures exact { λ r. ⌜ IsTouch kind a (now (hs .entry)) (now (ds .entry)) z mark steps r ⌝ }
+// A touch, after so many steps, of a segment of size z with that mark; or its end interval. Its bucket is still to be looked for.
+pub fn touch_of(kind: Kind, a: u8, z: u16, mark: u16, steps: u16) -> Touch
+    ensures within { λ r. ⌜ Limited r × (1 ≤ r .swap) ⌝ }
+    ensures exact { λ r. ⌜ r ≡ unplaced kind a z (timeOf steps mark) ⌝ }
 {
     let w = model::swap_cost(a, z).0;
     if mark <= steps {
         let r = model::retention_cost(kind, z, steps - mark).0;
-        let k = first_row(hs, ds, r, w);
         Touch {
             reuse: true,
             size: z,
             retention: r,
             swap: w,
-            bucket: k,
+            bucket: 64,
         }
     } else {
         Touch {
@@ -178,8 +143,17 @@ pub fn add_end(b: Bucket, x: Touch) -> Bucket
 }
 
 // The pass over the references.
-pub fn references(kind: Kind, a: u8, hs: &[u16], ds: &[u16], sizes: &[u16], refs: &[u16]) -> Passed
+pub fn references(
+    kind: Kind,
+    a: u8,
+    hs: &[u16],
+    ds: &[u16],
+    qs: &[u64],
+    sizes: &[u16],
+    refs: &[u16],
+) -> Passed
     requires { ⌜ Paired (now hs) (now ds) ⌝ }
+    requires { ⌜ QuotedIfLong (now hs) (now ds) (now qs) ⌝ }
     requires { ⌜ Valid (sheetApart kind a (now sizes) (now hs) (now ds) (now refs)) ⌝ }
     ensures { λ r. ⌜ r ≡ sheetPassed (sheetApart kind a (now (sizes .entry)) (now (hs .entry)) (now (ds .entry)) (now (refs .entry))) ⌝ }
 {
@@ -191,8 +165,9 @@ pub fn references(kind: Kind, a: u8, hs: &[u16], ds: &[u16], sizes: &[u16], refs
     while t < refs.len() {
         let i = refs[t] as usize;
         let z = sizes[i];
-        let x = touch_of(kind, a, hs, ds, z, last[i], t as u16);
-        let k = x.bucket;
+        let mut x = touch_of(kind, a, z, last[i], t as u16);
+        let k = search::bucket_of(hs, ds, qs, x.reuse, x.retention, x.swap);
+        x.bucket = k;
         let mut b = buckets[k];
         b = add_touch(b, x);
         buckets[k] = b;
@@ -215,11 +190,13 @@ pub fn ends(
     a: u8,
     hs: &[u16],
     ds: &[u16],
+    qs: &[u64],
     sizes: &[u16],
     last: &[u16],
     steps: u16,
 ) -> [Bucket; 65]
     requires { ⌜ Paired (now hs) (now ds) ⌝ }
+    requires { ⌜ QuotedIfLong (now hs) (now ds) (now qs) ⌝ }
     requires { ⌜ Ascending (rowsOf (now hs) (now ds)) ⌝ }
     requires { ⌜ (length (now sizes) ≤ length (now last)) × (length (now sizes) ≤ mostSegs) ⌝ }
     ensures { λ r. ⌜ r ≡ endsOf kind a (rowsOf (now (hs .entry)) (now (ds .entry))) (now (sizes .entry)) (now (last .entry)) steps ⌝ }
@@ -227,8 +204,9 @@ pub fn ends(
     let mut buckets = empty_buckets();
     let mut i = 0;
     while i < sizes.len() {
-        let x = touch_of(kind, a, hs, ds, sizes[i], last[i], steps);
-        let k = x.bucket;
+        let mut x = touch_of(kind, a, sizes[i], last[i], steps);
+        let k = search::bucket_of(hs, ds, qs, x.reuse, x.retention, x.swap);
+        x.bucket = k;
         let mut b = buckets[k];
         b = add_end(b, x);
         buckets[k] = b;
@@ -238,15 +216,24 @@ pub fn ends(
 }
 
 // The tally of a run whose prices stand apart.
-fn tally_apart(kind: Kind, a: u8, hs: &[u16], ds: &[u16], sizes: &[u16], refs: &[u16]) -> Tally
+fn tally_apart(
+    kind: Kind,
+    a: u8,
+    hs: &[u16],
+    ds: &[u16],
+    qs: &[u64],
+    sizes: &[u16],
+    refs: &[u16],
+) -> Tally
     requires { ⌜ Paired (now hs) (now ds) ⌝ }
+    requires { ⌜ QuotedIfLong (now hs) (now ds) (now qs) ⌝ }
     requires { ⌜ Valid (sheetApart kind a (now sizes) (now hs) (now ds) (now refs)) ⌝ }
     ensures { λ r. ⌜ r ≡ sheetTally (sheetApart kind a (now (sizes .entry)) (now (hs .entry)) (now (ds .entry)) (now (refs .entry))) ⌝ }
 {
-    let p = references(kind, a, hs, ds, sizes, refs);
+    let p = references(kind, a, hs, ds, qs, sizes, refs);
     let buckets = p.buckets;
     let last = p.last;
-    let ended = ends(kind, a, hs, ds, sizes, &last, refs.len() as u16);
+    let ended = ends(kind, a, hs, ds, qs, sizes, &last, refs.len() as u16);
     Tally {
         buckets: buckets,
         ends: ended,
@@ -270,5 +257,8 @@ pub fn tally(
     let apart = split(prices);
     let h = apart.h;
     let d = apart.d;
-    tally_apart(kind, a, &h[..rows], &d[..rows], sizes, refs)
+    let hs = &h[..rows];
+    let ds = &d[..rows];
+    let quotients = search::quotients(hs, ds);
+    tally_apart(kind, a, hs, ds, &quotients, sizes, refs)
 }

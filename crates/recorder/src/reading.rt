@@ -123,11 +123,13 @@ fn ends_now(recorder: Recorder) -> [Bucket; 65]
     if !guards::ascends(&h[..rows], &d[..rows]) {
         return figures::pass::empty_buckets();
     }
+    let none = [0u64; 1];
     figures::pass::ends(
         kind,
         recorder.a,
         &h[..rows],
         &d[..rows],
+        &none[..0],
         &sizes[..segs],
         &last,
         steps as u16,

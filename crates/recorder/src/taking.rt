@@ -22,18 +22,19 @@ pub fn take_one(mut recorder: Recorder, segment: usize) -> Recorder
     let h = apart.h;
     let d = apart.d;
     let kind = recorder.kind;
+    let none = [0u64; 1];
     let z = recorder.sizes[segment];
     let t = recorder.refs;
-    let x = figures::pass::touch_of(
-        kind,
-        recorder.a,
+    let mut x = figures::pass::touch_of(kind, recorder.a, z, recorder.last[segment], t as u16);
+    let k = figures::search::bucket(
         &h[..rows],
         &d[..rows],
-        z,
-        recorder.last[segment],
-        t as u16,
+        &none[..0],
+        x.reuse,
+        x.retention,
+        x.swap,
     );
-    let k = x.bucket;
+    x.bucket = k;
     let b = recorder.buckets[k];
     recorder.buckets[k] = guards::file(b, x);
     recorder.last[segment] = (t + 1) as u16;
@@ -71,6 +72,10 @@ pub fn take_first(recorder: Recorder, refs: &[u16], n: usize) -> Recorder
     let apart = figures::pass::split(prices);
     let h = apart.h;
     let d = apart.d;
+    let hs = &h[..rows];
+    let ds = &d[..rows];
+    let quotients = figures::search::quotients(hs, ds);
+    let qs = &quotients[..64];
     let kind = recorder.kind;
     let a = recorder.a;
     let sizes = recorder.sizes;
@@ -83,8 +88,9 @@ pub fn take_first(recorder: Recorder, refs: &[u16], n: usize) -> Recorder
     while t < n {
         let i = refs[t] as usize;
         let z = sizes[i];
-        let x = figures::pass::touch_of(kind, a, &h[..rows], &d[..rows], z, last[i], count as u16);
-        let k = x.bucket;
+        let mut x = figures::pass::touch_of(kind, a, z, last[i], count as u16);
+        let k = figures::search::bucket_of(hs, ds, qs, x.reuse, x.retention, x.swap);
+        x.bucket = k;
         let mut b = buckets[k];
         b = guards::file(b, x);
         buckets[k] = b;

@@ -5,19 +5,20 @@ use Prim.Native.Nat.{_-_, _<_}
 use native.Mathlib.Omega.{arith}
 use lib.ListN.{length, getD}
 use Rattle.model.specs.Sheets.{traceOf}
-use Rattle.figures.specs.Pass.{rowsOf, sheetApart}
+use Rattle.figures.specs.Pass.{rowsOf, sheetApart, Limited}
 use Rattle.figures.proofs.Filling.{filling-room}
 use Rattle.figures.proofs.Passing.{valid-run, valid-ascending, Passing, passing-start, passing-step, passing-end}
 use Rattle.figures.proofs.Passing.{cost-room, volume-room}
+use Rattle.figures.proofs.Touches.{placed, placed-limited, placed-is}
 use Rattle.figures.proofs.pass.references.Statement.{statement}
 use Rattle.figures.proofs.pass.references.Tie as tie
 
 abbrev Inv-loop : tie.InvT-loop
-Inv-loop kind a hs ds sizes refs buckets₀ last₀ cost₀ volume₀ t₀ buckets last cost volume t =
+Inv-loop kind a hs ds qs sizes refs buckets₀ last₀ cost₀ volume₀ t₀ buckets last cost volume t =
     Passing (rowsOf hs ds) (traceOf (sheetApart kind a sizes hs ds refs)) t buckets last cost volume
 
 abbrev μ-loop : tie.MeasureT-loop
-μ-loop kind a hs ds sizes refs buckets₀ last₀ cost₀ volume₀ t₀ buckets last cost volume t = length refs - t
+μ-loop kind a hs ds qs sizes refs buckets₀ last₀ cost₀ volume₀ t₀ buckets last cost volume t = length refs - t
 
 empty-buckets-requires : tie.Need-empty-buckets-requires Inv-loop μ-loop
 empty-buckets-requires c κs = search needs
@@ -27,15 +28,15 @@ untouched-requires c κs = search needs
 
 -- the touched segment is among those of the table
 in-table : (c : tie.In-loop Inv-loop μ-loop)
-    → getD (c .before .before .before .before .before .before .before .before .args .refs .now) (c .before .loop .t) 0 < 256
+    → getD (c .before .before .before .before .before .before .before .before .before .args .refs .now) (c .before .loop .t) 0 < 256
 in-table c =
-    let v = c .before .before .before .before .before .before .before .before .pre .1 in
+    let v = c .before .before .before .before .before .before .before .before .before .pre .1 .1 in
     omega (arith, v .ref-within (c .before .loop .t) (c .loop-test .taken), v .segs-within)
 
 loop-holds : tie.Need-loop-holds Inv-loop μ-loop
 loop-holds c =
-    let s = c .before .before .before .before .before .before in
-    rw (c .before .empty-buckets .ensures, c .untouched .ensures) (passing-start _ _ (valid-run _ (s .pre .1)))
+    let s = c .before .before .before .before .before .before .before in
+    rw (c .before .empty-buckets .ensures, c .untouched .ensures) (passing-start _ _ (valid-run _ (s .pre .1 .1)))
 
 mul-i : tie.Need-mul-i Inv-loop μ-loop
 mul-i c = omega arith
@@ -52,7 +53,7 @@ mul-z c = omega (arith, in-table (c .before))
 shared-slice-read-z : tie.Need-shared-slice-read-z Inv-loop μ-loop
 shared-slice-read-z c =
     let d = c .before .before in
-    d .before .before .before .before .before .before .before .before .pre .1 .ref-within _ (d .loop-test .taken)
+    d .before .before .before .before .before .before .before .before .before .pre .1 .1 .ref-within _ (d .loop-test .taken)
 
 mul-touch-of : tie.Need-mul-touch-of Inv-loop μ-loop
 mul-touch-of c = omega (arith, in-table (c .before .before))
@@ -64,7 +65,13 @@ cast-touch-of : tie.Need-cast-touch-of Inv-loop μ-loop
 cast-touch-of c = omega arith
 
 touch-of-requires : tie.Need-touch-of-requires Inv-loop μ-loop
-touch-of-requires c κs = c .before .before .before .before .before .before .before .before .before .before .pre .0
+touch-of-requires c κs = search needs
+
+bucket-of-requires : tie.Need-bucket-of-requires Inv-loop μ-loop
+bucket-of-requires c κs =
+    let s = c .before .before .before .before .before .before .before .before .before .before .before .before in
+    let l = c .touch-of .ensures .0 in
+    (s .pre .0, (s .pre .1 .0, (omega (arith, l .0 .retention-within), l .1, omega (arith, l .0 .swap-within))))
 
 mul-b : tie.Need-mul-b Inv-loop μ-loop
 mul-b c = omega arith
@@ -72,11 +79,15 @@ mul-b c = omega arith
 array-copy-out-b : tie.Need-array-copy-out-b Inv-loop μ-loop
 array-copy-out-b c = omega arith
 
+-- the touch with its bucket
+touch-limited : (c : tie.After-bucket-of Inv-loop μ-loop) → Limited (placed (c .before .touch-of .result) (c .bucket-of .result))
+touch-limited c = placed-limited _ _ (c .before .touch-of .ensures .0 .0) (c .bucket-of .ensures .0)
+
 add-touch-requires : tie.Need-add-touch-requires Inv-loop μ-loop
 add-touch-requires c κs =
     let d = c .before in
-    let l = d .before .before .before .before in
-    (filling-room _ _ _ _ (l .loop .inv .filling) _ (d .touch-of .ensures .0 .is-bucket) _, d .touch-of .ensures .0)
+    let l = d .before .before .before .before .before in
+    (filling-room _ _ _ _ (l .loop .inv .filling) _ (d .bucket-of .ensures .0) _, touch-limited d)
 
 mul-buckets : tie.Need-mul-buckets Inv-loop μ-loop
 mul-buckets c = omega arith
@@ -91,24 +102,24 @@ cast-last : tie.Need-cast-last Inv-loop μ-loop
 cast-last c = omega arith
 
 mul-last : tie.Need-mul-last Inv-loop μ-loop
-mul-last c = omega (arith, in-table (c .before .before .before .before .before))
+mul-last c = omega (arith, in-table (c .before .before .before .before .before .before))
 
 array-write-last : tie.Need-array-write-last Inv-loop μ-loop
-array-write-last c = in-table (c .before .before .before .before .before)
+array-write-last c = in-table (c .before .before .before .before .before .before)
 
 unit-cost-requires : tie.Need-unit-cost-requires Inv-loop μ-loop
 unit-cost-requires c κs = search needs
 
 add-cost : tie.Need-add-cost Inv-loop μ-loop
 add-cost c =
-    let e = c .before .before .before .before .before .before in
-    let v = e .before .before .before .before .before .before .before .before .pre .1 in
+    let e = c .before .before .before .before .before .before .before in
+    let v = e .before .before .before .before .before .before .before .before .before .pre .1 .1 in
     record { fits = cost-room _ _ (valid-run _ v) _ _ _ _ _ (e .before .loop .inv) (e .loop-test .taken) _ (c .unit-cost .ensures) }
 
 add-volume : tie.Need-add-volume Inv-loop μ-loop
 add-volume c =
-    let e = c .before .before .before .before .before .before in
-    let v = e .before .before .before .before .before .before .before .before .pre .1 in
+    let e = c .before .before .before .before .before .before .before in
+    let v = e .before .before .before .before .before .before .before .before .before .pre .1 .1 in
     record { fits = volume-room _ _ (valid-run _ v) _ _ _ _ _ (e .before .loop .inv) (e .loop-test .taken) }
 
 cast-volume : tie.Need-cast-volume Inv-loop μ-loop
@@ -120,15 +131,15 @@ loop-less c = omega arith
 loop-again : tie.Need-loop-again Inv-loop μ-loop
 loop-again c =
     let d = c .before .before .before in
-    let e = d .before .before .before in
-    let s = e .before .before .before .before .before .before .before .before in
-    passing-step _ _ (valid-run _ (s .pre .1)) _ _ _ _ _ (e .before .loop .inv) (e .loop-test .taken) _ (d .touch-of .ensures .0)
-    (d .touch-of .ensures .1 (valid-ascending _ (s .pre .1))) _ _ (c .before .add-touch .ensures) _ (c .unit-cost .ensures)
+    let e = d .before .before .before .before in
+    let s = e .before .before .before .before .before .before .before .before .before in
+    passing-step _ _ (valid-run _ (s .pre .1 .1)) _ _ _ _ _ (e .before .loop .inv) (e .loop-test .taken) _ (touch-limited d)
+    (placed-is _ _ _ _ _ _ _ _ (d .before .touch-of .ensures .1) (d .bucket-of .ensures .1) (valid-ascending _ (s .pre .1 .1))) _ _ (c .before .add-touch .ensures) _ (c .unit-cost .ensures)
 
 returns : tie.Need-returns Inv-loop μ-loop
 returns c =
-    let s = c .before .before .before .before .before .before .before .before in
-    passing-end _ _ (valid-run _ (s .pre .1)) _ _ _ _ _ (c .before .loop .inv) (c .loop-test .left)
+    let s = c .before .before .before .before .before .before .before .before .before in
+    passing-end _ _ (valid-run _ (s .pre .1 .1)) _ _ _ _ _ (c .before .loop .inv) (c .loop-test .left)
 
 pub references-spec : {M : Type 1} → statement M
 references-spec =
@@ -148,6 +159,7 @@ references-spec =
     array-read-touch-of
     cast-touch-of
     touch-of-requires
+    bucket-of-requires
     mul-b
     array-copy-out-b
     add-touch-requires

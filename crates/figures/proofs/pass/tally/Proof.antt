@@ -4,7 +4,7 @@ use mathlib.Core.Path.{_≡_, sym, _∙_}
 use native.Mathlib.Omega.{arith}
 use lib.ListN.{length, take}
 use lib.Seq.{length-take-le}
-use Rattle.figures.specs.Pass.{rowsOf}
+use Rattle.figures.specs.Pass.{rowsOf, Paired}
 use Rattle.figures.proofs.PriceRows.{rows-apart, h-length, d-length}
 use Rattle.figures.proofs.pass.tally.Statement.{statement}
 use Rattle.figures.proofs.pass.tally.Tie as tie
@@ -36,26 +36,40 @@ rows-are c =
 array-share-prefix-h : tie.Need-array-share-prefix-h
 array-share-prefix-h c = omega (arith, h-apart (c .before .before))
 
-slice-aggregate-tally-apart : tie.Need-slice-aggregate-tally-apart
-slice-aggregate-tally-apart c = sym (length-take-le _ _ (array-share-prefix-h (c .before)))
+slice-aggregate-hs : tie.Need-slice-aggregate-hs
+slice-aggregate-hs c = sym (length-take-le _ _ (array-share-prefix-h (c .before)))
 
 array-share-prefix-d : tie.Need-array-share-prefix-d
 array-share-prefix-d c = omega (arith, d-apart (c .before .before .before))
 
-slice-aggregate-tally-apart-2 : tie.Need-slice-aggregate-tally-apart-2
-slice-aggregate-tally-apart-2 c = sym (length-take-le _ _ (array-share-prefix-d (c .before)))
+slice-aggregate-ds : tie.Need-slice-aggregate-ds
+slice-aggregate-ds c = sym (length-take-le _ _ (array-share-prefix-d (c .before)))
+
+-- the prices lent are as many as the rows
+paired : (c : tie.After-d2)
+    → Paired (take (c .before .before .before .before .before .before .before .args .rows) (c .before .before .before .before .split .result .h))
+    (take (c .before .before .before .before .before .before .before .args .rows) (c .before .before .before .before .split .result .d))
+paired c =
+    let s = c .before .before .before .before .before .before .before in
+    let h = slice-aggregate-hs (c .before) in
+    let d = slice-aggregate-ds c in record { equal = sym h ∙ d; few = omega (arith, h, s .pre .0) }
+
+quotients-requires : tie.Need-quotients-requires
+quotients-requires c κs = paired c
+
+slice-aggregate-tally-apart : tie.Need-slice-aggregate-tally-apart
+slice-aggregate-tally-apart c = search needs
 
 tally-apart-requires : tie.Need-tally-apart-requires
 tally-apart-requires c κs =
-    let s = c .before .before .before .before .before .before .before in
-    let h = slice-aggregate-tally-apart (c .before) in
-    let d = slice-aggregate-tally-apart-2 c in (
-      record { equal = sym h ∙ d; few = omega (arith, h, s .pre .0) },
-      rw (rows-are (c .before .before .before .before)) (s .pre .1),
-    )
+    let q = c .before in
+    let d = q .before in
+    let a = d .before .before .before .before in
+    let s = a .before .before .before in
+    (paired d, (λ many. q .quotients .ensures, rw (rows-are a) (s .pre .1)))
 
 returns : tie.Need-returns
-returns c = rw (← rows-are (c .before .before .before .before .before)) (c .tally-apart .ensures)
+returns c = rw (← rows-are (c .before .before .before .before .before .before .before)) (c .tally-apart .ensures)
 
 pub tally-spec : {M : Type 1} → statement M
 tally-spec =
@@ -63,8 +77,10 @@ tally-spec =
     (tie.spec
     split-requires
     array-share-prefix-h
-    slice-aggregate-tally-apart
+    slice-aggregate-hs
     array-share-prefix-d
-    slice-aggregate-tally-apart-2
+    slice-aggregate-ds
+    quotients-requires
+    slice-aggregate-tally-apart
     tally-apart-requires
     returns)

@@ -14,43 +14,33 @@ retention-cost-requires c κs = search needs
 
 swapped : (c : tie.After-swap-cost) → c .swap-cost .result .0 < 2 ^ 32
 swapped c =
-    let a = c .before .before .before .args in
+    let a = c .before .args in
     rw (c .swap-cost .ensures) (swap-within (a .a) (a .z) (omega arith) (omega arith))
 
 retained : (c : tie.After-retention-cost) → c .retention-cost .result .0 < 2 ^ 32
 retained c =
-    let a = c .before .before .before .before .before .args in
+    let a = c .before .before .before .args in
     rw (c .retention-cost .ensures) (retention-within (a .kind) (a .z) (a .steps - a .mark) (omega arith) (omega arith))
-
-first-row-requires : tie.Need-first-row-requires
-first-row-requires c κs =
-    let s = c .before .before .before .before .before in
-    (s .pre, (omega (arith, retained c), omega (arith, swapped (c .before .before))))
 
 returns : tie.Need-returns
 returns c =
-    let d = c .before in
-    let e = d .before .before in
-    let s = e .before .before .before in (
-      record {
-        is-bucket = c .first-row .ensures .0;
-        size-within = omega arith;
-        retention-within = retained d;
-        swap-within = swapped e;
-      },
-      λ up.
-          reuse-is _ _ _ _ _ _ _ (e .swap-cost .ensures) (d .before .if1 .taken) _ (d .retention-cost .ensures) _
-          (c .first-row .ensures .1 up),
+    let e = c .before .before in (
+      (
+        record { is-bucket = omega arith; size-within = omega arith; retention-within = retained c; swap-within = swapped e },
+        omega (arith, e .swap-cost .ensures),
+      ),
+      reuse-is _ _ _ _ _ _ (e .swap-cost .ensures) (c .before .if1 .taken) _ (c .retention-cost .ensures),
     )
 
 returns-2 : tie.Need-returns-2
 returns-2 c =
-    let d = c .before in (
-      record { is-bucket = omega arith; size-within = omega arith; retention-within = omega arith; swap-within = swapped d },
-      λ up. first-is _ _ _ _ _ _ _ (d .swap-cost .ensures) (c .if1 .left),
+    let e = c .before in (
+      (
+        record { is-bucket = omega arith; size-within = omega arith; retention-within = omega arith; swap-within = swapped e },
+        omega (arith, e .swap-cost .ensures),
+      ),
+      first-is _ _ _ _ _ _ (e .swap-cost .ensures) (c .if1 .left),
     )
 
 pub touch-of-spec : {M : Type 1} → statement M
-touch-of-spec =
-    tie.close
-    (tie.spec swap-cost-requires retention-cost-requires first-row-requires returns returns-2)
+touch-of-spec = tie.close (tie.spec swap-cost-requires retention-cost-requires returns returns-2)

@@ -1,7 +1,7 @@
 -- `recorder::reading::ends_now` meets its contract: the rows of a recorder that stands for a sheet ascend, so the end intervals are the
 -- sheet's. Assumes nothing.
 use Prim.Native.Nat.{_≤_, min}
-use mathlib.Core.Path.{_≡_, sym, _∙_}
+use mathlib.Core.Path.{_≡_, refl, sym, _∙_}
 use native.Mathlib.Omega.{arith}
 use borrow.Author.Needs.{needs}
 use lib.ListN.{length, take}
@@ -99,34 +99,45 @@ array-share-prefix-d-2 c = omega (arith, d-apart (apart-tested (c .before)), few
 slice-aggregate-ends-2 : tie.Need-slice-aggregate-ends-2
 slice-aggregate-ends-2 c = sym (length-take-le _ _ (array-share-prefix-d-2 (c .before)))
 
-array-share-prefix-sizes : tie.Need-array-share-prefix-sizes
-array-share-prefix-sizes c =
-    let p = apart-tested (c .before .before) in
-    omega (arith, sizes-length (p .before .before .before .before .before), few-segs p)
+array-share-prefix-none : tie.Need-array-share-prefix-none
+array-share-prefix-none c = search needs
 
 slice-aggregate-ends-3 : tie.Need-slice-aggregate-ends-3
-slice-aggregate-ends-3 c = sym (length-take-le _ _ (array-share-prefix-sizes (c .before)))
+slice-aggregate-ends-3 c = refl
+
+array-share-prefix-sizes : tie.Need-array-share-prefix-sizes
+array-share-prefix-sizes c =
+    let p = apart-tested (c .before .before .before) in
+    omega (arith, sizes-length (p .before .before .before .before .before), few-segs p)
 
 slice-aggregate-ends-4 : tie.Need-slice-aggregate-ends-4
-slice-aggregate-ends-4 c = search needs
+slice-aggregate-ends-4 c = sym (length-take-le _ _ (array-share-prefix-sizes (c .before)))
+
+slice-aggregate-ends-5 : tie.Need-slice-aggregate-ends-5
+slice-aggregate-ends-5 c = search needs
 
 cast-ends : tie.Need-cast-ends
 cast-ends c = search needs
 
 ends-requires : tie.Need-ends-requires
-ends-requires c κs = let h = slice-aggregate-ends (c .before .before .before) in
-    let d = slice-aggregate-ends-2 (c .before .before) in
-    let z = slice-aggregate-ends-3 (c .before) in
-    let p = apart-tested (c .before .before .before .before) in (
+ends-requires c κs =
+    let t = c .before .before .before .before .before in
+    let h = slice-aggregate-ends (c .before .before .before .before) in
+    let d = slice-aggregate-ends-2 (c .before .before .before) in
+    let z = slice-aggregate-ends-4 (c .before) in
+    let p = apart-tested t in (
       record { equal = sym h ∙ d; few = omega (arith, h, few-rows p) },
       (
-        passed (c .before .before .before .before .before .ascends .ensures) (c .before .before .before .before .if1 .left),
-        (omega (arith, z, few-segs p, last-length (p .before .before .before .before .before)), omega (arith, z, few-segs p)),
+        λ many. absurd (omega (arith, many)),
+        (
+          passed (t .before .ascends .ensures) (t .if1 .left),
+          (omega (arith, z, few-segs p, last-length (p .before .before .before .before .before)), omega (arith, z, few-segs p)),
+        ),
       ),
     )
 
 returns-2 : tie.Need-returns-2
-returns-2 c = let p = apart-tested (c .before .before .before .before .before) in
+returns-2 c = let p = apart-tested (c .before .before .before .before .before .before) in
     λ v valid e.
     ends-stand _ _ _ (rows-are p) v valid e _ _
     (p .before .before .before .least2 .ensures) (p .before .before .least3 .ensures) _ (c .ends .ensures)
@@ -150,9 +161,11 @@ ends-now-spec =
     slice-aggregate-ends
     array-share-prefix-d-2
     slice-aggregate-ends-2
-    array-share-prefix-sizes
+    array-share-prefix-none
     slice-aggregate-ends-3
+    array-share-prefix-sizes
     slice-aggregate-ends-4
+    slice-aggregate-ends-5
     cast-ends
     ends-requires
     returns-2)

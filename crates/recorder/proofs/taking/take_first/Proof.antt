@@ -9,8 +9,9 @@ use lib.ListN.{length, take, getD}
 use lib.Seq.{length-take-le}
 use Rattle.model.specs.Sheets.{SheetValue, Valid}
 use Rattle.model.specs.Sheets.{mostSegs, mostRows, mostRefs}
-use Rattle.figures.specs.Pass.{rowsOf}
+use Rattle.figures.specs.Pass.{rowsOf, Paired}
 use Rattle.figures.specs.declared.Bucket.{Bucket}
+use Rattle.figures.proofs.Touches.{placed, placed-limited, placed-is}
 use Rattle.recorder.proofs.Bulk.{takable-of, takable-valid, appended-more, appended-none}
 use Rattle.recorder.proofs.Stepping.{clamped-rows, stepped-stands}
 use Rattle.recorder.specs.Guards.{appended}
@@ -37,21 +38,21 @@ with-these R count last buckets cost volume =
     }
 
 abbrev Inv-loop : tie.InvT-loop
-Inv-loop recorder refs n rows prices h d kind a sizes last₀ buckets₀ cost₀ volume₀ count₀ t₀ last buckets cost volume count t =
+Inv-loop recorder refs n rows prices hs ds qs kind a sizes last₀ buckets₀ cost₀ volume₀ count₀ t₀ last buckets cost volume count t =
     (t ≤ n) × (count ≡ recorder .refs + t)
     × ((v : SheetValue) → Valid v → recorder ≡ recorderOf v
     → with-these recorder count last buckets cost volume ≡ recorderOf (appended v (take t refs)))
 
 abbrev μ-loop : tie.MeasureT-loop
-μ-loop recorder refs n rows prices h d kind a sizes last₀ buckets₀ cost₀ volume₀ count₀ t₀ last buckets cost volume count t =
+μ-loop recorder refs n rows prices hs ds qs kind a sizes last₀ buckets₀ cost₀ volume₀ count₀ t₀ last buckets cost volume count t =
     n - t
 
 -- places on the way: the function's entry and the split prices, from a turn of the loop
 abbrev entry : tie.In-loop Inv-loop μ-loop → tie.Start Inv-loop μ-loop
-entry c = c .before .before .before .before .before .before .before .before .before .before .before
+entry c = c .before .before .before .before .before .before .before .before .before .before .before .before .before .before .before
 
 abbrev apart : tie.In-loop Inv-loop μ-loop → tie.After-split Inv-loop μ-loop
-apart c = c .before .before .before .before .before .before .before
+apart c = c .before .before .before .before .before .before .before .before .before .before .before
 
 -- there are 64 prices of each kind
 h-apart : (c : tie.After-split Inv-loop μ-loop) → length (c .split .result .h) ≡ 64
@@ -87,6 +88,33 @@ least-requires c κs = search needs
 split-requires : tie.Need-split-requires Inv-loop μ-loop
 split-requires c κs = search needs
 
+array-share-prefix-h : tie.Need-array-share-prefix-h Inv-loop μ-loop
+array-share-prefix-h c = omega (arith, h-apart (c .before .before), few-rows (c .before .before))
+
+slice-aggregate-hs : tie.Need-slice-aggregate-hs Inv-loop μ-loop
+slice-aggregate-hs c = sym (length-take-le _ _ (array-share-prefix-h (c .before)))
+
+array-share-prefix-d : tie.Need-array-share-prefix-d Inv-loop μ-loop
+array-share-prefix-d c = omega (arith, d-apart (c .before .before .before), few-rows (c .before .before .before))
+
+slice-aggregate-ds : tie.Need-slice-aggregate-ds Inv-loop μ-loop
+slice-aggregate-ds c = sym (length-take-le _ _ (array-share-prefix-d (c .before)))
+
+-- the prices lent are as many as the rows
+paired : (c : tie.After-d2 Inv-loop μ-loop)
+    → Paired (take (c .before .before .before .before .before .before .least .result) (c .before .before .before .before .split .result .h))
+    (take (c .before .before .before .before .before .before .least .result) (c .before .before .before .before .split .result .d))
+paired c =
+    let h = slice-aggregate-hs (c .before) in
+    let d = slice-aggregate-ds c in
+    record { equal = sym h ∙ d; few = omega (arith, h, few-rows (c .before .before .before .before)) }
+
+quotients-requires : tie.Need-quotients-requires Inv-loop μ-loop
+quotients-requires c κs = paired c
+
+slice-aggregate-qs : tie.Need-slice-aggregate-qs Inv-loop μ-loop
+slice-aggregate-qs c = search needs
+
 loop-holds : tie.Need-loop-holds Inv-loop μ-loop
 loop-holds c = (omega arith, omega arith, λ v valid e. e ∙ ap recorderOf (sym (appended-none v)))
 
@@ -105,31 +133,28 @@ mul-z c = omega (arith, segment-within (c .before))
 array-read-z : tie.Need-array-read-z Inv-loop μ-loop
 array-read-z c = omega (arith, segment-within (c .before))
 
-array-share-prefix-h : tie.Need-array-share-prefix-h Inv-loop μ-loop
-array-share-prefix-h c = omega (arith, h-apart (apart (c .before)), few-rows (apart (c .before)))
-
-slice-aggregate-touch-of : tie.Need-slice-aggregate-touch-of Inv-loop μ-loop
-slice-aggregate-touch-of c = sym (length-take-le _ _ (array-share-prefix-h (c .before)))
-
-array-share-prefix-d : tie.Need-array-share-prefix-d Inv-loop μ-loop
-array-share-prefix-d c = omega (arith, d-apart (apart (c .before .before)), few-rows (apart (c .before .before)))
-
-slice-aggregate-touch-of-2 : tie.Need-slice-aggregate-touch-of-2 Inv-loop μ-loop
-slice-aggregate-touch-of-2 c = sym (length-take-le _ _ (array-share-prefix-d (c .before)))
-
 mul-touch-of : tie.Need-mul-touch-of Inv-loop μ-loop
-mul-touch-of c = omega (arith, segment-within (c .before .before .before))
+mul-touch-of c = omega (arith, segment-within (c .before))
 
 array-read-touch-of : tie.Need-array-read-touch-of Inv-loop μ-loop
-array-read-touch-of c = omega (arith, segment-within (c .before .before .before))
+array-read-touch-of c = omega (arith, segment-within (c .before))
 
 cast-touch-of : tie.Need-cast-touch-of Inv-loop μ-loop
-cast-touch-of c = omega (arith, room (c .before .before .before))
+cast-touch-of c = omega (arith, room (c .before))
 
 touch-of-requires : tie.Need-touch-of-requires Inv-loop μ-loop
-touch-of-requires c κs = let h = slice-aggregate-touch-of (c .before) in
-    let d = slice-aggregate-touch-of-2 c in
-    record { equal = sym h ∙ d; few = omega (arith, h, few-rows (apart (c .before .before .before))) }
+touch-of-requires c κs = search needs
+
+bucket-of-requires : tie.Need-bucket-of-requires Inv-loop μ-loop
+bucket-of-requires c κs =
+    let l = c .touch-of .ensures .0 in
+    let q = c .before .before .before .before .before .before .before .before in (
+      paired (q .before),
+      (
+        λ many. q .quotients .ensures,
+        (omega (arith, l .0 .retention-within), l .1, omega (arith, l .0 .swap-within)),
+      ),
+    )
 
 mul-b : tie.Need-mul-b Inv-loop μ-loop
 mul-b c = search needs
@@ -147,16 +172,16 @@ array-set-from-buckets : tie.Need-array-set-from-buckets Inv-loop μ-loop
 array-set-from-buckets c = search needs
 
 add-count : tie.Need-add-count Inv-loop μ-loop
-add-count c = omega (arith, room (c .before .before .before .before .before .before))
+add-count c = omega (arith, room (c .before .before .before .before .before))
 
 cast-last : tie.Need-cast-last Inv-loop μ-loop
-cast-last c = omega (arith, room (c .before .before .before .before .before .before))
+cast-last c = omega (arith, room (c .before .before .before .before .before))
 
 mul-last : tie.Need-mul-last Inv-loop μ-loop
-mul-last c = omega (arith, segment-within (c .before .before .before .before .before .before))
+mul-last c = omega (arith, segment-within (c .before .before .before .before .before))
 
 array-write-last : tie.Need-array-write-last Inv-loop μ-loop
-array-write-last c = omega (arith, segment-within (c .before .before .before .before .before .before))
+array-write-last c = omega (arith, segment-within (c .before .before .before .before .before))
 
 unit-cost-requires : tie.Need-unit-cost-requires Inv-loop μ-loop
 unit-cost-requires c κs = search needs
@@ -172,7 +197,7 @@ more-requires-2 c κs = search needs
 
 add-t : tie.Need-add-t Inv-loop μ-loop
 add-t c =
-    let t = c .before .before .before .before .before .before .before .before .before .before in
+    let t = c .before .before .before .before .before .before .before .before .before in
     omega (arith, t .loop-test .taken, entry t .fits)
 
 loop-less : tie.Need-loop-less Inv-loop μ-loop
@@ -180,7 +205,7 @@ loop-less c = search needs
 
 loop-again : tie.Need-loop-again Inv-loop μ-loop
 loop-again c =
-    let t = c .before .before .before .before .before .before .before .before .before .before in
+    let t = c .before .before .before .before .before .before .before .before .before in
     let s = entry t in
     let p = apart t in
     let x = c .before .before .before .before .before .before in
@@ -195,15 +220,15 @@ loop-again c =
           (record {
             hs = take (p .before .before .least .result) (p .split .result .h);
             ds = take (p .before .before .least .result) (p .split .result .d);
-            touch = x .touch-of .result;
+            touch = placed (x .before .touch-of .result) (x .bucket-of .result);
             blank = _;
             bucket = c .before .before .before .before .file .result;
             unit = c .before .before .before .unit-cost .result;
             cost = c .before .before .more .result;
             volume = c .more2 .result;
             rows-are = rows-are p;
-            limited = x .touch-of .ensures .0;
-            touch-is = x .touch-of .ensures .1;
+            limited = placed-limited _ _ (x .before .touch-of .ensures .0 .0) (x .bucket-of .ensures .0);
+            touch-is = placed-is _ _ _ _ _ _ _ _ (x .before .touch-of .ensures .1) (x .bucket-of .ensures .1);
             bucket-is = c .before .before .before .before .file .ensures;
             unit-is = c .before .before .before .unit-cost .ensures;
             cost-is = c .before .before .more .ensures;
@@ -216,7 +241,7 @@ loop-again c =
 
 returns : tie.Need-returns Inv-loop μ-loop
 returns c =
-    let s = c .before .before .before .before .before .before .before .before .before .before .before in
+    let s = c .before .before .before .before .before .before .before .before .before .before .before .before .before .before .before in
     let all : c .before .loop .t ≡ s .args .n = omega (arith, c .loop-test .left, c .before .loop .inv .0) in
     λ v valid e. c .before .loop .inv .2 v valid e ∙ rw all refl
 
@@ -228,20 +253,23 @@ take-first-spec =
     μ-loop
     least-requires
     split-requires
+    array-share-prefix-h
+    slice-aggregate-hs
+    array-share-prefix-d
+    slice-aggregate-ds
+    quotients-requires
+    slice-aggregate-qs
     loop-holds
     mul-i
     shared-slice-read-i
     cast-i
     mul-z
     array-read-z
-    array-share-prefix-h
-    slice-aggregate-touch-of
-    array-share-prefix-d
-    slice-aggregate-touch-of-2
     mul-touch-of
     array-read-touch-of
     cast-touch-of
     touch-of-requires
+    bucket-of-requires
     mul-b
     array-copy-out-b
     file-requires

@@ -7,6 +7,7 @@ use lib.ListN.{length, take}
 use lib.Seq.{length-take-le}
 use Rattle.model.specs.Sheets.{mostRows}
 use Rattle.figures.specs.Pass.{rowsOf}
+use Rattle.figures.proofs.Touches.{placed, placed-limited, placed-is}
 use Rattle.recorder.proofs.Stepping.{clamped-rows, stepped-stands}
 use Rattle.recorder.proofs.taking.take_one.Statement.{statement}
 use Rattle.recorder.proofs.taking.take_one.Tie as tie
@@ -43,18 +44,6 @@ mul-z c = search needs
 element-copy-out-z : tie.Need-element-copy-out-z
 element-copy-out-z c = search needs
 
-array-share-prefix-h : tie.Need-array-share-prefix-h
-array-share-prefix-h c = omega (arith, h-apart (c .before .before .before), few-rows (c .before .before .before))
-
-slice-aggregate-touch-of : tie.Need-slice-aggregate-touch-of
-slice-aggregate-touch-of c = sym (length-take-le _ _ (array-share-prefix-h (c .before)))
-
-array-share-prefix-d : tie.Need-array-share-prefix-d
-array-share-prefix-d c = omega (arith, d-apart (c .before .before .before .before), few-rows (c .before .before .before .before))
-
-slice-aggregate-touch-of-2 : tie.Need-slice-aggregate-touch-of-2
-slice-aggregate-touch-of-2 c = sym (length-take-le _ _ (array-share-prefix-d (c .before)))
-
 mul-touch-of : tie.Need-mul-touch-of
 mul-touch-of c = search needs
 
@@ -65,9 +54,39 @@ cast-touch-of : tie.Need-cast-touch-of
 cast-touch-of c = search needs
 
 touch-of-requires : tie.Need-touch-of-requires
-touch-of-requires c κs = let h = slice-aggregate-touch-of (c .before .before) in
-    let d = slice-aggregate-touch-of-2 (c .before) in
-    record { equal = sym h ∙ d; few = omega (arith, h, few-rows (c .before .before .before .before .before .before)) }
+touch-of-requires c κs = search needs
+
+array-share-prefix-h : tie.Need-array-share-prefix-h
+array-share-prefix-h c =
+    let p = c .before .before .before .before .before in
+    omega (arith, h-apart p, few-rows p)
+
+slice-aggregate-bucket : tie.Need-slice-aggregate-bucket
+slice-aggregate-bucket c = sym (length-take-le _ _ (array-share-prefix-h (c .before)))
+
+array-share-prefix-d : tie.Need-array-share-prefix-d
+array-share-prefix-d c =
+    let p = c .before .before .before .before .before .before in
+    omega (arith, d-apart p, few-rows p)
+
+slice-aggregate-bucket-2 : tie.Need-slice-aggregate-bucket-2
+slice-aggregate-bucket-2 c = sym (length-take-le _ _ (array-share-prefix-d (c .before)))
+
+array-share-prefix-none : tie.Need-array-share-prefix-none
+array-share-prefix-none c = search needs
+
+slice-aggregate-bucket-3 : tie.Need-slice-aggregate-bucket-3
+slice-aggregate-bucket-3 c = refl
+
+bucket-requires : tie.Need-bucket-requires
+bucket-requires c κs =
+    let h = slice-aggregate-bucket (c .before .before) in
+    let d = slice-aggregate-bucket-2 (c .before) in
+    let t = c .before .before .before in
+    let l = t .touch-of .ensures .0 in (
+      record { equal = sym h ∙ d; few = omega (arith, h, few-rows (t .before .before .before .before .before)) },
+      (λ many. absurd (omega (arith, many)), (omega (arith, l .0 .retention-within), l .1, omega (arith, l .0 .swap-within))),
+    )
 
 mul-b : tie.Need-mul-b
 mul-b c = search needs
@@ -78,8 +97,8 @@ element-copy-out-b c = search needs
 file-requires : tie.Need-file-requires
 file-requires c κs = search needs
 
-mul-t15 : tie.Need-mul-t15
-mul-t15 c = search needs
+mul-t16 : tie.Need-mul-t16
+mul-t16 c = search needs
 
 element-set-from-recorder : tie.Need-element-set-from-recorder
 element-set-from-recorder c = search needs
@@ -113,22 +132,23 @@ more-requires-2 c κs = search needs
 
 returns : tie.Need-returns
 returns c =
-    let s = c .before .before .before .before .before .before .before .before .before .before .before .before .before .before .before .before in
-    let p = c .before .before .before .before .before .before .before .before .before .before .before .before .before in
     let x = c .before .before .before .before .before .before in
+    let y = x .before .before .before .before in
+    let p = y .before .before .before .before .before in
+    let s = p .before .before .before in
     stepped-stands (s .args .t1) _ (s .args .segment) (s .pre .0) (s .pre .1)
     (record {
       hs = take (p .before .before .least .result) (p .split .result .h);
       ds = take (p .before .before .least .result) (p .split .result .d);
-      touch = x .touch-of .result;
+      touch = placed (y .touch-of .result) (x .bucket .result);
       blank = _;
       bucket = c .before .before .before .before .file .result;
       unit = c .before .before .before .unit-cost .result;
       cost = c .before .before .more .result;
       volume = c .more2 .result;
       rows-are = rows-are p;
-      limited = x .touch-of .ensures .0;
-      touch-is = x .touch-of .ensures .1;
+      limited = placed-limited _ _ (y .touch-of .ensures .0 .0) (x .bucket .ensures .0);
+      touch-is = placed-is _ _ _ _ _ _ _ _ (y .touch-of .ensures .1) (x .bucket .ensures .1);
       bucket-is = c .before .before .before .before .file .ensures;
       unit-is = c .before .before .before .unit-cost .ensures;
       cost-is = c .before .before .more .ensures;
@@ -144,18 +164,21 @@ take-one-spec =
     split-requires
     mul-z
     element-copy-out-z
-    array-share-prefix-h
-    slice-aggregate-touch-of
-    array-share-prefix-d
-    slice-aggregate-touch-of-2
     mul-touch-of
     element-copy-out-touch-of
     cast-touch-of
     touch-of-requires
+    array-share-prefix-h
+    slice-aggregate-bucket
+    array-share-prefix-d
+    slice-aggregate-bucket-2
+    array-share-prefix-none
+    slice-aggregate-bucket-3
+    bucket-requires
     mul-b
     element-copy-out-b
     file-requires
-    mul-t15
+    mul-t16
     element-set-from-recorder
     add-recorder
     cast-recorder

@@ -1,10 +1,10 @@
--- `pass::first_row` meets its contract. The loop's invariant: no row before `lo` keeps the reuse, and each of those from lo + n on does.
+-- `search::halved` meets its contract. The loop's invariant: no row before `lo` keeps the reuse, and each of those from lo + n on does.
 -- The measure is n. Assumes nothing.
 use borrow.Author.Needs.{needs}
 use native.Mathlib.Omega.{arith}
 use Rattle.figures.proofs.FirstRow.{Halving, halving-start, halving-step, halving-row, halving-none}
-use Rattle.figures.proofs.pass.first_row.Statement.{statement}
-use Rattle.figures.proofs.pass.first_row.Tie as tie
+use Rattle.figures.proofs.search.halved.Statement.{statement}
+use Rattle.figures.proofs.search.halved.Tie as tie
 
 abbrev Inv-loop : tie.InvT-loop
 Inv-loop hs ds retention swap lo₀ n₀ lo n = Halving hs ds retention swap lo n
@@ -60,8 +60,8 @@ returns-2 c =
     let s = d .before .before .before .before in
     (omega arith, halving-none _ _ _ _ (s .pre .0 .equal) _ _ (d .before .loop .inv) (d .loop-test .left) (c .if1 .left))
 
-pub first-row-spec : {M : Type 1} → statement M
-first-row-spec =
+pub halved-spec : {M : Type 1} → statement M
+halved-spec =
     tie.close
     (tie.spec
     Inv-loop

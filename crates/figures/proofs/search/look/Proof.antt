@@ -1,0 +1,29 @@
+-- `search::look` meets its contract. Assumes nothing.
+use native.Mathlib.Omega.{arith}
+use Rattle.figures.proofs.search.look.Statement.{statement}
+use Rattle.figures.proofs.search.look.Tie as tie
+
+add-advanced : tie.Need-add-advanced
+add-advanced c = omega arith
+
+sub-advanced : tie.Need-sub-advanced
+sub-advanced c = omega arith
+
+mul-advanced : tie.Need-mul-advanced
+mul-advanced c = omega arith
+
+shared-slice-read-advanced : tie.Need-shared-slice-read-advanced
+shared-slice-read-advanced c = omega (arith, c .before .before .pre .0 .0 .as-many)
+
+advanced-requires : tie.Need-advanced-requires
+advanced-requires c κs =
+    let s = c .before .before in
+    ((s .pre .0 .1, s .pre .0 .0 .below-top _ (omega arith)), s .pre .1 .1)
+
+returns : tie.Need-returns
+returns c = c .advanced .ensures
+
+pub look-spec : {M : Type 1} → statement M
+look-spec =
+    tie.close
+    (tie.spec add-advanced sub-advanced mul-advanced shared-slice-read-advanced advanced-requires returns)
