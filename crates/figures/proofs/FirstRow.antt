@@ -115,7 +115,6 @@ only-row-is (h ∷ hs) [] one equal R w = absurd (omega arith)
 only-row-is (h ∷ []) (d ∷ ds) one equal R w = refl
 only-row-is (h ∷ g ∷ hs) (d ∷ ds) one equal R w = absurd (omega arith)
 
-pub only-within : (reuse kept : Bool) → cond reuse (cond kept 0 lastBucket) lastBucket ≤ lastBucket
-only-within false kept = omega arith
-only-within true false = omega arith
-only-within true true = omega arith
+pub only-within : (kept : Bool) → cond kept 0 lastBucket ≤ lastBucket
+only-within false = omega arith
+only-within true = omega arith

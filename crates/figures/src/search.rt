@@ -42,18 +42,6 @@ fn narrowed(h: u16, d: u16, retention: u64, swap: u64, lo: usize, half: usize) -
     advanced((d as u64) * retention, (h as u64) * swap, lo, half)
 }
 
-// The bucket where there is one row h/d.
-fn only_row(h: u16, d: u16, reuse: bool, retention: u64, swap: u64) -> usize
-    requires { ⌜ (retention < 2 ^ 40) × (swap < 2 ^ 40) ⌝ }
-    ensures { λ r. ⌜ r ≡ cond reuse (cond (keeps (d * retention) (h * swap)) 0 lastBucket) lastBucket ⌝ }
-{
-    if reuse {
-        narrowed(h, d, retention, swap, 0, 64)
-    } else {
-        64
-    }
-}
-
 // The first row that keeps a reuse, found by halving the rows; the last bucket where none does.
 fn halved(hs: &[u16], ds: &[u16], retention: u64, swap: u64) -> usize
     requires { ⌜ Paired (now hs) (now ds) ⌝ }
@@ -198,7 +186,7 @@ pub fn bucket(hs: &[u16], ds: &[u16], qs: &[u64], reuse: bool, retention: u64, s
     }
 }
 
-// The same, where a single row takes no search.
+// The same, where a first touch and a single row take no search.
 pub fn bucket_of(
     hs: &[u16],
     ds: &[u16],
@@ -213,9 +201,11 @@ pub fn bucket_of(
     ensures within { λ r. ⌜ r ≤ lastBucket ⌝ }
     ensures exact { λ r. ⌜ IsBucket (now (hs .entry)) (now (ds .entry)) reuse retention swap r ⌝ }
 {
-    if hs.len() == 1 {
-        only_row(hs[0], ds[0], reuse, retention, swap)
-    } else {
-        bucket(hs, ds, qs, reuse, retention, swap)
+    if !reuse {
+        return 64;
     }
+    if hs.len() == 1 {
+        return narrowed(hs[0], ds[0], retention, swap, 0, 64);
+    }
+    first_row(hs, ds, qs, retention, swap)
 }
