@@ -1,9 +1,9 @@
 -- Quotients: that of a reuse is at most that of a threshold exactly where the row keeps the reuse; those of ascending rows rise, and
 -- part at the first row. Assumes nothing.
-use Prim.Native.Nat.{ℕ, zero, suc, _+_, _-_, _*_, _/_, _^_, _≤_, _<_}
+use Prim.Native.Nat.{ℕ, zero, suc, _+_, _*_, _/_, _^_, _≤_, _<_}
 use mathlib.Core.Path.{_≡_, refl, sym, _∙_}
 use mathlib.Core.Logic.{_⊎_, inl, inr, ⊎-elim}
-use mathlib.Core.Bool.{Bool, true, false, cond}
+use mathlib.Core.Bool.{Bool, true, false}
 use mathlib.Core.List.{List}
 use native.Mathlib.Omega.{arith}
 use native.Mathlib.Nat.{mul-le-mul-left, mul-le-mul-right, le-of-mul-le-mul-left, div-add-mod, div-le-self, mod-lt, le-div-iff-mul-le}
@@ -13,11 +13,10 @@ use lib.Seq.{getD-set-same, getD-set-other}
 use borrow.Author.Tests.{le-leb, lt-leb, leb-true, leb-false, ltb-true, ltb-false, eqb-true, eqb-false}
 use Rattle.model.specs.Costs.{keeps}
 use Rattle.model.specs.Sheets.{mostRows}
-use Rattle.model.specs.declared.PriceRow.{PriceRow}
 use Rattle.model.proofs.Bounds.{product-within}
 use Rattle.model.proofs.Sums.{last-or-below}
 use Rattle.figures.specs.Buckets.{firstRow, lastBucket}
-use Rattle.figures.specs.Pass.{rowsOf, rowIn, Ascending}
+use Rattle.figures.specs.Pass.{rowsOf, Ascending}
 use Rattle.figures.specs.Quotients.{units, past, quotientOf, allPast, Quoted, Rising, Parted}
 use Rattle.figures.proofs.FirstRow.{keepsAt, first-row-found, first-row-none}
 use Rattle.figures.proofs.PriceRows.{length-rowsOf, getD-rowsOf}

@@ -14,7 +14,7 @@ use Rattle.model.specs.declared.Kind.{Kind}
 use Rattle.model.specs.declared.Kind.the-variants.{Time, Space}
 use Rattle.model.specs.declared.PriceRow.{PriceRow}
 use Rattle.model.proofs.Bounds.{product-within}
-use Rattle.figures.specs.Buckets.{lastBucket, firstRow, bucketOf, filed, bucketAfter, ended, endBucket}
+use Rattle.figures.specs.Buckets.{lastBucket, bucketOf, filed, bucketAfter, ended, endBucket}
 use Rattle.figures.specs.Pass.{touchOf, unplaced, gathered, bucketOver, timeOf, IsBucket, Ascending, Limited, rowsOf}
 use Rattle.figures.specs.declared.pass.Touch.{Touch}
 

@@ -4,7 +4,7 @@ ghost use mathlib.Core.Path.{_≡_};
 ghost use mathlib.Core.Bool.{true, cond};
 ghost use Prim.Native.Nat.{_+_, _-_, _*_, _≤_, _<_, _^_};
 ghost use lib.Dec.{leb};
-ghost use lib.ListN.{length, getD};
+ghost use lib.ListN.{getD};
 ghost use Rattle.model.specs.Costs.{keeps};
 ghost use Rattle.model.specs.Sheets.{mostRows};
 ghost use Rattle.figures.specs.Buckets.{lastBucket};
@@ -155,7 +155,7 @@ fn decides(count: usize, retention: u64, swap: u64) -> bool
     swap <= SWAPS
 }
 
-// The first row that keeps a reuse; the last bucket where none does. With the quotients it takes seven looks at them.
+// The first row that keeps a reuse; the last bucket where none does. With the quotients it takes at most seven looks at them.
 fn first_row(hs: &[u16], ds: &[u16], qs: &[u64], retention: u64, swap: u64) -> usize
     requires { ⌜ Paired (now hs) (now ds) ⌝ }
     requires { ⌜ QuotedIfLong (now hs) (now ds) (now qs) ⌝ }
@@ -171,7 +171,8 @@ fn first_row(hs: &[u16], ds: &[u16], qs: &[u64], retention: u64, swap: u64) -> u
     }
 }
 
-// The bucket of a touch or an end interval: that of the first row that keeps a reuse, or the last.
+// The bucket of a touch or an end interval: that of the first row that keeps a reuse, or the last. For a single touch; since `first_row` is
+// called here too, the compiler keeps it apart and puts the small `bucket_of` into the loops.
 pub fn bucket(hs: &[u16], ds: &[u16], qs: &[u64], reuse: bool, retention: u64, swap: u64) -> usize
     requires { ⌜ Paired (now hs) (now ds) ⌝ }
     requires { ⌜ QuotedIfLong (now hs) (now ds) (now qs) ⌝ }
@@ -186,7 +187,7 @@ pub fn bucket(hs: &[u16], ds: &[u16], qs: &[u64], reuse: bool, retention: u64, s
     }
 }
 
-// The same, where a first touch and a single row take no search.
+// The same for loops: a first touch and a single row take no search.
 pub fn bucket_of(
     hs: &[u16],
     ds: &[u16],
