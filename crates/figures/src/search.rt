@@ -11,8 +11,8 @@ ghost use Rattle.figures.specs.Buckets.{lastBucket};
 ghost use Rattle.figures.specs.Pass.{Paired, IsFirstRow, IsBucket};
 ghost use Rattle.figures.specs.Quotients.{quotientOf, allPast, Quoted, QuotedIfLong, Looked, Found, Rest};
 
-// How many units a quotient of 1 has. The product of a swap cost and a d is at most that, so that no two thresholds that a reuse lies
-// between have one quotient.
+// How many units a quotient of 1 has. The product of a swap cost and a d is at most that, so that a reuse above a threshold has the
+// greater quotient, though both are rounded down.
 const UNITS: u64 = 68_719_476_736;
 
 // The largest number whose top bit is clear. It is past the quotient of every reuse.
