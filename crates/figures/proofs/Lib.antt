@@ -11,6 +11,7 @@ pub mod Marks
 pub mod Passing
 pub mod PriceRows
 pub mod Quotients
+pub mod Rates
 pub mod Sweeps
 pub mod SweptRows
 pub mod SweptSheets

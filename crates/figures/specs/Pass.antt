@@ -11,7 +11,7 @@ use Rattle.model.specs.Costs.{swapCost, retention}
 use Rattle.model.specs.Sums.{sum}
 use Rattle.model.specs.Traces.{Trace, steps}
 use Rattle.model.specs.Figures.{ofTime, isReuse, refCost, refVolume}
-use Rattle.model.specs.Sheets.{SheetValue, traceOf, mostSegs, mostRows, Exceeds}
+use Rattle.model.specs.Sheets.{SheetValue, traceOf, mostSegs, mostRows, mostRefs, largestSize, Exceeds}
 use Rattle.model.specs.declared.Kind.{Kind}
 use Rattle.model.specs.declared.PriceRow.{PriceRow}
 use Rattle.model.specs.LastTouches.{untouchedMark, lastTable}
@@ -134,9 +134,9 @@ bucketOver counts x n k =
 abbrev pub timeOf : ℕ → ℕ → Option ℕ
 timeOf n mark = cond (leb mark n) (some (n - mark)) none
 
--- x is the touch, after n steps, of a segment of size z with a mark, where the thresholds ascend
+-- x is the touch, after n steps, of a segment of size z with a mark, where the thresholds ascend and no sheet's size is exceeded
 abbrev pub IsTouch : Kind → ℕ → List ℕ → List ℕ → ℕ → ℕ → ℕ → Touch → Type 0
-IsTouch kind a hs ds z mark n x = Ascending (rowsOf hs ds) → x ≡ touchOf kind a (rowsOf hs ds) z (timeOf n mark)
+IsTouch kind a hs ds z mark n x = Ascending (rowsOf hs ds) → z ≤ largestSize → x ≡ touchOf kind a (rowsOf hs ds) z (timeOf n mark)
 
 -- the table before step 1, and buckets that hold nothing
 unfoldable pub allUntouched : List ℕ
@@ -165,6 +165,12 @@ sheetTally s = tallyOf (s .rows) (traceOf s)
 -- the end interval of segment i after n steps, from the sizes and the table of last touches
 abbrev pub endTouch : Kind → ℕ → List PriceRow → List ℕ → List ℕ → ℕ → ℕ → Touch
 endTouch kind a rows sizes last n i = touchOf kind a rows (getD sizes i 0) (timeOf n (getD last i 0))
+
+-- sizes and steps as a sheet has them
+pub record Sized (sizes : List ℕ) (n : ℕ) : Type 0 where
+  pub few-segs : length sizes ≤ mostSegs
+  pub size-within : (i : ℕ) → i < length sizes → getD sizes i 0 ≤ largestSize
+  pub few-steps : n ≤ mostRefs
 
 -- the buckets of the end intervals after n steps
 unfoldable pub endsOf : Kind → ℕ → List PriceRow → List ℕ → List ℕ → ℕ → List Bucket

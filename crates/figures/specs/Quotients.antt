@@ -1,37 +1,55 @@
--- The thresholds as whole quotients, among which the first row that keeps a reuse is looked for. Assumes nothing.
+-- The thresholds as whole quotients, among which the first row that keeps a reuse is looked for, and the rates of the segments, of which the
+-- quotient of a reuse is a multiple. Assumes nothing.
 use Prim.Native.Nat.{ℕ, _+_, _-_, _*_, _/_, _^_, _≤_, _<_}
 use mathlib.Core.Path.{_≡_}
+use mathlib.Core.Bool.{cond}
 use mathlib.Core.List.{List}
+use lib.Dec.{eqb}
 use lib.ListN.{length, getD, replicate}
+use Rattle.model.specs.Costs.{swapCost, unitCost}
 use Rattle.model.specs.Sheets.{mostRows}
+use Rattle.model.specs.declared.Kind.{Kind}
+use Rattle.figures.specs.Buckets.{lastBucket}
 
--- how many units a quotient of 1 has
-abbrev pub units : ℕ
-units = 2 ^ 36
+-- how many units a quotient of 1 has, where a is the weight of volume: at least the product of an unreferenced time, a swap cost and a d
+-- of a sheet
+unfoldable pub unitsFor : ℕ → ℕ
+unitsFor a = cond (eqb a 0) (2 ^ 27) (2 ^ 47)
 
 -- past the quotient of every reuse
 abbrev pub past : ℕ
 past = 2 ^ 63 - 1
 
--- the whole quotient of x and y in those units
-unfoldable pub quotientOf : ℕ → ℕ → ℕ
-quotientOf x y = x * units / y
+-- the whole quotient of x and y in units
+unfoldable pub quotientOf : ℕ → ℕ → ℕ → ℕ
+quotientOf units x y = x * units / y
+
+-- the rate of a segment of size z: the quotient of what one step in memory costs and of its swap cost
+unfoldable pub rateOf : Kind → ℕ → ℕ → ℕ
+rateOf kind a z = quotientOf (unitsFor a) (unitCost kind z) (swapCost a z)
 
 -- 64 quotients without a row
 unfoldable pub allPast : List ℕ
 allPast = replicate mostRows past
 
--- the quotients of the thresholds h/d, and past every reuse's where there is no row; the top bit of each is clear, and each d has 16 bits
-pub record Quoted (hs ds qs : List ℕ) : Type 0 where
+-- 64 numbers whose top bit is clear; those from place n on are past the quotient of every reuse
+pub record Listed (qs : List ℕ) (n : ℕ) : Type 0 where
   pub as-many : length qs ≡ mostRows
-  pub of-row : (r : ℕ) → r < length hs → getD qs r 0 ≡ quotientOf (getD hs r 0) (getD ds r 0)
-  pub beyond : (r : ℕ) → length hs ≤ r → r < mostRows → getD qs r 0 ≡ past
+  pub few : n ≤ mostRows
   pub below-top : (r : ℕ) → r < mostRows → getD qs r 0 < 2 ^ 63
+  pub beyond : (r : ℕ) → n ≤ r → r < mostRows → getD qs r 0 ≡ past
+
+-- the quotients of the thresholds h/d; each d has 16 bits
+pub record Quoted (units : ℕ) (hs ds qs : List ℕ) : Type 0 where
+  pub listed : Listed qs (length hs)
+  pub of-row : (r : ℕ) → r < length hs → getD qs r 0 ≡ quotientOf units (getD hs r 0) (getD ds r 0)
   pub small-d : (r : ℕ) → r < length hs → getD ds r 0 < 2 ^ 16
 
--- a list as long as that of the quotients is theirs
-abbrev pub QuotedIfLong : List ℕ → List ℕ → List ℕ → Type 0
-QuotedIfLong hs ds qs = length qs ≡ mostRows → Quoted hs ds qs
+-- the rates of segments of these sizes
+pub record Rated (kind : Kind) (a : ℕ) (sizes rates : List ℕ) : Type 0 where
+  pub as-many : length sizes ≤ length rates
+  pub of-segment : (i : ℕ) → i < length sizes → getD rates i 0 ≡ rateOf kind a (getD sizes i 0)
+  pub within : (i : ℕ) → i < length rates → getD rates i 0 ≤ 2 ^ 47
 
 -- 64 numbers below 2 ^ 63
 pub record Looked (list : List ℕ) : Type 0 where
@@ -56,3 +74,15 @@ pub record Found (list : List ℕ) (x lo n : ℕ) : Type 0 where
 -- the numbers of a list from a place on are not less than x
 abbrev pub Rest : List ℕ → ℕ → ℕ → Type 0
 Rest list x count = (j : ℕ) → count ≤ j → j < mostRows → x ≤ getD list j 0
+
+-- k is the place of the first of the first n numbers that is at least x, and the last bucket where none is
+pub record Placed (list : List ℕ) (n x k : ℕ) : Type 0 where
+  pub below : (j : ℕ) → j < n → j < k → getD list j 0 < x
+  pub reached : k < n → x ≤ getD list k 0
+  pub none : n ≤ k → k ≡ lastBucket
+
+-- k is the bucket, after so many steps, of a touch of a segment with a rate and a mark, from the quotients of n rows: the last for a first
+-- touch, and else the first whose quotient is not less than that of the reuse
+pub record IsPlace (qs : List ℕ) (n rate mark steps k : ℕ) : Type 0 where
+  pub first : steps < mark → k ≡ lastBucket
+  pub again : mark ≤ steps → Rising qs → Placed qs n ((steps - mark) * rate) k

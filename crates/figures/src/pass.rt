@@ -9,11 +9,11 @@ ghost use mathlib.Core.Path.{_≡_};
 ghost use Prim.Native.Nat.{_+_, _*_, _≤_, _<_, _^_};
 ghost use lib.ListN.{length, take};
 ghost use Rattle.model.specs.Costs.{unitCost};
-ghost use Rattle.model.specs.Sheets.{Valid, traceOf, mostSegs};
+ghost use Rattle.model.specs.Sheets.{Valid, traceOf};
 ghost use Rattle.figures.specs.Buckets.{tallyOf};
 ghost use Rattle.figures.specs.Rows.{partsOf};
-ghost use Rattle.figures.specs.Pass.{rowsOf, pricesOf, sheetApart, Ascending, Paired, unplaced, timeOf, Limited};
-ghost use Rattle.figures.specs.Quotients.{QuotedIfLong};
+ghost use Rattle.figures.specs.Pass.{rowsOf, pricesOf, sheetApart, Ascending, Paired, unplaced, timeOf, Limited, Sized};
+ghost use Rattle.figures.specs.Quotients.{unitsFor, Quoted, Rated};
 ghost use Rattle.figures.specs.Pass.{withTouch, withEnd, Within, allUntouched, allEmpty, sheetPassed, sheetTally, endsOf};
 
 // The mark of a segment that was not touched yet. It is past every step.
@@ -91,7 +91,7 @@ pub fn unit_cost(kind: Kind, z: u16) -> u64
 
 // A touch, after so many steps, of a segment of size z with that mark; or its end interval. Its bucket is still to be looked for.
 pub fn touch_of(kind: Kind, a: u8, z: u16, mark: u16, steps: u16) -> Touch
-    ensures within { λ r. ⌜ Limited r × (1 ≤ r .swap) ⌝ }
+    ensures within { λ r. ⌜ Limited r ⌝ }
     ensures exact { λ r. ⌜ r ≡ unplaced kind a z (timeOf steps mark) ⌝ }
 {
     let w = model::swap_cost(a, z).0;
@@ -148,11 +148,13 @@ pub fn references(
     hs: &[u16],
     ds: &[u16],
     qs: &[u64],
+    rates: &[u64],
     sizes: &[u16],
     refs: &[u16],
 ) -> Passed
     requires { ⌜ Paired (now hs) (now ds) ⌝ }
-    requires { ⌜ QuotedIfLong (now hs) (now ds) (now qs) ⌝ }
+    requires { ⌜ Quoted (unitsFor a) (now hs) (now ds) (now qs) ⌝ }
+    requires { ⌜ Rated kind a (now sizes) (now rates) ⌝ }
     requires { ⌜ Valid (sheetApart kind a (now sizes) (now hs) (now ds) (now refs)) ⌝ }
     ensures { λ r. ⌜ r ≡ sheetPassed (sheetApart kind a (now (sizes .entry)) (now (hs .entry)) (now (ds .entry)) (now (refs .entry))) ⌝ }
 {
@@ -164,8 +166,9 @@ pub fn references(
     while t < refs.len() {
         let i = refs[t] as usize;
         let z = sizes[i];
-        let mut x = touch_of(kind, a, z, last[i], t as u16);
-        let k = search::bucket_of(hs, ds, qs, x.reuse, x.retention, x.swap);
+        let mark = last[i];
+        let mut x = touch_of(kind, a, z, mark, t as u16);
+        let k = search::bucket_of(hs.len(), qs, rates[i], mark, t as u16);
         x.bucket = k;
         let mut b = buckets[k];
         b = add_touch(b, x);
@@ -190,21 +193,24 @@ pub fn ends(
     hs: &[u16],
     ds: &[u16],
     qs: &[u64],
+    rates: &[u64],
     sizes: &[u16],
     last: &[u16],
     steps: u16,
 ) -> [Bucket; 65]
     requires { ⌜ Paired (now hs) (now ds) ⌝ }
-    requires { ⌜ QuotedIfLong (now hs) (now ds) (now qs) ⌝ }
+    requires { ⌜ Quoted (unitsFor a) (now hs) (now ds) (now qs) ⌝ }
+    requires { ⌜ Rated kind a (now sizes) (now rates) ⌝ }
     requires { ⌜ Ascending (rowsOf (now hs) (now ds)) ⌝ }
-    requires { ⌜ (length (now sizes) ≤ length (now last)) × (length (now sizes) ≤ mostSegs) ⌝ }
+    requires { ⌜ (length (now sizes) ≤ length (now last)) × Sized (now sizes) steps ⌝ }
     ensures { λ r. ⌜ r ≡ endsOf kind a (rowsOf (now (hs .entry)) (now (ds .entry))) (now (sizes .entry)) (now (last .entry)) steps ⌝ }
 {
     let mut buckets = empty_buckets();
     let mut i = 0;
     while i < sizes.len() {
-        let mut x = touch_of(kind, a, sizes[i], last[i], steps);
-        let k = search::bucket_of(hs, ds, qs, x.reuse, x.retention, x.swap);
+        let mark = last[i];
+        let mut x = touch_of(kind, a, sizes[i], mark, steps);
+        let k = search::bucket_of(hs.len(), qs, rates[i], mark, steps);
         x.bucket = k;
         let mut b = buckets[k];
         b = add_end(b, x);
@@ -221,18 +227,20 @@ fn tally_apart(
     hs: &[u16],
     ds: &[u16],
     qs: &[u64],
+    rates: &[u64],
     sizes: &[u16],
     refs: &[u16],
 ) -> Tally
     requires { ⌜ Paired (now hs) (now ds) ⌝ }
-    requires { ⌜ QuotedIfLong (now hs) (now ds) (now qs) ⌝ }
+    requires { ⌜ Quoted (unitsFor a) (now hs) (now ds) (now qs) ⌝ }
+    requires { ⌜ Rated kind a (now sizes) (now rates) ⌝ }
     requires { ⌜ Valid (sheetApart kind a (now sizes) (now hs) (now ds) (now refs)) ⌝ }
     ensures { λ r. ⌜ r ≡ sheetTally (sheetApart kind a (now (sizes .entry)) (now (hs .entry)) (now (ds .entry)) (now (refs .entry))) ⌝ }
 {
-    let p = references(kind, a, hs, ds, qs, sizes, refs);
+    let p = references(kind, a, hs, ds, qs, rates, sizes, refs);
     let buckets = p.buckets;
     let last = p.last;
-    let ended = ends(kind, a, hs, ds, qs, sizes, &last, refs.len() as u16);
+    let ended = ends(kind, a, hs, ds, qs, rates, sizes, &last, refs.len() as u16);
     Tally {
         buckets: buckets,
         ends: ended,
@@ -258,6 +266,7 @@ pub fn tally(
     let d = apart.d;
     let hs = &h[..rows];
     let ds = &d[..rows];
-    let quotients = search::quotients(hs, ds);
-    tally_apart(kind, a, hs, ds, &quotients, sizes, refs)
+    let quotients = search::quotients(a, hs, ds);
+    let rates = search::rates(kind, a, sizes);
+    tally_apart(kind, a, hs, ds, &quotients, &rates, sizes, refs)
 }

@@ -1,27 +1,27 @@
-// The first row that keeps a reuse: among the quotients of the thresholds, or by halving the rows.
+// The first row that keeps a reuse: for loops among the quotients of the thresholds, and for a single touch by halving the rows.
 // What each function gives is written in specs/; nothing is assumed.
+use crate::pass;
+use model::Kind;
 ghost use mathlib.Core.Path.{_≡_};
-ghost use mathlib.Core.Bool.{true, cond};
+ghost use mathlib.Core.Bool.{cond};
 ghost use Prim.Native.Nat.{_+_, _-_, _*_, _≤_, _<_, _^_};
 ghost use lib.Dec.{leb};
-ghost use lib.ListN.{getD};
+ghost use lib.ListN.{length, getD};
 ghost use Rattle.model.specs.Costs.{keeps};
-ghost use Rattle.model.specs.Sheets.{mostRows};
+ghost use Rattle.model.specs.Sheets.{mostSegs};
 ghost use Rattle.figures.specs.Buckets.{lastBucket};
 ghost use Rattle.figures.specs.Pass.{Paired, IsFirstRow, IsBucket};
-ghost use Rattle.figures.specs.Quotients.{quotientOf, allPast, Quoted, QuotedIfLong, Looked, Found, Rest};
+ghost use Rattle.figures.specs.Quotients.{unitsFor, quotientOf, rateOf, allPast, Listed, Quoted, Rated, Looked, Found, Rest, IsPlace};
 
-// How many units a quotient of 1 has. The product of a swap cost and a d is at most that, so that a reuse above a threshold has the
-// greater quotient, though both are rounded down.
-const UNITS: u64 = 68_719_476_736;
+// How many units a quotient of 1 has, for a weight of volume of 0 and for others. They are at least the product of an unreferenced time, a
+// swap cost and a d of a sheet, so that a reuse above a threshold has the greater quotient, though a rate and a threshold's quotient are
+// rounded down; and few enough that no quotient of a reuse has its top bit set.
+const UNITS_WEIGHTLESS: u64 = 134_217_728;
+
+const UNITS: u64 = 140_737_488_355_328;
 
 // The largest number whose top bit is clear. It is past the quotient of every reuse.
 const BELOW_TOP: u64 = 9_223_372_036_854_775_807;
-
-// A retention has a quotient where it is less than this, a swap cost where it is not more than that. Those of a sheet have.
-const RETENTIONS: u64 = 134_217_728;
-
-const SWAPS: u64 = 1_048_576;
 
 // `lo` where x is at most y, and else `half` places on. The test is the top bit of a sum: a branch on it would often be mispredicted.
 fn advanced(x: u64, y: u64, lo: usize, half: usize) -> usize
@@ -61,16 +61,32 @@ fn halved(hs: &[u16], ds: &[u16], retention: u64, swap: u64) -> usize
     if lo < hs.len() { lo } else { 64 }
 }
 
+// How many units a quotient of 1 has, where a is the weight of volume.
+fn units(a: u8) -> u64
+    ensures { λ r. ⌜ (r ≡ unitsFor a) × (r ≤ 2 ^ 47) ⌝ }
+{
+    if a == 0 { UNITS_WEIGHTLESS } else { UNITS }
+}
+
 // The quotient of a threshold.
-fn quotient(h: u16, d: u16) -> u64
-    ensures exact { λ r. ⌜ r ≡ quotientOf h d ⌝ }
+fn quotient(units: u64, h: u16, d: u16) -> u64
+    requires { ⌜ units ≤ 2 ^ 47 ⌝ }
+    ensures exact { λ r. ⌜ r ≡ quotientOf units h d ⌝ }
     ensures limits { λ r. ⌜ (r < 2 ^ 63) × (d < 2 ^ 16) ⌝ }
 {
     if d == 0 {
         0
     } else {
-        (h as u64) * UNITS / (d as u64)
+        (h as u64) * units / (d as u64)
     }
+}
+
+// The rate of a segment of size z.
+fn rate(kind: Kind, a: u8, z: u16) -> u64
+    ensures { λ r. ⌜ (r ≡ rateOf kind a z) × (r ≤ 2 ^ 47) ⌝ }
+{
+    let swap = model::swap_cost(a, z).0;
+    pass::unit_cost(kind, z) * units(a) / swap
 }
 
 // 64 quotients without a row.
@@ -80,16 +96,31 @@ fn all_past() -> [u64; 64]
     [BELOW_TOP; 64]
 }
 
-// The quotients of the thresholds; past every reuse's beyond the rows.
-pub fn quotients(hs: &[u16], ds: &[u16]) -> [u64; 64]
+// The quotients of the thresholds, where a is the weight of volume; past every reuse's beyond the rows.
+pub fn quotients(a: u8, hs: &[u16], ds: &[u16]) -> [u64; 64]
     requires { ⌜ Paired (now hs) (now ds) ⌝ }
-    ensures { λ r. ⌜ Quoted (now (hs .entry)) (now (ds .entry)) r ⌝ }
+    ensures { λ r. ⌜ Quoted (unitsFor a) (now (hs .entry)) (now (ds .entry)) r ⌝ }
 {
+    let units = units(a);
     let mut out = all_past();
     let mut r = 0;
     while r < hs.len() {
-        out[r] = quotient(hs[r], ds[r]);
+        out[r] = quotient(units, hs[r], ds[r]);
         r += 1;
+    }
+    out
+}
+
+// The rates of segments of these sizes.
+pub fn rates(kind: Kind, a: u8, sizes: &[u16]) -> [u64; 256]
+    requires { ⌜ length (now sizes) ≤ mostSegs ⌝ }
+    ensures { λ r. ⌜ Rated kind a (now (sizes .entry)) r ⌝ }
+{
+    let mut out = [0u64; 256];
+    let mut i = 0;
+    while i < sizes.len() {
+        out[i] = rate(kind, a, sizes[i]);
+        i += 1;
     }
     out
 }
@@ -142,71 +173,31 @@ fn first_at_least(list: &[u64], x: u64, count: usize) -> usize
     look(list, x, of_1, 1)
 }
 
-// Whether quotients decide for a reuse: there are 64, and the costs are within their range. True only where they do.
-fn decides(count: usize, retention: u64, swap: u64) -> bool
-    ensures { λ r. ⌜ (r ≡ true → (count ≡ mostRows) × (retention < 2 ^ 27) × (swap ≤ 2 ^ 20)) ⌝ }
-{
-    if count != 64 {
-        return false;
-    }
-    if RETENTIONS <= retention {
-        return false;
-    }
-    swap <= SWAPS
-}
-
-// The first row that keeps a reuse; the last bucket where none does. With the quotients it takes at most seven looks at them.
-fn first_row(hs: &[u16], ds: &[u16], qs: &[u64], retention: u64, swap: u64) -> usize
+// The bucket of a single touch: that of the first row that keeps a reuse, found by halving the rows, or the last.
+pub fn bucket(hs: &[u16], ds: &[u16], reuse: bool, retention: u64, swap: u64) -> usize
     requires { ⌜ Paired (now hs) (now ds) ⌝ }
-    requires { ⌜ QuotedIfLong (now hs) (now ds) (now qs) ⌝ }
-    requires { ⌜ (retention < 2 ^ 40) × (1 ≤ swap) × (swap < 2 ^ 40) ⌝ }
-    ensures within { λ r. ⌜ r ≤ lastBucket ⌝ }
-    ensures exact { λ r. ⌜ IsFirstRow (now (hs .entry)) (now (ds .entry)) retention swap r ⌝ }
-{
-    if decides(qs.len(), retention, swap) {
-        let lo = first_at_least(qs, retention * UNITS / swap, hs.len());
-        if lo < hs.len() { lo } else { 64 }
-    } else {
-        halved(hs, ds, retention, swap)
-    }
-}
-
-// The bucket of a touch or an end interval: that of the first row that keeps a reuse, or the last. For a single touch; since `first_row` is
-// called here too, the compiler keeps it apart and puts the small `bucket_of` into the loops.
-pub fn bucket(hs: &[u16], ds: &[u16], qs: &[u64], reuse: bool, retention: u64, swap: u64) -> usize
-    requires { ⌜ Paired (now hs) (now ds) ⌝ }
-    requires { ⌜ QuotedIfLong (now hs) (now ds) (now qs) ⌝ }
-    requires { ⌜ (retention < 2 ^ 40) × (1 ≤ swap) × (swap < 2 ^ 40) ⌝ }
+    requires { ⌜ (retention < 2 ^ 40) × (swap < 2 ^ 40) ⌝ }
     ensures within { λ r. ⌜ r ≤ lastBucket ⌝ }
     ensures exact { λ r. ⌜ IsBucket (now (hs .entry)) (now (ds .entry)) reuse retention swap r ⌝ }
 {
     if reuse {
-        first_row(hs, ds, qs, retention, swap)
+        halved(hs, ds, retention, swap)
     } else {
         64
     }
 }
 
-// The same for loops: a first touch and a single row take no search.
-pub fn bucket_of(
-    hs: &[u16],
-    ds: &[u16],
-    qs: &[u64],
-    reuse: bool,
-    retention: u64,
-    swap: u64,
-) -> usize
-    requires { ⌜ Paired (now hs) (now ds) ⌝ }
-    requires { ⌜ QuotedIfLong (now hs) (now ds) (now qs) ⌝ }
-    requires { ⌜ (retention < 2 ^ 40) × (1 ≤ swap) × (swap < 2 ^ 40) ⌝ }
+// The bucket, after so many steps, of a touch or an end interval of a segment with a rate and a mark, from the quotients of the rows: at most
+// seven looks at them, four where there are no more than 8 rows, one for one row. It is small enough for the compiler to put it into a loop.
+pub fn bucket_of(rows: usize, qs: &[u64], rate: u64, mark: u16, steps: u16) -> usize
+    requires { ⌜ Listed (now qs) rows ⌝ }
+    requires { ⌜ rate ≤ 2 ^ 47 ⌝ }
     ensures within { λ r. ⌜ r ≤ lastBucket ⌝ }
-    ensures exact { λ r. ⌜ IsBucket (now (hs .entry)) (now (ds .entry)) reuse retention swap r ⌝ }
+    ensures exact { λ r. ⌜ IsPlace (now (qs .entry)) rows rate mark steps r ⌝ }
 {
-    if !reuse {
+    if steps < mark {
         return 64;
     }
-    if hs.len() == 1 {
-        return narrowed(hs[0], ds[0], retention, swap, 0, 64);
-    }
-    first_row(hs, ds, qs, retention, swap)
+    let lo = first_at_least(qs, ((steps - mark) as u64) * rate, rows);
+    if lo < rows { lo } else { 64 }
 }

@@ -6,7 +6,7 @@ use native.Mathlib.Omega.{arith}
 use native.Mathlib.Numerals.{add-one}
 use lib.ListN.{length, getD, take}
 use Rattle.model.specs.Traces.{steps}
-use Rattle.model.specs.Sheets.{SheetValue, Valid, traceOf, mostSegs, mostRows, mostRefs}
+use Rattle.model.specs.Sheets.{SheetValue, Valid, traceOf, mostSegs, mostRows, mostRefs, largestSize}
 use Rattle.model.specs.declared.Kind.{Kind}
 use Rattle.model.specs.declared.PriceRow.{PriceRow}
 use Rattle.model.specs.declared.RowFigures.{RowFigures}
@@ -49,6 +49,12 @@ module _ (R : Recorder) (hs ds : List ℕ) (rows-are : rowsOf hs ds ≡ take (mi
   -- so they ascend
   pub rows-ascend : Ascending (rowsOf hs ds)
   rows-ascend = rw rows-stand (valid-ascending v valid)
+
+  -- and its sizes are no larger than a sheet has
+  pub sizes-small : (segs : ℕ) → segs ≡ min (R .segs) mostSegs → (i : ℕ) → i < length (take segs (R .sizes))
+      → getD (take segs (R .sizes)) i 0 ≤ largestSize
+  unfolding recorderOf
+  sizes-small segs segs-are = rw (segs-are) (rw e (rw (sizes-front v valid) (valid .size-within)))
 
   -- the end intervals are those of the sheet's tally
   pub ends-stand : (segs steps : ℕ) → segs ≡ min (R .segs) mostSegs → steps ≡ min (R .refs) mostRefs → (b : List Bucket)

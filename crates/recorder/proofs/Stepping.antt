@@ -116,7 +116,7 @@ module _ (v : SheetValue) (valid : Valid v) (x : ℕ) (lt : x < length (v .sizes
       let size = padded-at (v .sizes) (zeros mostSegs) x 0 lt in
       let small = run .size-within x lt in
       let y-is = rw (s .rows-are, rows-front v valid, size) at
-      (s .touch-is (rw (s .rows-are, rows-front v valid) (valid-ascending v valid))) in
+      (s .touch-is (rw (s .rows-are, rows-front v valid) (valid-ascending v valid)) (rw size (valid .size-within x lt))) in
       let unit-is = rw size at (s .unit-is) in
       let b-is = s .bucket-is (filling-room _ _ n held-buckets (pass .filling) (s .touch .bucket) (s .limited .is-bucket) (s .blank)) in
       let cost-is = s .cost-is (omega (arith, pass .cost-within)) (omega (arith, unit-within (v .kind) (getD (v .sizes) x 0) small)) in

@@ -4,8 +4,8 @@ use figures::Bucket;
 use figures::pass::Touch;
 ghost use mathlib.Core.Path.{_≡_};
 ghost use Prim.Native.Nat.{ℕ, _+_, _*_, _≤_, _<_, _^_, min};
-ghost use lib.ListN.{length};
-ghost use Rattle.model.specs.Sheets.{mostRefs, mostSegs};
+ghost use lib.ListN.{length, getD};
+ghost use Rattle.model.specs.Sheets.{mostRefs, mostSegs, largestSize};
 ghost use Rattle.figures.specs.Pass.{rowsOf, Ascending, Paired, Limited, Within, withTouch};
 ghost use Rattle.figures.specs.Sweep.{added, summed, Holds, Parts};
 ghost use Rattle.recorder.specs.Guards.{Tells, InOrder};
@@ -157,6 +157,20 @@ pub fn ascends(hs: &[u16], ds: &[u16]) -> bool
         } else {
             return false;
         }
+    }
+    true
+}
+
+// Whether no size is larger than a sheet has.
+pub fn sized(sizes: &[u16]) -> bool
+    ensures { λ r. ⌜ Tells r ((i : ℕ) → i < length (now (sizes .entry)) → getD (now (sizes .entry)) i 0 ≤ largestSize) ⌝ }
+{
+    let mut i = 0;
+    while i < sizes.len() {
+        if SIZE < wide(sizes[i]) {
+            return false;
+        }
+        i += 1;
     }
     true
 }

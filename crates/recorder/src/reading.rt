@@ -106,11 +106,12 @@ fn row_of(
     figures::rows::row_figures(kind, a, row, refs, cost, volume, all, kept, ends)
 }
 
-// The buckets of the end intervals at this moment; empty ones where the thresholds do not ascend.
+// The buckets of the end intervals at this moment; empty ones where the thresholds do not ascend or a size is larger than a sheet has.
 fn ends_now(recorder: Recorder) -> [Bucket; 65]
     ensures { λ r. ⌜ ((v : SheetValue) → Valid v → recorder ≡ recorderOf v → r ≡ tallyOf (v .rows) (traceOf v) .ends) ⌝ }
 {
     let kind = recorder.kind;
+    let a = recorder.a;
     let rows = guards::least(recorder.rows, Recorder::MAX_ROWS);
     let segs = guards::least(recorder.segs, Recorder::MAX_SEGS);
     let steps = guards::least(recorder.refs, Recorder::MAX_REFS);
@@ -118,19 +119,27 @@ fn ends_now(recorder: Recorder) -> [Bucket; 65]
     let apart = figures::pass::split(prices);
     let h = apart.h;
     let d = apart.d;
-    let sizes = recorder.sizes;
+    let all_sizes = recorder.sizes;
     let last = recorder.last;
-    if !guards::ascends(&h[..rows], &d[..rows]) {
+    let hs = &h[..rows];
+    let ds = &d[..rows];
+    let sizes = &all_sizes[..segs];
+    if !guards::ascends(hs, ds) {
         return figures::pass::empty_buckets();
     }
-    let none = [0u64; 1];
+    if !guards::sized(sizes) {
+        return figures::pass::empty_buckets();
+    }
+    let quotients = figures::search::quotients(a, hs, ds);
+    let rates = figures::search::rates(kind, a, sizes);
     figures::pass::ends(
         kind,
-        recorder.a,
-        &h[..rows],
-        &d[..rows],
-        &none[..0],
-        &sizes[..segs],
+        a,
+        hs,
+        ds,
+        &quotients,
+        &rates,
+        sizes,
         &last,
         steps as u16,
     )

@@ -22,18 +22,10 @@ pub fn take_one(mut recorder: Recorder, segment: usize) -> Recorder
     let h = apart.h;
     let d = apart.d;
     let kind = recorder.kind;
-    let none = [0u64; 1];
     let z = recorder.sizes[segment];
     let t = recorder.refs;
     let mut x = figures::pass::touch_of(kind, recorder.a, z, recorder.last[segment], t as u16);
-    let k = figures::search::bucket(
-        &h[..rows],
-        &d[..rows],
-        &none[..0],
-        x.reuse,
-        x.retention,
-        x.swap,
-    );
+    let k = figures::search::bucket(&h[..rows], &d[..rows], x.reuse, x.retention, x.swap);
     x.bucket = k;
     let b = recorder.buckets[k];
     recorder.buckets[k] = guards::file(b, x);
@@ -74,11 +66,12 @@ pub fn take_first(recorder: Recorder, refs: &[u16], n: usize) -> Recorder
     let d = apart.d;
     let hs = &h[..rows];
     let ds = &d[..rows];
-    let quotients = figures::search::quotients(hs, ds);
-    let qs = &quotients[..64];
     let kind = recorder.kind;
     let a = recorder.a;
     let sizes = recorder.sizes;
+    let quotients = figures::search::quotients(a, hs, ds);
+    let qs = &quotients[..64];
+    let rates = figures::search::rates(kind, a, &sizes);
     let mut last = recorder.last;
     let mut buckets = recorder.buckets;
     let mut cost = recorder.cost;
@@ -88,8 +81,9 @@ pub fn take_first(recorder: Recorder, refs: &[u16], n: usize) -> Recorder
     while t < n {
         let i = refs[t] as usize;
         let z = sizes[i];
-        let mut x = figures::pass::touch_of(kind, a, z, last[i], count as u16);
-        let k = figures::search::bucket_of(hs, ds, qs, x.reuse, x.retention, x.swap);
+        let mark = last[i];
+        let mut x = figures::pass::touch_of(kind, a, z, mark, count as u16);
+        let k = figures::search::bucket_of(rows, qs, rates[i], mark, count as u16);
         x.bucket = k;
         let mut b = buckets[k];
         b = guards::file(b, x);

@@ -5,6 +5,8 @@ use model::Refusal;
 use model::RowFigures;
 use model::Verdict;
 use sheet::writing::number_length;
+use sheet::writing::put;
+use sheet::writing::put_digits;
 use sheet::writing::put_number;
 ghost use mathlib.Core.Path.{_≡_};
 ghost use Prim.Native.Nat.{_+_, _*_, _≤_, min};
@@ -207,7 +209,8 @@ pub fn write(
     }
 }
 
-// The line for a refusal into a lent place, then its old contents; refusal 11 and no change where the place is shorter.
+// The line for a refusal into a lent place, then its old contents; refusal 11 and no change where the place is shorter. Since `put_digits` is
+// called here too, the compiler keeps it apart and puts the small `put_number` into the writers of lines.
 pub fn write_refusal(why: Refusal, out: &mut [u8]) -> PlaceAnswer
     ensures { λ r. ⌜ (r ≡ placeAnswer (refusedText why) (now (out .entry)))
         × (now (out .exit) ≡ placed (refusedText why) (now (out .entry))) ⌝ }
@@ -220,7 +223,8 @@ pub fn write_refusal(why: Refusal, out: &mut [u8]) -> PlaceAnswer
             length: 0,
         };
     }
-    put_number(b"refused=", n, out, 0);
+    let value = put(b"refused=", out, 0);
+    put_digits(n, 10, out, value);
     PlaceAnswer {
         verdict: Verdict::Accepted,
         length,

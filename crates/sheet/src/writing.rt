@@ -117,7 +117,7 @@ fn text_length(
 // ---- parts
 
 // Copies `text` into `out` from the index `at` on, and gives the index after it.
-fn put(text: &[u8], out: &mut [u8], at: usize) -> usize
+pub fn put(text: &[u8], out: &mut [u8], at: usize) -> usize
     requires { ⌜ at + length (now text) ≤ length (now out) ⌝ }
     ensures { λ r. ⌜ Put (now (text .entry)) at (now (out .entry)) r (now (out .exit)) ⌝ }
 {
@@ -141,7 +141,7 @@ fn put_kind(kind: Kind, out: &mut [u8], at: usize) -> usize
 }
 
 // Writes the digits of `n` and the byte `end` after them, and gives the index after it.
-fn put_digits(n: u64, end: u8, out: &mut [u8], at: usize) -> usize
+pub fn put_digits(n: u64, end: u8, out: &mut [u8], at: usize) -> usize
     requires { ⌜ at + length (written n ++ (end ∷ [])) ≤ length (now out) ⌝ }
     ensures { λ r. ⌜ Put (written n ++ (end ∷ [])) at (now (out .entry)) r (now (out .exit)) ⌝ }
 {

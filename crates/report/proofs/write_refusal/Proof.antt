@@ -1,8 +1,13 @@
--- `report::write_refusal` meets its contract: the line's length decides, and the line is put at the front. Assumes nothing.
+-- `report::write_refusal` meets its contract: the line's length decides, and the line is put at the front, the key and then the number.
+-- Assumes nothing.
 use native.Mathlib.Omega.{arith}
 use borrow.Author.Needs.{needs}
+use lib.ListN.{length-append}
+use Rattle.decimal.specs.Decimal.{written}
+use Rattle.sheet.proofs.Lengths.{line-length}
 use Rattle.sheet.proofs.Placing.{place-short, place-put}
-use Rattle.report.specs.Listing.{refusedText}
+use Rattle.sheet.proofs.Putting.{put-then}
+use Rattle.report.specs.Listing.{refusedKey, refusedText}
 use Rattle.report.proofs.write_refusal.Statement.{statement}
 use Rattle.report.proofs.write_refusal.Tie as tie
 
@@ -22,11 +27,18 @@ returns c =
     let e = rw (l .before .before .number .ensures) at (l .number-length .ensures .0) in
     place-short _ _ (omega arith)
 
-slice-aggregate-put-number : tie.Need-slice-aggregate-put-number
-slice-aggregate-put-number c = search needs
+slice-aggregate-put : tie.Need-slice-aggregate-put
+slice-aggregate-put c = search needs
 
-put-number-requires : tie.Need-put-number-requires
-put-number-requires c κs = search needs
+put-requires : tie.Need-put-requires
+put-requires c κs =
+    let l = c .before .before .before in
+    omega (arith, l .number-length .ensures .0, line-length refusedKey (written (l .before .before .number .result)))
+
+put-digits-requires : tie.Need-put-digits-requires
+put-digits-requires c κs =
+    let l = c .before .before .before .before .before .before .before in
+    rw length-append (omega (arith, l .number-length .ensures .0, line-length refusedKey (written (l .before .before .number .result))))
 
 same-length : tie.Need-same-length
 same-length c = search needs
@@ -34,9 +46,10 @@ same-length c = search needs
 returns-2 : tie.Need-returns-2
 unfolding refusedText
 returns-2 c =
-    let l = c .before .before .before .before .before .before in
+    let p = c .before .before .before .before .before .before in
+    let l = p .before .before .before .before in
     let e = l .before .before .number .ensures in
-    place-put _ _ _ _ _ (rw e at (l .number-length .ensures .0)) (rw e at (c .before .before .put-number .ensures))
+    place-put _ _ _ _ _ (rw e at (l .number-length .ensures .0)) (rw e at (put-then (p .put .ensures) (c .before .before .put-digits .ensures)))
 
 pub write-refusal-spec : {M : Type 1} → statement M
 write-refusal-spec =
@@ -46,7 +59,8 @@ write-refusal-spec =
     slice-aggregate-number-length
     number-length-requires
     returns
-    slice-aggregate-put-number
-    put-number-requires
+    slice-aggregate-put
+    put-requires
+    put-digits-requires
     same-length
     returns-2)

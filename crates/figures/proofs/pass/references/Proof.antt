@@ -4,21 +4,22 @@ use borrow.Author.Needs.{needs}
 use Prim.Native.Nat.{_-_, _<_}
 use native.Mathlib.Omega.{arith}
 use lib.ListN.{length, getD}
-use Rattle.model.specs.Sheets.{traceOf}
+use Rattle.model.specs.Sheets.{SheetValue, Valid, traceOf}
 use Rattle.figures.specs.Pass.{rowsOf, sheetApart, Limited}
 use Rattle.figures.proofs.Filling.{filling-room}
 use Rattle.figures.proofs.Passing.{valid-run, valid-ascending, Passing, passing-start, passing-step, passing-end}
 use Rattle.figures.proofs.Passing.{cost-room, volume-room}
-use Rattle.figures.proofs.Touches.{placed, placed-limited, placed-is}
+use Rattle.figures.proofs.Rates.{touch-placed}
+use Rattle.figures.proofs.Touches.{placed, placed-limited}
 use Rattle.figures.proofs.pass.references.Statement.{statement}
 use Rattle.figures.proofs.pass.references.Tie as tie
 
 abbrev Inv-loop : tie.InvT-loop
-Inv-loop kind a hs ds qs sizes refs buckets₀ last₀ cost₀ volume₀ t₀ buckets last cost volume t =
+Inv-loop kind a hs ds qs rates sizes refs buckets₀ last₀ cost₀ volume₀ t₀ buckets last cost volume t =
     Passing (rowsOf hs ds) (traceOf (sheetApart kind a sizes hs ds refs)) t buckets last cost volume
 
 abbrev μ-loop : tie.MeasureT-loop
-μ-loop kind a hs ds qs sizes refs buckets₀ last₀ cost₀ volume₀ t₀ buckets last cost volume t = length refs - t
+μ-loop kind a hs ds qs rates sizes refs buckets₀ last₀ cost₀ volume₀ t₀ buckets last cost volume t = length refs - t
 
 empty-buckets-requires : tie.Need-empty-buckets-requires Inv-loop μ-loop
 empty-buckets-requires c κs = search needs
@@ -26,17 +27,34 @@ empty-buckets-requires c κs = search needs
 untouched-requires : tie.Need-untouched-requires Inv-loop μ-loop
 untouched-requires c κs = search needs
 
--- the touched segment is among those of the table
-in-table : (c : tie.In-loop Inv-loop μ-loop)
-    → getD (c .before .before .before .before .before .before .before .before .before .args .refs .now) (c .before .loop .t) 0 < 256
-in-table c =
-    let v = c .before .before .before .before .before .before .before .before .before .pre .1 .1 in
-    omega (arith, v .ref-within (c .before .loop .t) (c .loop-test .taken), v .segs-within)
+-- the function's entry, from a turn of the loop; the sheet is valid
+abbrev entry : tie.In-loop Inv-loop μ-loop → tie.Start Inv-loop μ-loop
+entry c = c .before .before .before .before .before .before .before .before .before .before
+
+abbrev args-sheet : tie.Start Inv-loop μ-loop → SheetValue
+args-sheet s =
+    sheetApart (s .args .kind) (s .args .a) (s .args .sizes .now) (s .args .hs .now) (s .args .ds .now) (s .args .refs .now)
+
+valid : (c : tie.In-loop Inv-loop μ-loop) → Valid (args-sheet (entry c))
+valid c = entry c .pre .1 .1 .1
+
+-- the touched segment is one of the sheet, so among those of the table
+is-segment : (c : tie.In-loop Inv-loop μ-loop)
+    → getD (entry c .args .refs .now) (c .before .loop .t) 0 < length (entry c .args .sizes .now)
+is-segment c = valid c .ref-within (c .before .loop .t) (c .loop-test .taken)
+
+in-table : (c : tie.In-loop Inv-loop μ-loop) → getD (entry c .args .refs .now) (c .before .loop .t) 0 < 256
+in-table c = omega (arith, is-segment c, valid c .segs-within)
+
+-- it has a rate
+in-rates : (c : tie.In-loop Inv-loop μ-loop)
+    → getD (entry c .args .refs .now) (c .before .loop .t) 0 < length (entry c .args .rates .now)
+in-rates c = omega (arith, is-segment c, entry c .pre .1 .1 .0 .as-many)
 
 loop-holds : tie.Need-loop-holds Inv-loop μ-loop
 loop-holds c =
-    let s = c .before .before .before .before .before .before .before in
-    rw (c .before .empty-buckets .ensures, c .untouched .ensures) (passing-start _ _ (valid-run _ (s .pre .1 .1)))
+    let s = c .before .before .before .before .before .before .before .before in
+    rw (c .before .empty-buckets .ensures, c .untouched .ensures) (passing-start _ _ (valid-run _ (s .pre .1 .1 .1)))
 
 mul-i : tie.Need-mul-i Inv-loop μ-loop
 mul-i c = omega arith
@@ -51,15 +69,13 @@ mul-z : tie.Need-mul-z Inv-loop μ-loop
 mul-z c = omega (arith, in-table (c .before))
 
 shared-slice-read-z : tie.Need-shared-slice-read-z Inv-loop μ-loop
-shared-slice-read-z c =
-    let d = c .before .before in
-    d .before .before .before .before .before .before .before .before .before .pre .1 .1 .ref-within _ (d .loop-test .taken)
+shared-slice-read-z c = is-segment (c .before .before)
 
-mul-touch-of : tie.Need-mul-touch-of Inv-loop μ-loop
-mul-touch-of c = omega (arith, in-table (c .before .before))
+mul-mark : tie.Need-mul-mark Inv-loop μ-loop
+mul-mark c = omega (arith, in-table (c .before .before))
 
-array-read-touch-of : tie.Need-array-read-touch-of Inv-loop μ-loop
-array-read-touch-of c = in-table (c .before .before)
+array-read-mark : tie.Need-array-read-mark Inv-loop μ-loop
+array-read-mark c = in-table (c .before .before)
 
 cast-touch-of : tie.Need-cast-touch-of Inv-loop μ-loop
 cast-touch-of c = omega arith
@@ -67,11 +83,19 @@ cast-touch-of c = omega arith
 touch-of-requires : tie.Need-touch-of-requires Inv-loop μ-loop
 touch-of-requires c κs = search needs
 
+mul-bucket-of : tie.Need-mul-bucket-of Inv-loop μ-loop
+mul-bucket-of c = omega (arith, in-table (c .before .before .before))
+
+shared-slice-read-bucket-of : tie.Need-shared-slice-read-bucket-of Inv-loop μ-loop
+shared-slice-read-bucket-of c = in-rates (c .before .before .before .before)
+
+cast-bucket-of : tie.Need-cast-bucket-of Inv-loop μ-loop
+cast-bucket-of c = omega arith
+
 bucket-of-requires : tie.Need-bucket-of-requires Inv-loop μ-loop
 bucket-of-requires c κs =
-    let s = c .before .before .before .before .before .before .before .before .before .before .before .before in
-    let l = c .touch-of .ensures .0 in
-    (s .pre .0, (s .pre .1 .0, (omega (arith, l .0 .retention-within), l .1, omega (arith, l .0 .swap-within))))
+    let l = c .before .before .before .before in
+    let s = entry l in (s .pre .1 .0 .listed, s .pre .1 .1 .0 .within _ (in-rates l))
 
 mul-b : tie.Need-mul-b Inv-loop μ-loop
 mul-b c = omega arith
@@ -80,13 +104,13 @@ array-copy-out-b : tie.Need-array-copy-out-b Inv-loop μ-loop
 array-copy-out-b c = omega arith
 
 -- the touch with its bucket
-touch-limited : (c : tie.After-bucket-of Inv-loop μ-loop) → Limited (placed (c .before .touch-of .result) (c .bucket-of .result))
-touch-limited c = placed-limited _ _ (c .before .touch-of .ensures .0 .0) (c .bucket-of .ensures .0)
+touch-limited : (c : tie.After-bucket-of Inv-loop μ-loop) → Limited (placed (c .before .before .touch-of .result) (c .bucket-of .result))
+touch-limited c = placed-limited _ _ (c .before .before .touch-of .ensures .0) (c .bucket-of .ensures .0)
 
 add-touch-requires : tie.Need-add-touch-requires Inv-loop μ-loop
 add-touch-requires c κs =
     let d = c .before in
-    let l = d .before .before .before .before .before in
+    let l = d .before .before .before .before .before .before in
     (filling-room _ _ _ _ (l .loop .inv .filling) _ (d .bucket-of .ensures .0) _, touch-limited d)
 
 mul-buckets : tie.Need-mul-buckets Inv-loop μ-loop
@@ -102,25 +126,27 @@ cast-last : tie.Need-cast-last Inv-loop μ-loop
 cast-last c = omega arith
 
 mul-last : tie.Need-mul-last Inv-loop μ-loop
-mul-last c = omega (arith, in-table (c .before .before .before .before .before .before))
+mul-last c = omega (arith, in-table (c .before .before .before .before .before .before .before))
 
 array-write-last : tie.Need-array-write-last Inv-loop μ-loop
-array-write-last c = in-table (c .before .before .before .before .before .before)
+array-write-last c = in-table (c .before .before .before .before .before .before .before)
 
 unit-cost-requires : tie.Need-unit-cost-requires Inv-loop μ-loop
 unit-cost-requires c κs = search needs
 
+-- a turn of the loop, from its end
+abbrev turn : tie.After-unit-cost Inv-loop μ-loop → tie.In-loop Inv-loop μ-loop
+turn c = c .before .before .before .before .before .before .before .before
+
 add-cost : tie.Need-add-cost Inv-loop μ-loop
 add-cost c =
-    let e = c .before .before .before .before .before .before .before in
-    let v = e .before .before .before .before .before .before .before .before .before .pre .1 .1 in
-    record { fits = cost-room _ _ (valid-run _ v) _ _ _ _ _ (e .before .loop .inv) (e .loop-test .taken) _ (c .unit-cost .ensures) }
+    let e = turn c in
+    record { fits = cost-room _ _ (valid-run _ (valid e)) _ _ _ _ _ (e .before .loop .inv) (e .loop-test .taken) _ (c .unit-cost .ensures) }
 
 add-volume : tie.Need-add-volume Inv-loop μ-loop
 add-volume c =
-    let e = c .before .before .before .before .before .before .before in
-    let v = e .before .before .before .before .before .before .before .before .before .pre .1 .1 in
-    record { fits = volume-room _ _ (valid-run _ v) _ _ _ _ _ (e .before .loop .inv) (e .loop-test .taken) }
+    let e = turn c in
+    record { fits = volume-room _ _ (valid-run _ (valid e)) _ _ _ _ _ (e .before .loop .inv) (e .loop-test .taken) }
 
 cast-volume : tie.Need-cast-volume Inv-loop μ-loop
 cast-volume c = omega (arith, add-volume c)
@@ -131,15 +157,19 @@ loop-less c = omega arith
 loop-again : tie.Need-loop-again Inv-loop μ-loop
 loop-again c =
     let d = c .before .before .before in
-    let e = d .before .before .before .before in
-    let s = e .before .before .before .before .before .before .before .before .before in
-    passing-step _ _ (valid-run _ (s .pre .1 .1)) _ _ _ _ _ (e .before .loop .inv) (e .loop-test .taken) _ (touch-limited d)
-    (placed-is _ _ _ _ _ _ _ _ (d .before .touch-of .ensures .1) (d .bucket-of .ensures .1) (valid-ascending _ (s .pre .1 .1))) _ _ (c .before .add-touch .ensures) _ (c .unit-cost .ensures)
+    let e = turn c in
+    let s = entry e in
+    let v = valid e in
+    let here = is-segment e in
+    passing-step _ _ (valid-run _ v) _ _ _ _ _ (e .before .loop .inv) (e .loop-test .taken) _ (touch-limited d)
+    (touch-placed _ _ _ _ _ (s .pre .0) (s .pre .1 .0) _ _ _ _ _ _ (v .a-within) (v .size-within _ here)
+    (omega (arith, e .loop-test .taken, v .refs-within)) (s .pre .1 .1 .0 .of-segment _ here) (d .before .before .touch-of .ensures .1)
+    (d .bucket-of .ensures .1) (valid-ascending _ v)) _ _ (c .before .add-touch .ensures) _ (c .unit-cost .ensures)
 
 returns : tie.Need-returns Inv-loop μ-loop
 returns c =
-    let s = c .before .before .before .before .before .before .before .before .before in
-    passing-end _ _ (valid-run _ (s .pre .1 .1)) _ _ _ _ _ (c .before .loop .inv) (c .loop-test .left)
+    let s = c .before .before .before .before .before .before .before .before .before .before in
+    passing-end _ _ (valid-run _ (s .pre .1 .1 .1)) _ _ _ _ _ (c .before .loop .inv) (c .loop-test .left)
 
 pub references-spec : {M : Type 1} → statement M
 references-spec =
@@ -155,10 +185,13 @@ references-spec =
     cast-i
     mul-z
     shared-slice-read-z
-    mul-touch-of
-    array-read-touch-of
+    mul-mark
+    array-read-mark
     cast-touch-of
     touch-of-requires
+    mul-bucket-of
+    shared-slice-read-bucket-of
+    cast-bucket-of
     bucket-of-requires
     mul-b
     array-copy-out-b

@@ -57,19 +57,27 @@ paired c =
 quotients-requires : tie.Need-quotients-requires
 quotients-requires c κs = paired c
 
+rates-requires : tie.Need-rates-requires
+rates-requires c κs = c .before .before .before .before .before .before .before .before .pre .1 .segs-within
+
 slice-aggregate-tally-apart : tie.Need-slice-aggregate-tally-apart
 slice-aggregate-tally-apart c = search needs
 
+slice-aggregate-tally-apart-2 : tie.Need-slice-aggregate-tally-apart-2
+slice-aggregate-tally-apart-2 c = search needs
+
 tally-apart-requires : tie.Need-tally-apart-requires
 tally-apart-requires c κs =
-    let q = c .before in
+    let r = c .before .before in
+    let q = r .before in
     let d = q .before in
     let a = d .before .before .before .before in
     let s = a .before .before .before in
-    (paired d, (λ many. q .quotients .ensures, rw (rows-are a) (s .pre .1)))
+    (paired d, (q .quotients .ensures, (r .rates .ensures, rw (rows-are a) (s .pre .1))))
 
 returns : tie.Need-returns
-returns c = rw (← rows-are (c .before .before .before .before .before .before .before)) (c .tally-apart .ensures)
+returns c =
+    rw (← rows-are (c .before .before .before .before .before .before .before .before .before)) (c .tally-apart .ensures)
 
 pub tally-spec : {M : Type 1} → statement M
 tally-spec =
@@ -81,6 +89,8 @@ tally-spec =
     array-share-prefix-d
     slice-aggregate-ds
     quotients-requires
+    rates-requires
     slice-aggregate-tally-apart
+    slice-aggregate-tally-apart-2
     tally-apart-requires
     returns)

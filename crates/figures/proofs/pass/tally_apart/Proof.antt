@@ -17,15 +17,29 @@ cast-ends c = search needs
 
 ends-requires : tie.Need-ends-requires
 ends-requires c κs =
-    let s = c .before .before .before .before .before .before .before .before .before in
-    let v = s .pre .1 .1 in
-    (s .pre .0, (s .pre .1 .0, (valid-ascending _ v, (omega (arith, slice-aggregate-ends c, v .segs-within), v .segs-within))))
+    let s = c .before .before .before .before .before .before .before .before .before .before in
+    let v = s .pre .1 .1 .1 in (
+      s .pre .0,
+      (
+        s .pre .1 .0,
+        (
+          s .pre .1 .1 .0,
+          (
+            valid-ascending _ v,
+            (
+              omega (arith, slice-aggregate-ends c, v .segs-within),
+              record { few-segs = v .segs-within; size-within = v .size-within; few-steps = v .refs-within },
+            ),
+          ),
+        ),
+      ),
+    )
 
 returns : tie.Need-returns
 returns c =
     let d = c .before .before .before .before in
-    let s = d .before .before .before .before .before .before in
-    tally-is _ _ (valid-run _ (s .pre .1 .1)) _ (d .references .ensures) _ (c .ends .ensures)
+    let s = d .before .before .before .before .before .before .before in
+    tally-is _ _ (valid-run _ (s .pre .1 .1 .1)) _ (d .references .ensures) _ (c .ends .ensures)
 
 pub tally-apart-spec : {M : Type 1} → statement M
 tally-apart-spec =

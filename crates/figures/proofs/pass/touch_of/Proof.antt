@@ -25,20 +25,14 @@ retained c =
 returns : tie.Need-returns
 returns c =
     let e = c .before .before in (
-      (
-        record { is-bucket = omega arith; size-within = omega arith; retention-within = retained c; swap-within = swapped e },
-        omega (arith, e .swap-cost .ensures),
-      ),
+      record { is-bucket = omega arith; size-within = omega arith; retention-within = retained c; swap-within = swapped e },
       reuse-is _ _ _ _ _ _ (e .swap-cost .ensures) (c .before .if1 .taken) _ (c .retention-cost .ensures),
     )
 
 returns-2 : tie.Need-returns-2
 returns-2 c =
     let e = c .before in (
-      (
-        record { is-bucket = omega arith; size-within = omega arith; retention-within = omega arith; swap-within = swapped e },
-        omega (arith, e .swap-cost .ensures),
-      ),
+      record { is-bucket = omega arith; size-within = omega arith; retention-within = omega arith; swap-within = swapped e },
       first-is _ _ _ _ _ _ (e .swap-cost .ensures) (c .if1 .left),
     )
 

@@ -1,16 +1,25 @@
 -- `search::quotient` meets its contract: nothing divided by 0 is 0. Assumes nothing.
 use borrow.Author.Needs.{needs}
-use Prim.Native.Nat.{_*_}
+use Prim.Native.Nat.{_-_, _*_, _^_}
 use mathlib.Core.Path.{refl, sym}
 use native.Mathlib.Omega.{arith}
 use native.Mathlib.Nat.{div-zero}
-use Rattle.figures.specs.Quotients.{units, quotientOf}
+use Rattle.model.proofs.Bounds.{product-within}
+use Rattle.figures.specs.Quotients.{quotientOf}
 use Rattle.figures.proofs.Quotients.{quotient-below}
 use Rattle.figures.proofs.search.quotient.Statement.{statement}
 use Rattle.figures.proofs.search.quotient.Tie as tie
 
 mul-result : tie.Need-mul-result
-mul-result c = search needs
+mul-result c =
+    let s = c .before in
+    record {
+      fits =
+          omega (
+            arith,
+            product-within (s .args .h) (s .args .units) (2 ^ 16 - 1) (2 ^ 47) (omega arith) (s .pre),
+          );
+    }
 
 div-result : tie.Need-div-result
 div-result c = search needs
@@ -18,12 +27,12 @@ div-result c = search needs
 returns : tie.Need-returns
 unfolding quotientOf
 returns c =
-    let s = c .before in (rw (c .if1 .taken) (sym (div-zero (s .args .h * units))), (omega arith, omega arith))
+    let s = c .before in (rw (c .if1 .taken) (sym (div-zero (s .args .h * s .args .units))), (omega arith, omega arith))
 
 returns-2 : tie.Need-returns-2
 unfolding quotientOf
 returns-2 c =
-    let s = c .before in (refl, (quotient-below (s .args .h) (s .args .d) (omega arith), omega arith))
+    let s = c .before in (refl, (quotient-below (s .args .units) (s .args .h) (s .args .d) (s .pre) (omega arith), omega arith))
 
 pub quotient-spec : {M : Type 1} → statement M
 quotient-spec = tie.close (tie.spec mul-result div-result returns returns-2)

@@ -9,16 +9,19 @@ use Rattle.figures.proofs.search.quotients.Statement.{statement}
 use Rattle.figures.proofs.search.quotients.Tie as tie
 
 abbrev Inv-loop : tie.InvT-loop
-Inv-loop hs ds out₀ r₀ out r = Quoting hs ds out r
+Inv-loop a hs ds units out₀ r₀ out r = Quoting units hs ds out r
 
 abbrev μ-loop : tie.MeasureT-loop
-μ-loop hs ds out₀ r₀ out r = length hs - r
+μ-loop a hs ds units out₀ r₀ out r = length hs - r
+
+units-requires : tie.Need-units-requires Inv-loop μ-loop
+units-requires c κs = search needs
 
 all-past-requires : tie.Need-all-past-requires Inv-loop μ-loop
 all-past-requires c κs = search needs
 
 loop-holds : tie.Need-loop-holds Inv-loop μ-loop
-loop-holds c = rw (c .all-past .ensures) (quoting-start _ _)
+loop-holds c = rw (c .all-past .ensures) (quoting-start _ _ _)
 
 mul-quotient : tie.Need-mul-quotient Inv-loop μ-loop
 mul-quotient c = omega arith
@@ -50,10 +53,11 @@ loop-less c = omega arith
 loop-again : tie.Need-loop-again Inv-loop μ-loop
 loop-again c =
     let l = c .before .before .before in
-    quoting-step _ _ _ _ (l .before .before .before .before .before .pre .few) (l .before .loop .inv) (l .loop-test .taken) _ (c .quotient .ensures .0) (c .quotient .ensures .1 .0) (c .quotient .ensures .1 .1)
+    quoting-step _ _ _ _ _ (l .before .before .before .before .before .before .pre .few) (l .before .loop .inv) (l .loop-test .taken) _ (c .quotient .ensures .0) (c .quotient .ensures .1 .0) (c .quotient .ensures .1 .1)
 
 returns : tie.Need-returns Inv-loop μ-loop
-returns c = quoting-end _ _ _ _ (c .before .loop .inv) (c .loop-test .left)
+returns c =
+    rw (← c .before .before .before .units .ensures .0) (quoting-end _ _ _ _ _ (c .before .loop .inv) (c .loop-test .left) (c .before .before .before .before .before .before .pre .few))
 
 pub quotients-spec : {M : Type 1} → statement M
 quotients-spec =
@@ -61,6 +65,7 @@ quotients-spec =
     (tie.spec
     Inv-loop
     μ-loop
+    units-requires
     all-past-requires
     loop-holds
     mul-quotient

@@ -7,19 +7,16 @@ use borrow.Author.Needs.{needs}
 use lib.ListN.{length, take}
 use lib.Seq.{length-take-le}
 use Rattle.model.specs.Sheets.{mostRows}
-use Rattle.figures.specs.Pass.{rowsOf}
-use Rattle.recorder.proofs.RowNow.{rows-ascend, ends-stand}
+use Rattle.figures.specs.Pass.{rowsOf, Paired}
+use Rattle.recorder.proofs.RowNow.{rows-ascend, sizes-small, ends-stand}
 use Rattle.recorder.proofs.Stepping.{clamped-rows}
 use Rattle.recorder.proofs.Telling.{failed, passed}
 use Rattle.recorder.proofs.reading.ends_now.Statement.{statement}
 use Rattle.recorder.proofs.reading.ends_now.Tie as tie
 
--- places on the way: the split prices from the end of the copies, and from after the test of the rows
+-- a place on the way: the split prices, from the end of the copies
 abbrev apart : tie.After-last → tie.After-split
 apart c = c .before .before .before .before
-
-abbrev apart-tested : tie.Else1 → tie.After-split
-apart-tested c = apart (c .before .before .before .before)
 
 -- there are 64 prices of each kind
 h-apart : (c : tie.After-split) → length (c .split .result .h) ≡ 64
@@ -66,78 +63,117 @@ split-requires c κs = search needs
 array-share-prefix-h : tie.Need-array-share-prefix-h
 array-share-prefix-h c = omega (arith, h-apart (apart c), few-rows (apart c))
 
-slice-aggregate-ascends : tie.Need-slice-aggregate-ascends
-slice-aggregate-ascends c = sym (length-take-le _ _ (array-share-prefix-h (c .before)))
+slice-aggregate-hs : tie.Need-slice-aggregate-hs
+slice-aggregate-hs c = sym (length-take-le _ _ (array-share-prefix-h (c .before)))
 
 array-share-prefix-d : tie.Need-array-share-prefix-d
 array-share-prefix-d c = omega (arith, d-apart (apart (c .before)), few-rows (apart (c .before)))
 
-slice-aggregate-ascends-2 : tie.Need-slice-aggregate-ascends-2
-slice-aggregate-ascends-2 c = sym (length-take-le _ _ (array-share-prefix-d (c .before)))
+slice-aggregate-ds : tie.Need-slice-aggregate-ds
+slice-aggregate-ds c = sym (length-take-le _ _ (array-share-prefix-d (c .before)))
+
+array-share-prefix-all-sizes : tie.Need-array-share-prefix-all-sizes
+array-share-prefix-all-sizes c =
+    let p = apart (c .before .before) in omega (arith, sizes-length (p .before .before .before .before .before), few-segs p)
+
+slice-aggregate-sizes : tie.Need-slice-aggregate-sizes
+slice-aggregate-sizes c = sym (length-take-le _ _ (array-share-prefix-all-sizes (c .before)))
+
+-- the prices lent are as many as the rows
+paired : (c : tie.After-all-sizes2)
+    → Paired (take (apart (c .before .before .before) .before .before .before .before .least .result) (apart (c .before .before .before) .split .result .h))
+    (take (apart (c .before .before .before) .before .before .before .before .least .result) (apart (c .before .before .before) .split .result .d))
+paired c =
+    let h = slice-aggregate-hs (c .before .before) in
+    let d = slice-aggregate-ds (c .before) in
+    record { equal = sym h ∙ d; few = omega (arith, h, few-rows (apart (c .before .before .before))) }
 
 ascends-requires : tie.Need-ascends-requires
-ascends-requires c κs = let h = slice-aggregate-ascends (c .before) in
-    let d = slice-aggregate-ascends-2 c in
-    record { equal = sym h ∙ d; few = omega (arith, h, few-rows (apart (c .before .before))) }
+ascends-requires c κs = paired c
 
 empty-buckets-requires : tie.Need-empty-buckets-requires
 empty-buckets-requires c κs = search needs
 
-returns : tie.Need-returns
-returns c = let p = apart (c .before .before .before .before .before) in
-    λ v valid e. absurd (failed (c .before .before .ascends .ensures) (c .before .if1 .taken) (rows-ascend _ _ _ (rows-are p) v valid e))
+-- the split prices, from after the test of the rows
+abbrev tested : tie.After-ascends → tie.After-split
+tested c = apart (c .before .before .before .before)
 
-array-share-prefix-h-2 : tie.Need-array-share-prefix-h-2
-array-share-prefix-h-2 c = omega (arith, h-apart (apart-tested c), few-rows (apart-tested c))
+returns : tie.Need-returns
+returns c =
+    let t = c .before .before in
+    λ v valid e. absurd (failed (t .ascends .ensures) (c .before .if1 .taken) (rows-ascend _ _ _ (rows-are (tested t)) v valid e))
+
+sized-requires : tie.Need-sized-requires
+sized-requires c κs = search needs
+
+empty-buckets-requires-2 : tie.Need-empty-buckets-requires-2
+empty-buckets-requires-2 c κs = search needs
+
+returns-2 : tie.Need-returns-2
+returns-2 c =
+    let z = c .before .before in
+    let p = tested (z .before .before) in
+    λ v valid e.
+    absurd
+    (failed (z .sized .ensures) (c .before .if2 .taken)
+    (sizes-small _ _ _ (rows-are p) v valid e _ (p .before .before .before .least2 .ensures)))
+
+quotients-requires : tie.Need-quotients-requires
+quotients-requires c κs = paired (c .before .before .before .before)
+
+-- no more sizes are lent than a sheet has
+few-sizes : (c : tie.After-all-sizes2) → length (take (apart (c .before .before .before) .before .before .before .least2 .result)
+    (apart (c .before .before .before) .before .before .before .before .before .args .recorder .sizes)) ≤ 256
+few-sizes c = omega (arith, slice-aggregate-sizes c, few-segs (apart (c .before .before .before)))
+
+rates-requires : tie.Need-rates-requires
+rates-requires c κs = few-sizes (c .before .before .before .before .before)
 
 slice-aggregate-ends : tie.Need-slice-aggregate-ends
-slice-aggregate-ends c = sym (length-take-le _ _ (array-share-prefix-h-2 (c .before)))
-
-array-share-prefix-d-2 : tie.Need-array-share-prefix-d-2
-array-share-prefix-d-2 c = omega (arith, d-apart (apart-tested (c .before)), few-rows (apart-tested (c .before)))
+slice-aggregate-ends c = search needs
 
 slice-aggregate-ends-2 : tie.Need-slice-aggregate-ends-2
-slice-aggregate-ends-2 c = sym (length-take-le _ _ (array-share-prefix-d-2 (c .before)))
-
-array-share-prefix-none : tie.Need-array-share-prefix-none
-array-share-prefix-none c = search needs
+slice-aggregate-ends-2 c = search needs
 
 slice-aggregate-ends-3 : tie.Need-slice-aggregate-ends-3
-slice-aggregate-ends-3 c = refl
-
-array-share-prefix-sizes : tie.Need-array-share-prefix-sizes
-array-share-prefix-sizes c =
-    let p = apart-tested (c .before .before .before) in
-    omega (arith, sizes-length (p .before .before .before .before .before), few-segs p)
-
-slice-aggregate-ends-4 : tie.Need-slice-aggregate-ends-4
-slice-aggregate-ends-4 c = sym (length-take-le _ _ (array-share-prefix-sizes (c .before)))
-
-slice-aggregate-ends-5 : tie.Need-slice-aggregate-ends-5
-slice-aggregate-ends-5 c = search needs
+slice-aggregate-ends-3 c =
+    let p = tested (c .before .before .before .before .before .before .before .before) in
+    sym (last-length (p .before .before .before .before .before))
 
 cast-ends : tie.Need-cast-ends
 cast-ends c = search needs
 
 ends-requires : tie.Need-ends-requires
 ends-requires c κs =
-    let t = c .before .before .before .before .before in
-    let h = slice-aggregate-ends (c .before .before .before .before) in
-    let d = slice-aggregate-ends-2 (c .before .before .before) in
-    let z = slice-aggregate-ends-4 (c .before) in
-    let p = apart-tested t in (
-      record { equal = sym h ∙ d; few = omega (arith, h, few-rows p) },
+    let r = c .before .before .before in
+    let q = r .before in
+    let z = q .before .before in
+    let t = z .before .before in
+    let a = t .before in
+    let p = tested t in (
+      paired a,
       (
-        λ many. absurd (omega (arith, many)),
+        q .quotients .ensures,
         (
-          passed (t .before .ascends .ensures) (t .if1 .left),
-          (omega (arith, z, few-segs p, last-length (p .before .before .before .before .before)), omega (arith, z, few-segs p)),
+          r .rates .ensures,
+          (
+            passed (t .ascends .ensures) (z .before .if1 .left),
+            (
+              omega (arith, few-sizes a, last-length (p .before .before .before .before .before)),
+              record {
+                few-segs = few-sizes a;
+                size-within = passed (z .sized .ensures) (q .before .if2 .left);
+                few-steps = omega (arith, p .before .before .least3 .ensures);
+              },
+            ),
+          ),
         ),
       ),
     )
 
-returns-2 : tie.Need-returns-2
-returns-2 c = let p = apart-tested (c .before .before .before .before .before .before) in
+returns-3 : tie.Need-returns-3
+returns-3 c =
+    let p = tested (c .before .before .before .before .before .before .before .before .before) in
     λ v valid e.
     ends-stand _ _ _ (rows-are p) v valid e _ _
     (p .before .before .before .least2 .ensures) (p .before .before .least3 .ensures) _ (c .ends .ensures)
@@ -151,21 +187,22 @@ ends-now-spec =
     least-requires-3
     split-requires
     array-share-prefix-h
-    slice-aggregate-ascends
+    slice-aggregate-hs
     array-share-prefix-d
-    slice-aggregate-ascends-2
+    slice-aggregate-ds
+    array-share-prefix-all-sizes
+    slice-aggregate-sizes
     ascends-requires
     empty-buckets-requires
     returns
-    array-share-prefix-h-2
+    sized-requires
+    empty-buckets-requires-2
+    returns-2
+    quotients-requires
+    rates-requires
     slice-aggregate-ends
-    array-share-prefix-d-2
     slice-aggregate-ends-2
-    array-share-prefix-none
     slice-aggregate-ends-3
-    array-share-prefix-sizes
-    slice-aggregate-ends-4
-    slice-aggregate-ends-5
     cast-ends
     ends-requires
-    returns-2)
+    returns-3)

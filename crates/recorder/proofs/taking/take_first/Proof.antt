@@ -1,6 +1,6 @@
 -- `recorder::taking::take_first` meets its contract. The loop's invariant: what the locals hold stands for the sheet with the references
 -- passed. The measure is what is left of the n references. Assumes nothing.
-use Prim.Native.Nat.{ℕ, _+_, _-_, _≤_, _<_, min}
+use Prim.Native.Nat.{ℕ, _+_, _-_, _^_, _≤_, _<_, min}
 use mathlib.Core.List.{List}
 use mathlib.Core.Path.{_≡_, refl, sym, ap, _∙_}
 use native.Mathlib.Omega.{arith}
@@ -11,7 +11,8 @@ use Rattle.model.specs.Sheets.{SheetValue, Valid}
 use Rattle.model.specs.Sheets.{mostSegs, mostRows, mostRefs}
 use Rattle.figures.specs.Pass.{rowsOf, Paired}
 use Rattle.figures.specs.declared.Bucket.{Bucket}
-use Rattle.figures.proofs.Touches.{placed, placed-limited, placed-is}
+use Rattle.figures.proofs.Rates.{touch-placed}
+use Rattle.figures.proofs.Touches.{placed, placed-limited}
 use Rattle.recorder.proofs.Bulk.{takable-of, takable-valid, appended-more, appended-none}
 use Rattle.recorder.proofs.Stepping.{clamped-rows, stepped-stands}
 use Rattle.recorder.specs.Guards.{appended}
@@ -38,21 +39,29 @@ with-these R count last buckets cost volume =
     }
 
 abbrev Inv-loop : tie.InvT-loop
-Inv-loop recorder refs n rows prices hs ds qs kind a sizes last₀ buckets₀ cost₀ volume₀ count₀ t₀ last buckets cost volume count t =
+Inv-loop recorder refs n rows prices kind a sizes qs rates last₀ buckets₀ cost₀ volume₀ count₀ t₀ last buckets cost volume count t =
     (t ≤ n) × (count ≡ recorder .refs + t)
     × ((v : SheetValue) → Valid v → recorder ≡ recorderOf v
     → with-these recorder count last buckets cost volume ≡ recorderOf (appended v (take t refs)))
 
 abbrev μ-loop : tie.MeasureT-loop
-μ-loop recorder refs n rows prices hs ds qs kind a sizes last₀ buckets₀ cost₀ volume₀ count₀ t₀ last buckets cost volume count t =
+μ-loop recorder refs n rows prices kind a sizes qs rates last₀ buckets₀ cost₀ volume₀ count₀ t₀ last buckets cost volume count t =
     n - t
 
 -- places on the way: the function's entry and the split prices, from a turn of the loop
 abbrev entry : tie.In-loop Inv-loop μ-loop → tie.Start Inv-loop μ-loop
-entry c = c .before .before .before .before .before .before .before .before .before .before .before .before .before .before .before
+entry c =
+    c .before .before .before .before .before .before .before .before .before .before .before .before .before .before .before .before .before
 
 abbrev apart : tie.In-loop Inv-loop μ-loop → tie.After-split Inv-loop μ-loop
-apart c = c .before .before .before .before .before .before .before .before .before .before .before
+apart c = c .before .before .before .before .before .before .before .before .before .before .before .before .before
+
+-- the rates and the quotients
+abbrev rated : tie.In-loop Inv-loop μ-loop → tie.After-rates Inv-loop μ-loop
+rated c = c .before .before .before .before
+
+abbrev quoted : tie.In-loop Inv-loop μ-loop → tie.After-quotients Inv-loop μ-loop
+quoted c = rated c .before .before .before
 
 -- there are 64 prices of each kind
 h-apart : (c : tie.After-split Inv-loop μ-loop) → length (c .split .result .h) ≡ 64
@@ -110,10 +119,32 @@ paired c =
     record { equal = sym h ∙ d; few = omega (arith, h, few-rows (c .before .before .before .before)) }
 
 quotients-requires : tie.Need-quotients-requires Inv-loop μ-loop
-quotients-requires c κs = paired c
+quotients-requires c κs = paired (c .before)
 
 slice-aggregate-qs : tie.Need-slice-aggregate-qs Inv-loop μ-loop
 slice-aggregate-qs c = search needs
+
+slice-aggregate-rates : tie.Need-slice-aggregate-rates Inv-loop μ-loop
+slice-aggregate-rates c = search needs
+
+-- there are 256 sizes and rates
+sizes-length : (s : tie.Start Inv-loop μ-loop) → length (s .args .recorder .sizes) ≡ 256
+sizes-length s = search needs
+
+rates-requires : tie.Need-rates-requires Inv-loop μ-loop
+rates-requires c κs = omega (arith, slice-aggregate-rates c)
+
+rates-length : (c : tie.After-rates Inv-loop μ-loop) → length (c .rates .result) ≡ 256
+rates-length c = search needs
+
+-- the weight of volume has 8 bits
+a-within : (s : tie.Start Inv-loop μ-loop) → s .args .recorder .a < 2 ^ 8
+a-within s = search needs
+
+-- as many prices as rows
+row-count : (c : tie.In-loop Inv-loop μ-loop)
+    → apart c .before .before .least .result ≡ length (take (apart c .before .before .least .result) (apart c .split .result .h))
+row-count c = slice-aggregate-hs (quoted c .before .before .before)
 
 loop-holds : tie.Need-loop-holds Inv-loop μ-loop
 loop-holds c = (omega arith, omega arith, λ v valid e. e ∙ ap recorderOf (sym (appended-none v)))
@@ -133,11 +164,11 @@ mul-z c = omega (arith, segment-within (c .before))
 array-read-z : tie.Need-array-read-z Inv-loop μ-loop
 array-read-z c = omega (arith, segment-within (c .before))
 
-mul-touch-of : tie.Need-mul-touch-of Inv-loop μ-loop
-mul-touch-of c = omega (arith, segment-within (c .before))
+mul-mark : tie.Need-mul-mark Inv-loop μ-loop
+mul-mark c = omega (arith, segment-within (c .before))
 
-array-read-touch-of : tie.Need-array-read-touch-of Inv-loop μ-loop
-array-read-touch-of c = omega (arith, segment-within (c .before))
+array-read-mark : tie.Need-array-read-mark Inv-loop μ-loop
+array-read-mark c = omega (arith, segment-within (c .before))
 
 cast-touch-of : tie.Need-cast-touch-of Inv-loop μ-loop
 cast-touch-of c = omega (arith, room (c .before))
@@ -145,15 +176,20 @@ cast-touch-of c = omega (arith, room (c .before))
 touch-of-requires : tie.Need-touch-of-requires Inv-loop μ-loop
 touch-of-requires c κs = search needs
 
+mul-bucket-of : tie.Need-mul-bucket-of Inv-loop μ-loop
+mul-bucket-of c = omega (arith, segment-within (c .before .before))
+
+array-read-bucket-of : tie.Need-array-read-bucket-of Inv-loop μ-loop
+array-read-bucket-of c = omega (arith, segment-within (c .before .before))
+
+cast-bucket-of : tie.Need-cast-bucket-of Inv-loop μ-loop
+cast-bucket-of c = omega (arith, room (c .before .before))
+
 bucket-of-requires : tie.Need-bucket-of-requires Inv-loop μ-loop
 bucket-of-requires c κs =
-    let l = c .touch-of .ensures .0 in
-    let q = c .before .before .before .before .before .before .before .before in (
-      paired (q .before),
-      (
-        λ many. q .quotients .ensures,
-        (omega (arith, l .0 .retention-within), l .1, omega (arith, l .0 .swap-within)),
-      ),
+    let l = c .before .before in (
+      rw (row-count l) (quoted l .quotients .ensures .listed),
+      rated l .rates .ensures .within _ (omega (arith, rates-length (rated l), segment-within l)),
     )
 
 mul-b : tie.Need-mul-b Inv-loop μ-loop
@@ -227,8 +263,11 @@ loop-again c =
             cost = c .before .before .more .result;
             volume = c .more2 .result;
             rows-are = rows-are p;
-            limited = placed-limited _ _ (x .before .touch-of .ensures .0 .0) (x .bucket-of .ensures .0);
-            touch-is = placed-is _ _ _ _ _ _ _ _ (x .before .touch-of .ensures .1) (x .bucket-of .ensures .1);
+            limited = placed-limited _ _ (x .before .touch-of .ensures .0) (x .bucket-of .ensures .0);
+            touch-is = λ up small.
+                touch-placed _ _ _ _ _ (paired (quoted t .before .before)) (quoted t .quotients .ensures) _ _ _ (l .count) _ _ (omega (arith, a-within s)) small
+                (omega (arith, room t)) (rated t .rates .ensures .of-segment _ (omega (arith, sizes-length s, segment-within t)))
+                (x .before .touch-of .ensures .1) (rw (← row-count t) (x .bucket-of .ensures .1)) up;
             bucket-is = c .before .before .before .before .file .ensures;
             unit-is = c .before .before .before .unit-cost .ensures;
             cost-is = c .before .before .more .ensures;
@@ -241,7 +280,8 @@ loop-again c =
 
 returns : tie.Need-returns Inv-loop μ-loop
 returns c =
-    let s = c .before .before .before .before .before .before .before .before .before .before .before .before .before .before .before in
+    let s =
+    c .before .before .before .before .before .before .before .before .before .before .before .before .before .before .before .before .before in
     let all : c .before .loop .t ≡ s .args .n = omega (arith, c .loop-test .left, c .before .loop .inv .0) in
     λ v valid e. c .before .loop .inv .2 v valid e ∙ rw all refl
 
@@ -259,16 +299,21 @@ take-first-spec =
     slice-aggregate-ds
     quotients-requires
     slice-aggregate-qs
+    slice-aggregate-rates
+    rates-requires
     loop-holds
     mul-i
     shared-slice-read-i
     cast-i
     mul-z
     array-read-z
-    mul-touch-of
-    array-read-touch-of
+    mul-mark
+    array-read-mark
     cast-touch-of
     touch-of-requires
+    mul-bucket-of
+    array-read-bucket-of
+    cast-bucket-of
     bucket-of-requires
     mul-b
     array-copy-out-b

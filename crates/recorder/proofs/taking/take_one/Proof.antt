@@ -72,20 +72,14 @@ array-share-prefix-d c =
 slice-aggregate-bucket-2 : tie.Need-slice-aggregate-bucket-2
 slice-aggregate-bucket-2 c = sym (length-take-le _ _ (array-share-prefix-d (c .before)))
 
-array-share-prefix-none : tie.Need-array-share-prefix-none
-array-share-prefix-none c = search needs
-
-slice-aggregate-bucket-3 : tie.Need-slice-aggregate-bucket-3
-slice-aggregate-bucket-3 c = refl
-
 bucket-requires : tie.Need-bucket-requires
 bucket-requires c κs =
-    let h = slice-aggregate-bucket (c .before .before) in
-    let d = slice-aggregate-bucket-2 (c .before) in
-    let t = c .before .before .before in
+    let h = slice-aggregate-bucket (c .before) in
+    let d = slice-aggregate-bucket-2 c in
+    let t = c .before .before in
     let l = t .touch-of .ensures .0 in (
       record { equal = sym h ∙ d; few = omega (arith, h, few-rows (t .before .before .before .before .before)) },
-      (λ many. absurd (omega (arith, many)), (omega (arith, l .0 .retention-within), l .1, omega (arith, l .0 .swap-within))),
+      (omega (arith, l .retention-within), omega (arith, l .swap-within)),
     )
 
 mul-b : tie.Need-mul-b
@@ -97,8 +91,8 @@ element-copy-out-b c = search needs
 file-requires : tie.Need-file-requires
 file-requires c κs = search needs
 
-mul-t16 : tie.Need-mul-t16
-mul-t16 c = search needs
+mul-t15 : tie.Need-mul-t15
+mul-t15 c = search needs
 
 element-set-from-recorder : tie.Need-element-set-from-recorder
 element-set-from-recorder c = search needs
@@ -133,7 +127,7 @@ more-requires-2 c κs = search needs
 returns : tie.Need-returns
 returns c =
     let x = c .before .before .before .before .before .before in
-    let y = x .before .before .before .before in
+    let y = x .before .before .before in
     let p = y .before .before .before .before .before in
     let s = p .before .before .before in
     stepped-stands (s .args .t1) _ (s .args .segment) (s .pre .0) (s .pre .1)
@@ -147,8 +141,8 @@ returns c =
       cost = c .before .before .more .result;
       volume = c .more2 .result;
       rows-are = rows-are p;
-      limited = placed-limited _ _ (y .touch-of .ensures .0 .0) (x .bucket .ensures .0);
-      touch-is = placed-is _ _ _ _ _ _ _ _ (y .touch-of .ensures .1) (x .bucket .ensures .1);
+      limited = placed-limited _ _ (y .touch-of .ensures .0) (x .bucket .ensures .0);
+      touch-is = λ up small. placed-is _ _ _ _ _ _ _ _ (y .touch-of .ensures .1) (x .bucket .ensures .1) up;
       bucket-is = c .before .before .before .before .file .ensures;
       unit-is = c .before .before .before .unit-cost .ensures;
       cost-is = c .before .before .more .ensures;
@@ -172,13 +166,11 @@ take-one-spec =
     slice-aggregate-bucket
     array-share-prefix-d
     slice-aggregate-bucket-2
-    array-share-prefix-none
-    slice-aggregate-bucket-3
     bucket-requires
     mul-b
     element-copy-out-b
     file-requires
-    mul-t16
+    mul-t15
     element-set-from-recorder
     add-recorder
     cast-recorder

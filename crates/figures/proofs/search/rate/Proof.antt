@@ -1,0 +1,51 @@
+-- `search::rate` meets its contract. Assumes nothing.
+use borrow.Author.Needs.{needs}
+use Prim.Native.Nat.{_-_, _^_}
+use mathlib.Core.Path.{refl}
+use native.Mathlib.Omega.{arith}
+use Rattle.model.proofs.Bounds.{product-within}
+use Rattle.figures.specs.Quotients.{quotientOf, rateOf}
+use Rattle.figures.proofs.Rates.{rate-within}
+use Rattle.figures.proofs.Touches.{unit-within}
+use Rattle.figures.proofs.search.rate.Statement.{statement}
+use Rattle.figures.proofs.search.rate.Tie as tie
+
+swap-cost-requires : tie.Need-swap-cost-requires
+swap-cost-requires c κs = search needs
+
+unit-cost-requires : tie.Need-unit-cost-requires
+unit-cost-requires c κs = search needs
+
+units-requires : tie.Need-units-requires
+units-requires c κs = search needs
+
+mul-result : tie.Need-mul-result
+mul-result c =
+    let s = c .before .before .before in
+    let unit = unit-within (s .args .kind) (s .args .z) (omega arith) in
+    record {
+      fits =
+          omega (
+            arith,
+            c .before .unit-cost .ensures,
+            product-within (c .before .unit-cost .result) (c .units .result) (2 ^ 16 - 1) (2 ^ 47)
+                (omega (arith, unit, c .before .unit-cost .ensures)) (c .units .ensures .1),
+          );
+    }
+
+div-result : tie.Need-div-result
+div-result c = omega (arith, c .before .before .swap-cost .ensures)
+
+returns : tie.Need-returns
+unfolding rateOf quotientOf
+returns c =
+    let s = c .before .before .before in (
+      rw (c .before .before .swap-cost .ensures, c .before .unit-cost .ensures, c .units .ensures .0) refl,
+      rw (c .before .before .swap-cost .ensures, c .before .unit-cost .ensures, c .units .ensures .0)
+          (rate-within (s .args .kind) (s .args .a) (s .args .z) (omega arith)),
+    )
+
+pub rate-spec : {M : Type 1} → statement M
+rate-spec =
+    tie.close
+    (tie.spec swap-cost-requires unit-cost-requires units-requires mul-result div-result returns)

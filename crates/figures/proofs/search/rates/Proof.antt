@@ -1,0 +1,64 @@
+-- `search::rates` meets its contract. The loop's invariant: the rates of the first i segments are stored. The measure is what is left of
+-- the segments. Assumes nothing.
+use borrow.Author.Needs.{needs}
+use Prim.Native.Nat.{_-_}
+use native.Mathlib.Omega.{arith}
+use lib.ListN.{length}
+use Rattle.figures.proofs.Rates.{Rating, rating-start, rating-step, rating-end}
+use Rattle.figures.proofs.search.rates.Statement.{statement}
+use Rattle.figures.proofs.search.rates.Tie as tie
+
+abbrev Inv-loop : tie.InvT-loop
+Inv-loop kind a sizes out₀ i₀ out i = Rating kind a sizes out i
+
+abbrev μ-loop : tie.MeasureT-loop
+μ-loop kind a sizes out₀ i₀ out i = length sizes - i
+
+loop-holds : tie.Need-loop-holds Inv-loop μ-loop
+loop-holds c = rating-start _ _ _
+
+mul-rate : tie.Need-mul-rate Inv-loop μ-loop
+mul-rate c = omega arith
+
+shared-slice-read-rate : tie.Need-shared-slice-read-rate Inv-loop μ-loop
+shared-slice-read-rate c = omega arith
+
+rate-requires : tie.Need-rate-requires Inv-loop μ-loop
+rate-requires c κs = search needs
+
+mul-out : tie.Need-mul-out Inv-loop μ-loop
+mul-out c = omega arith
+
+array-write-out : tie.Need-array-write-out Inv-loop μ-loop
+array-write-out c = omega arith
+
+add-i : tie.Need-add-i Inv-loop μ-loop
+add-i c = omega arith
+
+loop-less : tie.Need-loop-less Inv-loop μ-loop
+loop-less c = omega arith
+
+loop-again : tie.Need-loop-again Inv-loop μ-loop
+loop-again c =
+    let l = c .before .before in
+    rating-step _ _ _ _ _ (l .before .before .before .pre) (l .before .loop .inv) (l .loop-test .taken) _ (c .rate .ensures .0) (c .rate .ensures .1)
+
+returns : tie.Need-returns Inv-loop μ-loop
+returns c = rating-end _ _ _ _ _ (c .before .loop .inv) (c .loop-test .left) (c .before .before .before .pre)
+
+pub rates-spec : {M : Type 1} → statement M
+rates-spec =
+    tie.close
+    (tie.spec
+    Inv-loop
+    μ-loop
+    loop-holds
+    mul-rate
+    shared-slice-read-rate
+    rate-requires
+    mul-out
+    array-write-out
+    add-i
+    loop-less
+    loop-again
+    returns)
