@@ -92,13 +92,16 @@ impl Input {
             .collect()
     }
 
-    /// Rows whose thresholds are spread over the ratios R/w of the reuses, filled up with others.
+    /// Rows whose thresholds are spread over the ratios R/w of the reuses, filled up with others; any where there is no reuse.
     fn rows(&self, prng: &mut Prng, ratios: &[(u64, u64)]) -> Vec<(u64, u64)> {
         let mut rows: Vec<(u64, u64)> = Vec::new();
         let mut tries = 0;
         while rows.len() < self.rows {
             tries += 1;
-            let (retention, swap) = ratios[prng.below(ratios.len() as u64) as usize];
+            let (retention, swap) = match ratios {
+                [] => (prng.between(1, 65_535), prng.between(1, 65_535)),
+                _ => ratios[prng.below(ratios.len() as u64) as usize],
+            };
             let scale = prng.between(20_000, 65_535);
             let (mut h, mut d) =
                 if retention < swap { (scale * retention / swap, scale) } else { (scale, scale * swap / retention) };

@@ -5,14 +5,18 @@
 //! Every number is the mean over 16 or more different sheets, taken in rotation, of the best time of each. Baseline and library take
 //! turns, so that both meet the same load of the machine.
 
+mod growth;
 mod inputs;
-mod summary;
 
 use inputs::Input;
 use plain::{Figures, Recorder, Sheet};
 use std::hint::black_box;
 use std::time::{Duration, Instant};
-use summary::{Line, ALL_FIGURES, FIGURES, LISTING, READING};
+
+const READING: &str = "reading (check)";
+const FIGURES: &str = "figures of one row, from bytes";
+const ALL_FIGURES: &str = "all figures, from bytes";
+const LISTING: &str = "listing, from bytes";
 
 /// No call to be measured.
 const NONE: Option<fn(usize)> = None;
@@ -31,12 +35,11 @@ fn main() {
         "{:<40} {:<36} {:>9} {:>9} {:>6}",
         "operation", "input (times in microseconds)", "baseline", "library", "ratio"
     );
-    let mut lines = Vec::new();
     for input in Input::all() {
-        Table { input, budget, lines: &mut lines }.measure();
+        Table { input, budget }.measure();
     }
     println!();
-    summary::print(&lines);
+    growth::print(budget);
 }
 
 fn milliseconds() -> u64 {
@@ -59,12 +62,17 @@ impl Best {
         Best(vec![Duration::MAX; count])
     }
 
+    /// Calls once, for a number.
+    fn time(&mut self, number: usize, call: impl FnOnce()) {
+        let start = Instant::now();
+        call();
+        self.0[number] = start.elapsed().min(self.0[number]);
+    }
+
     /// Calls once for each number.
     fn round(&mut self, call: &mut impl FnMut(usize)) {
-        for (number, least) in self.0.iter_mut().enumerate() {
-            let start = Instant::now();
-            call(number);
-            *least = start.elapsed().min(*least);
+        for number in 0..self.0.len() {
+            self.time(number, || call(number));
         }
     }
 
@@ -116,20 +124,13 @@ fn floors(budget: Duration) {
 }
 
 /// The lines of one input.
-struct Table<'a> {
+struct Table {
     input: Input,
     budget: Duration,
-    lines: &'a mut Vec<Line>,
 }
 
-impl Table<'_> {
-    fn line(
-        &mut self,
-        operation: &'static str,
-        count: usize,
-        baseline: impl FnMut(usize),
-        library: Option<impl FnMut(usize)>,
-    ) {
+impl Table {
+    fn line(&self, operation: &str, count: usize, baseline: impl FnMut(usize), library: Option<impl FnMut(usize)>) {
         let title = self.input.title();
         let (baseline, library) = times(self.budget, count, baseline, library);
         let (shown, ratio) = match library {
@@ -137,10 +138,9 @@ impl Table<'_> {
             None => ("-".to_string(), "-".to_string()),
         };
         println!("{operation:<40} {title:<36} {baseline:>9.2} {shown:>9} {ratio:>6}");
-        self.lines.push(Line { operation, input: self.input, baseline, library });
     }
 
-    fn measure(&mut self) {
+    fn measure(&self) {
         let bytes = self.input.sheets();
         let read: Vec<Sheet> = bytes.iter().map(|bytes| read(bytes)).collect();
         let row = self.input.rows as u64 / 2;
@@ -160,7 +160,7 @@ impl Table<'_> {
     }
 
     /// Reading, figures and the listing, each from the bytes of a sheet.
-    fn figures(&mut self, bytes: &[Vec<u8>], row: u64) {
+    fn figures(&self, bytes: &[Vec<u8>], row: u64) {
         let count = bytes.len();
         let mut sheet = Sheet::empty();
         let mut list = [Figures::default(); Sheet::ROWS];
@@ -208,7 +208,7 @@ impl Table<'_> {
     }
 
     /// Writing the optimal schedule and pricing it, each from the bytes of a sheet.
-    fn schedules(&mut self, bytes: &[Vec<u8>], row: u64, schedules: &[Vec<u8>]) {
+    fn schedules(&self, bytes: &[Vec<u8>], row: u64, schedules: &[Vec<u8>]) {
         let count = bytes.len();
         let mut sheet = Sheet::empty();
         let mut other_sheet = Sheet::empty();
@@ -241,7 +241,7 @@ impl Table<'_> {
     }
 
     /// What comes after reading, of the baseline alone.
-    fn after_reading(&mut self, read: &[Sheet], row: u64, schedules: &[Vec<u8>]) {
+    fn after_reading(&self, read: &[Sheet], row: u64, schedules: &[Vec<u8>]) {
         let count = read.len();
         let mut list = [Figures::default(); Sheet::ROWS];
         let mut schedule = vec![0; 65_536];
@@ -260,7 +260,7 @@ impl Table<'_> {
     }
 
     /// The recorder: every reference by a call, and all in one call.
-    fn recorder(&mut self, bytes: &[Vec<u8>], read: &[Sheet]) {
+    fn recorder(&self, bytes: &[Vec<u8>], read: &[Sheet]) {
         let count = bytes.len();
         let started: Vec<Recorder> = bytes.iter().map(|bytes| Recorder::start(bytes).expect("a sheet")).collect();
         let others: Vec<segtrace::Recorder> =

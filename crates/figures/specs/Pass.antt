@@ -134,7 +134,7 @@ bucketOver counts x n k =
 abbrev pub timeOf : ℕ → ℕ → Option ℕ
 timeOf n mark = cond (leb mark n) (some (n - mark)) none
 
--- x is the touch, after n steps, of a segment of size z with a mark, where the thresholds ascend and no sheet's size is exceeded
+-- x is the touch, after n steps, of a segment of size z with a mark, where the thresholds ascend and z is at most a sheet's largest size
 abbrev pub IsTouch : Kind → ℕ → List ℕ → List ℕ → ℕ → ℕ → ℕ → Touch → Type 0
 IsTouch kind a hs ds z mark n x = Ascending (rowsOf hs ds) → z ≤ largestSize → x ≡ touchOf kind a (rowsOf hs ds) z (timeOf n mark)
 
