@@ -97,7 +97,6 @@ valid-limits v c =
       segs-within = c .segs-within;
       size-within = c .size-within;
       refs-within = c .refs-within;
-      ref-within = c .ref-within;
     }
 
 -- the counts of a standing sheet are the lengths of its value's lists, and its rows are the value's

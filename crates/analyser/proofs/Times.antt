@@ -9,7 +9,7 @@ use lib.Dec.{eqb}
 use lib.ListN.{getD}
 use Rattle.model.specs.Sheets.{SheetValue, traceOf}
 use Rattle.model.specs.Traces.{Trace, segs, entry, later, unreferenced}
-use Rattle.model.proofs.LastTouches.{unreferenced-below}
+use Rattle.model.proofs.LastTouches.{unreferenced-within}
 use Rattle.model.proofs.Touches.{touched-entry, unreferenced-none, unreferenced-touched, unreferenced-later}
 use Rattle.sheet.specs.Values.{valueOf}
 use Rattle.sheet.specs.declared.Sheet.{Sheet}
@@ -43,7 +43,7 @@ time-within v t i u same = rw same (go (unreferenced (traceOf v) t i) refl)
   where
     go : (o : Option ℕ) → unreferenced (traceOf v) t i ≡ o → timeOf o .time ≤ t
     go none e = omega arith
-    go (some k) e = omega (arith, unreferenced-below (traceOf v) (λ j. refl) t i k e)
+    go (some k) e = omega (arith, unreferenced-within (traceOf v) t i k e)
 
 -- the segment touched at place t of a standing sheet, by its arrays
 module _ (s : Sheet) (c : Standing s) (t : ℕ) (lt : t < s .refs) where

@@ -66,7 +66,7 @@ tally-is rows T run p is e ended =
     over = bucketOver (λ i. x i .reuse) x (segs T)
 
     touch : (i : ℕ) → i < segs T → x i ≡ touchAt rows T (steps T) i
-    touch i l = rw (last-time T (run .fresh) (steps T) i 0 (omega (arith, run .few-segs)) (omega (arith, run .few-steps))) refl
+    touch i l = rw (last-time T (steps T) i 0 (omega (arith, run .few-segs)) (omega (arith, run .few-steps))) refl
 
     same : (k : ℕ) → over k ≡ endBucket rows T (segs T) k
     same k =

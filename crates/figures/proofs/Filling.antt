@@ -3,7 +3,7 @@
 use Prim.Native.Nat.{ℕ, zero, suc, _+_, _*_, _^_, _≤_, _<_}
 use mathlib.Core.Path.{_≡_, refl, sym, _∙_}
 use mathlib.Core.Logic.{⊎-elim}
-use mathlib.Core.Bool.{Bool, true, false, cond}
+use mathlib.Core.Bool.{Bool, true, false, cond, false≢true}
 use mathlib.Core.List.{List}
 use native.Mathlib.Omega.{arith}
 use native.Mathlib.Nat.{add-zero}
@@ -20,7 +20,7 @@ use Rattle.figures.specs.Pass.{Limited, withTouch, Within, gathered, buc
 use Rattle.figures.specs.Sweep.{noBucket}
 use Rattle.figures.specs.declared.Bucket.{Bucket}
 use Rattle.figures.specs.declared.pass.Touch.{Touch}
-use Rattle.figures.proofs.Tables.{getD-tabulate, tabulate-const, tabulate-set}
+use Rattle.figures.proofs.Tables.{getD-tabulate, tabulate-eq, tabulate-const, tabulate-set}
 
 -- a sum of n terms within b
 pub sum-within : (n b : ℕ) (f : ℕ → ℕ) → ((t : ℕ) → t < n → f t ≤ b) → sum n f ≤ n * b
@@ -41,13 +41,13 @@ module _ (counts : ℕ → Bool) (x : ℕ → Touch) where
   unfolding gathered sum
   gathered-none k g = refl
 
-  pub gathered-within : (n k b : ℕ) (g : Touch → ℕ) → ((j : ℕ) → j < n → g (x j) ≤ b) → gathered counts x n k g ≤ n * b
+  pub gathered-within : (n k b : ℕ) (g : Touch → ℕ) → ((j : ℕ) → j < n → counts j ≡ true → g (x j) ≤ b) → gathered counts x n k g ≤ n * b
   unfolding gathered
   gathered-within n k b g le =
       sum-within n b (λ j. adds j k (g (x j))) (λ j l. go (counts j) (eqb (x j .bucket) k) (g (x j)) (le j l))
     where
-      go : (p q : Bool) (v : ℕ) → v ≤ b → cond p (cond q v 0) 0 ≤ b
-      go true true v le = le
+      go : (p q : Bool) (v : ℕ) → (p ≡ true → v ≤ b) → cond p (cond q v 0) 0 ≤ b
+      go true true v le = le refl
       go true false v le = omega arith
       go false q v le = omega arith
 
@@ -110,7 +110,7 @@ module _ (counts : ℕ → Bool) (x : ℕ → Touch) where
   bucket-eq d y n k same equal = simp (gathered-eq d y n k same equal)
 
 -- what holds of every sum over n touches: it is within n times the bound of one
-pub bucket-within : (counts : ℕ → Bool) (x : ℕ → Touch) (n k : ℕ) → ((j : ℕ) → j < n → Limited (x j))
+pub bucket-within : (counts : ℕ → Bool) (x : ℕ → Touch) (n k : ℕ) → ((j : ℕ) → j < n → counts j ≡ true → Limited (x j))
     → Within (bucketOver counts x n k) (n * 2 ^ 48)
 unfolding bucketOver
 bucket-within counts x n k small =
@@ -127,17 +127,17 @@ bucket-within counts x n k small =
     product v z = product-within v z (2 ^ 32) (2 ^ 16)
 
     within : (g : Touch → ℕ) → ((y : Touch) → Limited y → g y ≤ 2 ^ 48) → gathered counts x n k g ≤ n * 2 ^ 48
-    within g bound = gathered-within counts x n k (2 ^ 48) g (λ j l. bound (x j) (small j l))
+    within g bound = gathered-within counts x n k (2 ^ 48) g (λ j l c. bound (x j) (small j l c))
 
--- the buckets of the first n touches x that count, all of them within the limits
+-- the buckets of the first n touches x that count, each of them within the limits
 pub record Filling (counts : ℕ → Bool) (x : ℕ → Touch) (n : ℕ) (buckets : List Bucket) : Type 0 where
   pub few : n ≤ mostRefs
-  pub limited : (j : ℕ) → j < n → Limited (x j)
+  pub limited : (j : ℕ) → j < n → counts j ≡ true → Limited (x j)
   pub buckets-are : buckets ≡ tabulate bucketCount (bucketOver counts x n)
 
 module _ (counts : ℕ → Bool) (x : ℕ → Touch) where
   pub filling-start : Filling counts x 0 allEmpty
-  filling-start = record { few = omega arith; limited = λ j l. absurd (omega arith); buckets-are = buckets-start counts x }
+  filling-start = record { few = omega arith; limited = λ j l c. absurd (omega arith); buckets-are = buckets-start counts x }
 
   module _ (n : ℕ) (buckets : List Bucket) (s : Filling counts x n buckets) where
     filling-entry : (k : ℕ) → k ≤ lastBucket → (d : Bucket) → getD buckets k d ≡ bucketOver counts x n k
@@ -166,7 +166,7 @@ module _ (counts : ℕ → Bool) (x : ℕ → Touch) where
         rw (add-one n)
         (record {
           few = omega arith;
-          limited = λ j l. ⊎-elim (λ e. rw e (rw same at lim)) (λ below. s .limited j below) (last-or-below n j l);
+          limited = λ j l c. ⊎-elim (λ e. rw e (rw same at lim)) (λ below. s .limited j below c) (last-or-below n j l);
           buckets-are =
               rw (is, filling-entry (y .bucket) (lim .is-bucket) d, s .buckets-are, same)
               (buckets-step counts x n (rw same at (within y lim)));
@@ -174,3 +174,16 @@ module _ (counts : ℕ → Bool) (x : ℕ → Touch) where
       where
         within : (y : Touch) → Limited y → y .bucket < bucketCount
         within y lim = omega arith
+
+    -- a touch that does not count changes nothing
+    pub filling-skip : n < mostRefs → counts n ≡ false → Filling counts x (n + 1) buckets
+    filling-skip lt none =
+        rw (add-one n)
+        (record {
+          few = omega arith;
+          limited = λ j l c. ⊎-elim (λ e. absurd (false≢true (sym none ∙ (rw e at c)))) (λ below. s .limited j below c) (last-or-below n j l);
+          buckets-are =
+              s .buckets-are
+              ∙ tabulate-eq bucketCount (bucketOver counts x n) (bucketOver counts x (suc n))
+              (λ k l. sym (bucket-stays counts x n k (λ v. rw none refl)));
+        })

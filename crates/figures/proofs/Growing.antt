@@ -2,7 +2,6 @@
 -- touch is one more step of the pass. Assumes nothing.
 use Prim.Native.Nat.{ℕ, _<_}
 use mathlib.Core.Path.{_≡_, refl, sym, ap, _∙_}
-use mathlib.Core.Logic.{_⊎_, inl, inr}
 use mathlib.Core.List.{List, [], _∷_, _++_}
 use native.Mathlib.Omega.{arith}
 use native.Mathlib.Nat.{le-refl, le-of-lt}
@@ -10,8 +9,7 @@ use lib.Seq.{ext-getD}
 use Rattle.model.specs.Traces.{Trace, segs, steps, entry, unreferenced}
 use Rattle.model.specs.Sheets.{mostRefs}
 use Rattle.model.specs.declared.PriceRow.{PriceRow}
-use Rattle.model.proofs.Sums.{last-or-below}
-use Rattle.model.proofs.Growth.{grown, unitCosts, refSizes, unreferenced-past, sum-agree, steps-grown, entry-grown, grown-agree, grown-past}
+use Rattle.model.proofs.Growth.{grown, unitCosts, refSizes, unreferenced-past, sum-agree, steps-grown, grown-agree, grown-past}
 use Rattle.model.specs.LastTouches.{lastFrom, lastTable}
 use Rattle.model.proofs.LastTouches.{length-lastTable, lastTable-at}
 use Rattle.figures.specs.Buckets.{bucketCount}
@@ -48,7 +46,7 @@ module _ (rows : List PriceRow) (T : Trace) (x : ℕ) where
         filling =
             record {
               few = s .filling .few;
-              limited = λ j l. rw (touch-stays j l) at (s .filling .limited j l);
+              limited = λ j l c. rw (touch-stays j l) at (s .filling .limited j l (rw (grown-agree T x j l) at c));
               buckets-are =
                   s .filling .buckets-are
                   ∙ tabulate-eq bucketCount (bucketOver (touches T) (λ t. touchAt rows T t (entry T t)) (steps T))
@@ -64,18 +62,12 @@ module _ (rows : List PriceRow) (T : Trace) (x : ℕ) where
         volume-within = s .volume-within;
       }
 
--- a run with room for one more reference, to a segment
-pub run-grown : (T : Trace) (x : ℕ) → Run T → x < segs T → steps T < mostRefs → Run (grown T x)
-run-grown T x run lt room =
+-- a run with room for one more step
+pub run-grown : (T : Trace) (x : ℕ) → Run T → steps T < mostRefs → Run (grown T x)
+run-grown T x run room =
     record {
       few-segs = run .few-segs;
       few-steps = omega (arith, steps-grown T x);
       is-entry = λ t l. getD-any (T .refs ++ (x ∷ [])) t 0 (segs T) l;
-      is-segment = λ t l. segment t (last-or-below (steps T) t (omega (arith, steps-grown T x)));
       size-within = run .size-within;
-      fresh = run .fresh;
     }
-  where
-    segment : (t : ℕ) → (t ≡ steps T) ⊎ (t < steps T) → entry (grown T x) t < segs T
-    segment t (inl e) = rw (ap (entry (grown T x)) e ∙ entry-grown T x) lt
-    segment t (inr below) = rw (grown-agree T x t below) (run .is-segment t below)

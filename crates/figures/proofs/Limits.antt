@@ -16,7 +16,7 @@ use Rattle.model.specs.Sheets.{largestA, mostSegs, largestSize, largestPrice, m
 use Rattle.model.specs.declared.Kind.{Kind}
 use Rattle.model.specs.declared.Kind.the-variants.{Time, Space}
 use Rattle.model.proofs.Bounds.{product-within}
-use Rattle.model.proofs.LastTouches.{unreferenced-below}
+use Rattle.model.proofs.LastTouches.{unreferenced-within}
 use Rattle.figures.specs.Buckets.{bucketCount, bucketOf, filed, ended, tallyOf}
 use Rattle.figures.specs.Sweep.{summed, byKind, largestSwap, retentionBound, Holds}
 use Rattle.figures.proofs.Filed.{filed-below, ended-below}
@@ -56,9 +56,9 @@ module _ (s : SheetValue) (v : Valid s) where
 
   -- the unreferenced time, each step counted with at most the largest size
   times-within : (t i x : ℕ) → t ≤ mostRefs → x ≤ largestSize → ofTime (λ k. k * x) (unreferenced (traceOf s) t i) ≤ retentionBound
-  times-within t i x le fit = go (unreferenced (traceOf s) t i) (λ k e. unreferenced-below (traceOf s) (λ j. refl) t i k e)
+  times-within t i x le fit = go (unreferenced (traceOf s) t i) (unreferenced-within (traceOf s) t i)
     where
-      go : (o : Option ℕ) → ((k : ℕ) → o ≡ some k → k < t) → ofTime (λ k. k * x) o ≤ retentionBound
+      go : (o : Option ℕ) → ((k : ℕ) → o ≡ some k → k ≤ t) → ofTime (λ k. k * x) o ≤ retentionBound
       go none below = omega arith
       go (some k) below = product-within k x mostRefs largestSize (omega (arith, below k refl)) fit
 

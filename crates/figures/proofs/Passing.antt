@@ -1,13 +1,12 @@
 -- The loop over the references: what holds after n steps, at the start and at the end. Assumes nothing.
 use Prim.Native.Nat.{ℕ, zero, suc, _+_, _*_, _^_, _≤_, _<_}
 use mathlib.Core.Path.{_≡_, refl, sym, _∙_}
-use mathlib.Core.Bool.{false}
 use mathlib.Core.List.{List, [], _∷_}
 use native.Mathlib.Omega.{arith}
 use native.Mathlib.Nat.{le-antisymm}
 use native.Mathlib.Numerals.{add-one}
 use lib.ListN.{length, getD, set}
-use borrow.Author.Tests.{lt-ltb}
+use borrow.Author.Tests.{lt-ltb, le-ltb}
 use Rattle.model.specs.Sums.{sum}
 use Rattle.model.specs.Traces.{Trace, segs, steps, entry, sizeOf, unitOf, touching}
 use Rattle.model.specs.Figures.{refCost, refVolume}
@@ -15,15 +14,15 @@ use Rattle.model.specs.Sheets.{SheetValue, Valid, traceOf, mostSegs, mostRefs}
 use Rattle.model.specs.declared.PriceRow.{PriceRow}
 use Rattle.model.proofs.Sums.{sum-suc, sum-none}
 use Rattle.model.specs.LastTouches.{lastTable}
-use Rattle.model.proofs.LastTouches.{lastTable-step}
+use Rattle.model.proofs.LastTouches.{lastTable-step, lastTable-idle}
 use Rattle.figures.specs.Buckets.{bucketCount, bucketAfter}
-use Rattle.figures.specs.Pass.{Ascending, touchOf, Limited, withTouch, bucketOver, timeOf, allUntouched, allEmpty, passedOf}
+use Rattle.figures.specs.Pass.{Ascending, touchOf, Limited, withTouch, bucketOver, timeOf, allEmpty, passedOf}
 use Rattle.figures.specs.declared.Bucket.{Bucket}
 use Rattle.figures.specs.declared.pass.Touch.{Touch}
 use Rattle.figures.proofs.Tables.{tabulate-eq}
-use Rattle.figures.proofs.Filling.{Filling, filling-start, filling-step}
+use Rattle.figures.proofs.Filling.{Filling, filling-start, filling-step, filling-skip}
 use Rattle.figures.proofs.Touches.{unit-within, touchAt, touches, bucketAfter-over}
-use Rattle.figures.proofs.Marks.{last-start, last-time}
+use Rattle.figures.proofs.Marks.{last-time}
 
 -- an entry of a list, whatever stands for those beyond it
 pub getD-any : (l : List ℕ) (i d e : ℕ) → i < length l → getD l i d ≡ getD l i e
@@ -31,14 +30,12 @@ getD-any [] i d e lt = absurd (omega arith)
 getD-any (x ∷ l) zero d e lt = refl
 getD-any (x ∷ l) (suc i) d e lt = getD-any l i d e (omega arith)
 
--- a run within the limits, every step of which touches a segment, and before which nothing was touched
+-- a run within the limits
 pub record Run (T : Trace) : Type 0 where
   pub few-segs : segs T ≤ mostSegs
   pub few-steps : steps T ≤ mostRefs
   pub is-entry : (t : ℕ) → t < steps T → getD (T .refs) t 0 ≡ entry T t
-  pub is-segment : (t : ℕ) → t < steps T → entry T t < segs T
   pub size-within : (i : ℕ) → i < segs T → sizeOf T i < 2 ^ 16
-  pub fresh : (i : ℕ) → T .start i ≡ false
 
 pub valid-run : (s : SheetValue) → Valid s → Run (traceOf s)
 valid-run s v =
@@ -46,9 +43,7 @@ valid-run s v =
       few-segs = v .segs-within;
       few-steps = v .refs-within;
       is-entry = λ t lt. getD-any (s .refs) t 0 (length (s .sizes)) lt;
-      is-segment = λ t lt. rw (getD-any (s .refs) t (length (s .sizes)) 0 lt) (v .ref-within t lt);
       size-within = λ i lt. omega (arith, v .size-within i lt);
-      fresh = λ i. refl;
     }
 
 pub valid-ascending : (s : SheetValue) → Valid s → Ascending (s .rows)
@@ -65,12 +60,12 @@ pub record Passing (rows : List PriceRow) (T : Trace) (n : ℕ) (buckets : List 
   pub volume-within : volume ≤ n * 2 ^ 16
 
 module _ (rows : List PriceRow) (T : Trace) (run : Run T) where
-  pub passing-start : Passing rows T 0 allEmpty allUntouched 0 0
-  passing-start =
+  pub passing-start : (last : List ℕ) → last ≡ lastTable T 0 → Passing rows T 0 allEmpty last 0 0
+  passing-start last e =
       record {
         within = omega arith;
         filling = filling-start (touches T) (λ t. touchAt rows T t (entry T t));
-        last-are = last-start T (run .fresh);
+        last-are = e;
         cost-is = sym (sum-none (touching T (λ t i. unitOf T i)));
         cost-within = omega arith;
         volume-is = sym (sum-none (touching T (λ t i. sizeOf T i)));
@@ -78,26 +73,49 @@ module _ (rows : List PriceRow) (T : Trace) (run : Run T) where
       }
 
   -- what the step at place n adds to a sum over touches
-  touching-here : (n : ℕ) → n < steps T → (f : ℕ → ℕ → ℕ) → sum (suc n) (touching T f) ≡ sum n (touching T f) + f n (entry T n)
+  touching-here : (n : ℕ) → entry T n < segs T → (f : ℕ → ℕ → ℕ) → sum (suc n) (touching T f) ≡ sum n (touching T f) + f n (entry T n)
   unfolding touching
-  touching-here n lt f =
-      sum-suc n (touching T f) ∙ rw (lt-ltb (entry T n) (segs T) (run .is-segment n lt)) refl
+  touching-here n segment f = sum-suc n (touching T f) ∙ rw (lt-ltb (entry T n) (segs T) segment) refl
+
+  touching-none : (n : ℕ) → segs T ≤ entry T n → (f : ℕ → ℕ → ℕ) → sum (suc n) (touching T f) ≡ sum n (touching T f)
+  unfolding touching
+  touching-none n idle f = sum-suc n (touching T f) ∙ rw (le-ltb (entry T n) (segs T) idle) (omega arith)
+
+  -- one more step, in which nothing is touched
+  pub passing-idle : (n : ℕ) (buckets : List Bucket) (last : List ℕ) (cost volume : ℕ) → Passing rows T n buckets last cost volume
+      → n < steps T → segs T ≤ getD (T .refs) n 0 → Passing rows T (n + 1) buckets last cost volume
+  passing-idle n buckets last cost volume s lt none =
+      let idle : segs T ≤ entry T n = rw (run .is-entry n lt) at none in
+      record {
+        within = omega arith;
+        filling =
+            filling-skip (touches T) (λ t. touchAt rows T t (entry T t)) n buckets (s .filling) (omega (arith, run .few-steps))
+            (le-ltb (entry T n) (segs T) idle);
+        last-are = rw (add-one n) (s .last-are ∙ lastTable-idle T n idle);
+        cost-is = rw (add-one n) (omega (arith, touching-none n idle (λ t i. unitOf T i), s .cost-is));
+        cost-within = omega (arith, s .cost-within);
+        volume-is = rw (add-one n) (omega (arith, touching-none n idle (λ t i. sizeOf T i), s .volume-is));
+        volume-within = omega (arith, s .volume-within);
+      }
 
   module _ (n : ℕ) (buckets : List Bucket) (last : List ℕ) (cost volume : ℕ) (s : Passing rows T n buckets last cost volume)
-      (lt : n < steps T) where
+      (lt : n < steps T) (touch : getD (T .refs) n 0 < segs T) where
+    segment : entry T n < segs T
+    segment = rw (run .is-entry n lt) at touch
+
     -- the touched segment is among those of the table
     entry-within : entry T n < mostSegs
-    entry-within = omega (arith, run .is-segment n lt, run .few-segs)
+    entry-within = omega (arith, segment, run .few-segs)
 
     -- the touch that the table of last touches tells is that of the step
     passing-touch : (y : Touch) → y ≡ touchOf (T .kind) (T .a) rows (sizeOf T (entry T n)) (timeOf n (getD last (entry T n) 0))
         → y ≡ touchAt rows T n (entry T n)
     passing-touch y is =
-        rw (s .last-are, last-time T (run .fresh) n (entry T n) 0 entry-within (omega (arith, run .few-steps))) at is
+        rw (s .last-are, last-time T n (entry T n) 0 entry-within (omega (arith, run .few-steps))) at is
 
     -- the size of the touched segment
     size-here : sizeOf T (getD (T .refs) n 0) < 2 ^ 16
-    size-here = rw (run .is-entry n lt) (run .size-within (entry T n) (run .is-segment n lt))
+    size-here = run .size-within (getD (T .refs) n 0) touch
 
     -- there is room for its cost in Q and for its size in V
     pub cost-room : (u : ℕ) → u ≡ unitOf T (getD (T .refs) n 0) → cost + u < 2 ^ 64
@@ -122,16 +140,15 @@ module _ (rows : List PriceRow) (T : Trace) (run : Run T) where
             → Passing rows T (n + 1) (set buckets (y .bucket) b) (set last (entry T n) (n + 1)) (cost + u)
             (volume + sizeOf T (entry T n))
         go is unit small =
-            let segment = run .is-segment n lt in
             record {
               within = omega arith;
               filling =
                   filling-step (touches T) (λ t. touchAt rows T t (entry T t)) n buckets (s .filling)
                   (omega (arith, run .few-steps)) y lim (passing-touch y is) b d (rw (lt-ltb (entry T n) (segs T) segment) added);
               last-are = rw (s .last-are, add-one n) (lastTable-step T n segment (run .few-segs));
-              cost-is = rw (add-one n) (omega (arith, touching-here n lt (λ t i. unitOf T i), s .cost-is));
+              cost-is = rw (add-one n) (omega (arith, touching-here n segment (λ t i. unitOf T i), s .cost-is));
               cost-within = omega (arith, s .cost-within, unit-within (T .kind) (sizeOf T (entry T n)) small);
-              volume-is = rw (add-one n) (omega (arith, touching-here n lt (λ t i. sizeOf T i), s .volume-is));
+              volume-is = rw (add-one n) (omega (arith, touching-here n segment (λ t i. sizeOf T i), s .volume-is));
               volume-within = omega (arith, s .volume-within);
             }
 

@@ -11,8 +11,9 @@ use Rattle.model.specs.Rows.{rowFigures}
 use Rattle.model.specs.declared.Kind.{Kind}
 use Rattle.model.specs.declared.Kind.the-variants.{Time, Space}
 use Rattle.model.specs.declared.PriceRow.{PriceRow}
+use Rattle.model.proofs.FirstTouches.{started}
 use Rattle.model.proofs.Loads.{overTouches-eq}
-use Rattle.figures.specs.Sweep.{byKind, loadFrom, wsmemFrom, wsspaceFrom, wsoccFrom, rowFrom, Parts}
+use Rattle.figures.specs.Sweep.{withStart, byKind, loadFrom, wsmemFrom, wsspaceFrom, wsoccFrom, rowFrom, Parts}
 use Rattle.figures.specs.declared.Bucket.{Bucket}
 use Rattle.figures.proofs.Sweeps.{bucketBy, space-of}
 use Rattle.figures.proofs.WorkingSets.{touches-split, kept-swaps-within, working-set, smaller-priced, sized-priced}
@@ -24,10 +25,10 @@ from-sums h d base A B KR ER AW KW EW within eq =
     let whole : AW ≡ AW - KW - EW + (KW + EW) = omega arith in
     omega (arith, ap (λ n. h * n) whole)
 
-module _ (T : Trace) (fresh : (i : ℕ) → T .start i ≡ false) (row : PriceRow) where
-  -- the sums over all touches, over those that the row keeps, and over the end intervals that it keeps
-  abbrev allSums : Bucket
-  allSums = bucketBy T (λ g. overTouches T g)
+module _ (T : Trace) (row : PriceRow) where
+  -- the sums over all touches, the swap costs of the start set among them; over those that the row keeps, and over the end intervals that it keeps
+  abbrev pub allSums : Bucket
+  allSums = withStart (started T (λ i. swapOf T i)) (started T (λ i. swapOf T i * sizeOf T i)) (bucketBy T (λ g. overTouches T g))
 
   abbrev keptSums : Bucket
   keptSums = bucketBy T (λ g. overTouches T (λ t i. cond (kept T (row .h) (row .d) t i) (g t i) 0))
@@ -83,8 +84,8 @@ module _ (T : Trace) (fresh : (i : ℕ) → T .start i ≡ false) (row : PriceRo
       record {
         counts = omega (arith, touches-split T (kept T h d) (λ t i. 1));
         volumes = omega (arith, touches-split T (kept T h d) (λ t i. sizeOf T i));
-        swaps = kept-swaps-within T h d (λ i. swapOf T i) fresh;
-        swapzs = kept-swaps-within T h d (λ i. swapOf T i * sizeOf T i) fresh;
+        swaps = kept-swaps-within T h d (λ i. swapOf T i);
+        swapzs = kept-swaps-within T h d (λ i. swapOf T i * sizeOf T i);
       }
 
   wsmem-swept : wsmem T (row .h) (row .d) ≡ wsmemFrom row (refCost T) allSums keptSums endSums
@@ -94,7 +95,7 @@ module _ (T : Trace) (fresh : (i : ℕ) → T .start i ≡ false) (row : PriceRo
       let d = row .d in
       from-sums h d (refCost T) (overTouches T (λ t i. smaller T h d t i)) (overSegments T (λ i. smaller T h d (steps T) i))
       (keptSums .retention) (endSums .retention) (allSums .swap) (keptSums .swap) (endSums .swap) (sweep-parts .swaps)
-      (working-set T h d (swapOf T) (smaller T h d) (retentionOf T) fresh (smaller-priced T h d))
+      (working-set T h d (swapOf T) (smaller T h d) (retentionOf T) (smaller-priced T h d))
 
   wsspace-swept : wsspace T (row .h) (row .d) ≡ wsspaceFrom row (refVolume T) allSums keptSums endSums
   unfolding wsspace
@@ -104,7 +105,7 @@ module _ (T : Trace) (fresh : (i : ℕ) → T .start i ≡ false) (row : PriceRo
       let sized : ℕ → ℕ → ℕ = λ t i. sizeOf T i * smaller T h d t i in
       from-sums h d (refVolume T) (overTouches T sized) (overSegments T (sized (steps T)))
       (keptSums .retentionz) (endSums .retentionz) (allSums .swapz) (keptSums .swapz) (endSums .swapz) (sweep-parts .swapzs)
-      (working-set T h d (λ i. swapOf T i * sizeOf T i) sized (λ t i. retentionOf T t i * sizeOf T i) fresh (sized-priced T h d))
+      (working-set T h d (λ i. swapOf T i * sizeOf T i) sized (λ t i. retentionOf T t i * sizeOf T i) (sized-priced T h d))
 
   pub wsocc-swept : wsocc T (row .h) (row .d) ≡ wsoccFrom (T .kind) row (refCost T) (refVolume T) allSums keptSums endSums
   unfolding wsocc

@@ -1,14 +1,17 @@
 -- The sweep over the rows of a sheet: each row's figures from the sums up to it, within 64 bits, and the figures written so far.
 -- Assumes nothing.
-use Prim.Native.Nat.{ℕ, suc, _≤_, _<_}
-use mathlib.Core.Path.{_≡_, refl, _∙_}
+use Prim.Native.Nat.{ℕ, suc, _*_, _≤_, _<_}
+use mathlib.Core.Path.{_≡_, refl, sym, _∙_}
 use mathlib.Core.Bool.{Bool, true, false, cond}
 use mathlib.Core.List.{List}
 use native.Mathlib.Omega.{arith}
 use lib.Dec.{ltb}
 use lib.ListN.{length, set}
 use borrow.Author.Tests.{lt-ltb, le-ltb, ltb-true, ltb-false}
+use native.Mathlib.Nat.{add-zero}
+use Rattle.model.specs.Traces.{sizeOf, swapOf, overTouches}
 use Rattle.model.specs.Figures.{refCost, refVolume}
+use Rattle.model.proofs.FirstTouches.{none-started}
 use Rattle.model.specs.Sheets.{SheetValue, Valid, traceOf, rowAt, mostSegs, mostRows, mostRefs}
 use Rattle.model.specs.Rows.{zeroFigures}
 use Rattle.model.specs.declared.PriceRow.{PriceRow}
@@ -19,9 +22,15 @@ use Rattle.figures.specs.Sweep.{summed, rowFrom, noFigures, Holds, RowFi
 use Rattle.figures.specs.declared.Bucket.{Bucket}
 use Rattle.figures.specs.declared.Tally.{Tally}
 use Rattle.figures.proofs.Limits.{buckets-hold, ends-hold, cost-within, volume-within, wsocc-within}
-use Rattle.figures.proofs.Sweeps.{all-sums, kept-sums, ends-sums}
-use Rattle.figures.proofs.SweptRows.{sweep-parts, wsocc-swept, row-swept}
+use Rattle.figures.proofs.Sweeps.{bucketBy, all-sums, kept-sums, ends-sums}
+use Rattle.figures.proofs.SweptRows.{allSums, sweep-parts, wsocc-swept, row-swept}
 use Rattle.figures.proofs.Tables.{tabulate-eq, tabulate-set}
+
+-- with an empty start set all sums are those of the touches
+none-more : (s : SheetValue) (row : PriceRow) → allSums (traceOf s) row ≡ bucketBy (traceOf s) (λ g. overTouches (traceOf s) g)
+none-more s row =
+    let T = traceOf s in
+    rw (none-started T (λ i. swapOf T i) (λ i. refl)) (simp add-zero)
 
 module _ (s : SheetValue) (v : Valid s) (r : ℕ) (lt : r < length (s .rows)) where
   -- the tally of the sheet
@@ -31,7 +40,7 @@ module _ (s : SheetValue) (v : Valid s) (r : ℕ) (lt : r < length (s .rows)) wh
   -- the figures of row r from the sums of all buckets and of those up to it
   pub row-figured : rowFrom (s .kind) (s .a) (rowAt s r) (length (s .refs)) (refCost (traceOf s)) (refVolume (traceOf s))
       (summed (tally .buckets) bucketCount) (summed (tally .buckets) (suc r)) (summed (tally .ends) (suc r)) ≡ figuresAt s r
-  row-figured = rw (all-sums s v, kept-sums s v r lt, ends-sums s v r lt) (row-swept (traceOf s) (λ i. refl) (rowAt s r))
+  row-figured = rw (all-sums s v ∙ sym (none-more s (rowAt s r)), kept-sums s v r lt, ends-sums s v r lt) (row-swept (traceOf s) (rowAt s r))
 
   -- those sums are such that no figure exceeds 64 bits
   pub row-fits : RowFits (s .kind) (rowAt s r) (length (s .refs)) (refCost (traceOf s)) (refVolume (traceOf s))
@@ -42,11 +51,11 @@ module _ (s : SheetValue) (v : Valid s) (r : ℕ) (lt : r < length (s .rows)) wh
         all-holds = buckets-hold s v bucketCount (omega arith);
         kept-holds = buckets-hold s v (suc r) within;
         ends-holds = ends-hold s v (suc r) within;
-        parts = rw (all-sums s v, kept-sums s v r lt, ends-sums s v r lt) (sweep-parts (traceOf s) (λ i. refl) (rowAt s r));
+        parts = rw (all-sums s v ∙ sym (none-more s (rowAt s r)), kept-sums s v r lt, ends-sums s v r lt) (sweep-parts (traceOf s) (rowAt s r));
         cost-fits = cost-within s v;
         volume-fits = volume-within s v;
         wsocc-fits =
-            rw (all-sums s v, kept-sums s v r lt, ends-sums s v r lt, ← wsocc-swept (traceOf s) (λ i. refl) (rowAt s r))
+            rw (all-sums s v ∙ sym (none-more s (rowAt s r)), kept-sums s v r lt, ends-sums s v r lt, ← wsocc-swept (traceOf s) (rowAt s r))
             (wsocc-within s v (rowAt s r .h) (rowAt s r .d) (v .d-within r lt));
         some-d = v .some-d r lt;
         refs-fit = v .refs-within;

@@ -11,7 +11,7 @@ use Rattle.model.specs.Costs.{keeps, totalCost}
 use Rattle.model.specs.Traces.{Trace, segs, steps, sizeOf, swapOf, overTouches, overSegments, unreferenced}
 use Rattle.model.specs.Figures.{isReuse, retentionOf, kept, smaller}
 use Rattle.model.proofs.Sums.{sum-eq, sum-le}
-use Rattle.model.proofs.FirstTouches.{first-touches}
+use Rattle.model.proofs.FirstTouches.{started, first-touches-from}
 use Rattle.model.proofs.Loads.{sum-total, overTouches-eq, overTouches-le, overTouches-total}
 
 -- what the touches where p holds add, and what the others add, is what all add
@@ -61,19 +61,22 @@ module _ (T : Trace) (h d : ℕ) (W : ℕ → ℕ) where
   abbrev reuseW : ℕ → ℕ → ℕ
   reuseW t i = cond (isReuse (unreferenced T t i)) (W i) 0
 
-  -- where nothing was touched before the run, W of the reuses and of the end intervals is W of all touches
-  reuses-ends : ((i : ℕ) → T .start i ≡ false) → overTouches T reuseW + overSegments T (reuseW (steps T)) ≡ overTouches T (λ t i. W i)
-  reuses-ends fresh =
-      omega
-      (arith, first-touches T W fresh (steps T), touches-split T (λ t i. isReuse (unreferenced T t i)) (λ t i. W i))
+  -- W of all touches and of the start set
+  abbrev pub allW : ℕ
+  allW = overTouches T (λ t i. W i) + started T W
 
-  -- so W of what is kept, end intervals included, is within that of all touches
-  pub kept-swaps-within : ((i : ℕ) → T .start i ≡ false)
-      → overTouches T keptW + overSegments T (keptW (steps T)) ≤ overTouches T (λ t i. W i)
-  kept-swaps-within fresh =
+  -- W of the reuses and of the end intervals is the same
+  reuses-ends : overTouches T reuseW + overSegments T (reuseW (steps T)) ≡ allW
+  reuses-ends =
+      omega
+      (arith, first-touches-from T W (steps T), touches-split T (λ t i. isReuse (unreferenced T t i)) (λ t i. W i))
+
+  -- so W of what is kept, end intervals included, is within that
+  pub kept-swaps-within : overTouches T keptW + overSegments T (keptW (steps T)) ≤ allW
+  kept-swaps-within =
       omega (
         arith,
-        reuses-ends fresh,
+        reuses-ends,
         overTouches-le T keptW reuseW (λ t i. kept-reuse T h d t i (W i)),
         sum-le (segs T) (keptW (steps T)) (reuseW (steps T)) (λ i lt. kept-reuse T h d (steps T) i (W i)),
       )
@@ -113,11 +116,11 @@ module _ (T : Trace) (h d : ℕ) (W : ℕ → ℕ) (S R : ℕ → ℕ → ℕ) w
       )
 
   -- S over all touches and end intervals
-  pub working-set : ((i : ℕ) → T .start i ≡ false) → Priced
+  pub working-set : Priced
       → overTouches T S + overSegments T (S (steps T)) + h * (overTouches T (keptW T h d W) + overSegments T (keptW T h d W (steps T)))
-      ≡ d * (overTouches T keptR + overSegments T (keptR (steps T))) + h * overTouches T (λ t i. W i)
-  working-set fresh each =
-      omega (arith, touches-priced each, ends-priced each, ap (λ w. h * w) (reuses-ends T h d W fresh))
+      ≡ d * (overTouches T keptR + overSegments T (keptR (steps T))) + h * allW T h d W
+  working-set each =
+      omega (arith, touches-priced each, ends-priced each, ap (λ w. h * w) (reuses-ends T h d W))
 
 -- the items of wsmem
 pub smaller-priced : (T : Trace) (h d t i : ℕ)

@@ -47,6 +47,18 @@ summed bs n =
       swapz = sum n (λ k. getD bs k noBucket .swapz);
     }
 
+-- a bucket with the swap costs of the start set, also multiplied by z; they are no touches
+abbrev pub withStart : ℕ → ℕ → Bucket → Bucket
+withStart swap swapz b =
+    record {
+      count = b .count;
+      volume = b .volume;
+      retention = b .retention;
+      swap = b .swap + swap;
+      retentionz = b .retentionz;
+      swapz = b .swapz + swapz;
+    }
+
 -- misses + a × volume of what is not kept
 abbrev pub loadFrom : ℕ → Bucket → Bucket → ℕ
 loadFrom a all kept = (all .count - kept .count) + a * (all .volume - kept .volume)

@@ -165,18 +165,22 @@ pub fn references(
     let mut t: usize = 0;
     while t < refs.len() {
         let i = refs[t] as usize;
-        let z = sizes[i];
-        let mark = last[i];
-        let mut x = touch_of(kind, a, z, mark, t as u16);
-        let k = search::bucket_of(hs.len(), qs, rates[i], mark, t as u16);
-        x.bucket = k;
-        let mut b = buckets[k];
-        b = add_touch(b, x);
-        buckets[k] = b;
-        t += 1;
-        last[i] = t as u16;
-        cost += unit_cost(kind, z);
-        volume += z as u64;
+        if i < sizes.len() {
+            let z = sizes[i];
+            let mark = last[i];
+            let mut x = touch_of(kind, a, z, mark, t as u16);
+            let k = search::bucket_of(hs.len(), qs, rates[i], mark, t as u16);
+            x.bucket = k;
+            let mut b = buckets[k];
+            b = add_touch(b, x);
+            buckets[k] = b;
+            t += 1;
+            last[i] = t as u16;
+            cost += unit_cost(kind, z);
+            volume += z as u64;
+        } else {
+            t += 1;
+        }
     }
     Passed {
         buckets: buckets,

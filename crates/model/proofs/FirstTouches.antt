@@ -1,6 +1,6 @@
 -- Each touched segment has one first touch: a sum over the touched segments is the same sum over the first touches. Assumes nothing.
 use Prim.Native.Nat.{ℕ, zero, suc, _+_}
-use mathlib.Core.Path.{_≡_}
+use mathlib.Core.Path.{_≡_, refl}
 use mathlib.Core.Bool.{Bool, true, false, cond}
 use mathlib.Core.Option.{Option, none, some}
 use native.Mathlib.Omega.{arith}
@@ -31,15 +31,22 @@ module _ (T : Trace) (g : ℕ → ℕ) where
       go false none x = omega arith
       go false (some k) x = omega arith
 
-  -- the segments touched within n steps are those of the first touches in them
-  pub first-touches : ((i : ℕ) → T .start i ≡ false) → (n : ℕ) → sum (segs T) (touchedOf n) ≡ sum n (touching T firstOf)
-  first-touches fresh zero =
-      omega (
-        arith,
-        sum-zero (segs T) (touchedOf 0) (λ i lt. rw (unreferenced-none T i, fresh i)),
-        sum-none (touching T firstOf),
-      )
-  first-touches fresh (suc n) =
+  -- g of the segments that count as touched before step 1
+  abbrev pub started : ℕ
+  started = sum (segs T) (λ i. cond (T .start i) (g i) 0)
+
+  touched-none : sum (segs T) (touchedOf 0) ≡ started
+  touched-none =
+      sum-eq (segs T) (touchedOf 0) (λ i. cond (T .start i) (g i) 0) (λ i lt. rw (unreferenced-none T i) (go (T .start i) (g i)))
+    where
+      go : (b : Bool) (x : ℕ) → cond (isReuse (cond b (some 0) none)) x 0 ≡ cond b x 0
+      go true x = refl
+      go false x = refl
+
+  -- the segments touched within n steps are those of the start set and of the first touches in them
+  pub first-touches-from : (n : ℕ) → sum (segs T) (touchedOf n) ≡ started + sum n (touching T firstOf)
+  first-touches-from zero = omega (arith, touched-none, sum-none (touching T firstOf))
+  first-touches-from (suc n) =
       let new : ℕ → ℕ = λ i. cond (touched T n i) (firstOf n i) 0 in
       omega (
         arith,
@@ -47,5 +54,12 @@ module _ (T : Trace) (g : ℕ → ℕ) where
         sum-add (segs T) (touchedOf n) new,
         touching-sum T firstOf n,
         sum-suc n (touching T firstOf),
-        first-touches fresh n,
+        first-touches-from n,
       )
+
+  -- with an empty start set they are those of the first touches
+  pub none-started : ((i : ℕ) → T .start i ≡ false) → started ≡ 0
+  none-started fresh = sum-zero (segs T) (λ i. cond (T .start i) (g i) 0) (λ i lt. rw (fresh i))
+
+  pub first-touches : ((i : ℕ) → T .start i ≡ false) → (n : ℕ) → sum (segs T) (touchedOf n) ≡ sum n (touching T firstOf)
+  first-touches fresh n = omega (arith, first-touches-from n, none-started fresh)

@@ -1,14 +1,13 @@
--- The table of last touches, which the code keeps instead of unreferenced times: how a step changes it, and what it tells. For runs with an
--- empty start set. Assumes nothing.
+-- The table of last touches, which the code keeps instead of unreferenced times: how a step changes it, and what it tells. Assumes nothing.
 use Prim.Native.Nat.{ℕ, zero, suc, _≤_, _<_}
 use mathlib.Core.Path.{_≡_, refl, sym, _∙_}
-use mathlib.Core.Bool.{Bool, true, false, _&&_}
+use mathlib.Core.Bool.{Bool, true, false, cond, _&&_}
 use mathlib.Core.Option.{Option, none, some}
 use native.Mathlib.Omega.{arith}
 use lib.Dec.{eqb, ltb}
 use lib.ListN.{length, getD, set, replicate, length-set, length-replicate, getD-replicate}
 use lib.Seq.{ext-getD, getD-set-same, getD-set-other}
-use borrow.Author.Tests.{eqb-true, eqb-false}
+use borrow.Author.Tests.{eqb-true, eqb-false, ne-eqb, ltb-true}
 use Rattle.model.specs.LastTouches.{untouchedMark, lastFrom, lastTable}
 use Rattle.model.specs.Traces.{Trace, segs, entry, touched, later, unreferenced}
 use Rattle.model.proofs.Sums.{length-listOf, getD-listOf}
@@ -46,22 +45,23 @@ module _ (T : Trace) (fresh : (i : ℕ) → T .start i ≡ false) where
           lastTable-at T 0 i 0 inside
           ∙ rw (unreferenced-none T i, fresh i) (sym (getD-replicate 256 i untouchedMark 0 inside))
 
-  -- an unreferenced time is below the number of steps
-  pub unreferenced-below : (n i k : ℕ) → unreferenced T n i ≡ some k → k < n
-  unreferenced-below zero i k e =
-      let no : none ≡ some k = sym (unreferenced-none T i ∙ rw (fresh i)) ∙ e in
-      let z : _≡_ {A = ℕ} 0 1 = cc in
-      absurd (omega arith)
-  unreferenced-below (suc n) i k e = go (touched T n i) refl (unreferenced-below n i)
-    where
-      go : (b : Bool) → touched T n i ≡ b → ((j : ℕ) → unreferenced T n i ≡ some j → j < n) → k < suc n
-      go true m below =
-          let same : some 0 ≡ some k = sym (unreferenced-touched T n i m) ∙ e in
-          let z : 0 ≡ k = cc in
-          omega arith
-      go false m below =
-          let found = later-some (unreferenced T n i) k (sym (unreferenced-later T n i m) ∙ e) in
-          omega (arith, found .2, below (found .0) (found .1))
+-- an unreferenced time is at most the number of steps
+pub unreferenced-within : (T : Trace) (n i k : ℕ) → unreferenced T n i ≡ some k → k ≤ n
+unreferenced-within T zero i k e = go (T .start i) (sym (unreferenced-none T i) ∙ e)
+  where
+    go : (b : Bool) → _≡_ {A = Option ℕ} (cond b (some 0) none) (some k) → k ≤ 0
+    go true f = let z : 0 ≡ k = cc in omega arith
+    go false f = let z : _≡_ {A = ℕ} 0 1 = cc in absurd (omega arith)
+unreferenced-within T (suc n) i k e = go (touched T n i) refl (unreferenced-within T n i)
+  where
+    go : (b : Bool) → touched T n i ≡ b → ((j : ℕ) → unreferenced T n i ≡ some j → j ≤ n) → k ≤ suc n
+    go true m below =
+        let same : some 0 ≡ some k = sym (unreferenced-touched T n i m) ∙ e in
+        let z : 0 ≡ k = cc in
+        omega arith
+    go false m below =
+        let found = later-some (unreferenced T n i) k (sym (unreferenced-later T n i m) ∙ e) in
+        omega (arith, found .2, below (found .0) (found .1))
 
 &&-false : (b : Bool) → b && false ≡ false
 &&-false true = refl
@@ -94,3 +94,21 @@ lastTable-step T t lt few =
             let other = eqb-false x i e in
             getD-set-other (lastTable T t) x i (suc t) 0 (λ same. other (sym same))
             ∙ (lastTable-at T t i 0 inside ∙ rw (unreferenced-later T t i (missed e)) (sym (last-later t (unreferenced T t i))))
+
+-- a step that touches nothing changes no entry
+pub lastTable-idle : (T : Trace) (t : ℕ) → segs T ≤ entry T t → lastTable T t ≡ lastTable T (suc t)
+lastTable-idle T t le =
+    ext-getD 0 (lastTable T t) (lastTable T (suc t)) (length-lastTable T t ∙ sym (length-lastTable T (suc t))) at
+  where
+    missed : (i : ℕ) → touched T t i ≡ false
+    missed i = go (ltb i (segs T)) refl
+      where
+        go : (b : Bool) → ltb i (segs T) ≡ b → b && eqb (entry T t) i ≡ false
+        go true e = ne-eqb (entry T t) i (λ same. omega (arith, ltb-true i (segs T) e))
+        go false e = refl
+
+    at : (i : ℕ) → i < length (lastTable T t) → getD (lastTable T t) i 0 ≡ getD (lastTable T (suc t)) i 0
+    at i l =
+        let inside : i < 256 = omega (arith, length-lastTable T t) in
+        lastTable-at T t i 0 inside
+        ∙ (sym (last-later t (unreferenced T t i)) ∙ rw (← unreferenced-later T t i (missed i)) (sym (lastTable-at T (suc t) i 0 inside)))

@@ -16,6 +16,7 @@ use Rattle.sheet.specs.declared.Sheet.{Sheet}
 use Rattle.figures.specs.Pass.{allUntouched, allEmpty}
 use Rattle.figures.specs.Rows.{figuresAt, figuresOf}
 use Rattle.figures.specs.declared.Bucket.{Bucket}
+use Rattle.figures.proofs.Marks.{last-start}
 use Rattle.figures.proofs.Passing.{valid-run, passing-start}
 use Rattle.recorder.specs.Recorders.{recorderOf, headOf, taken, Touched, Figured}
 use Rattle.recorder.specs.declared.Recorder.{Recorder}
@@ -46,7 +47,7 @@ started v valid sheet e last buckets untouched empty =
     let ok = head-valid v valid in
     rw (e, untouched, empty)
     (recorder-passed (headOf v) ok 0 refl allEmpty allUntouched 0 0
-    (passing-start (v .rows) (traceOf (headOf v)) (valid-run (headOf v) ok)))
+    (passing-start (v .rows) (traceOf (headOf v)) (valid-run (headOf v) ok) allUntouched (last-start (traceOf (headOf v)) (λ i. refl))))
 
 module _ (R : Recorder) (x : ℕ) where
   pub out-of-range : min (R .segs) mostSegs ≤ x → Touched R x (record { verdict = Refused OutOfRange; recorder = R })

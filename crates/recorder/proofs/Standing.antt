@@ -2,7 +2,7 @@
 -- is within the limits. Assumes nothing.
 use Prim.Native.Nat.{ℕ, _+_, _-_, _*_, _^_, _≤_, _<_}
 use mathlib.Core.Path.{_≡_, refl, ap}
-use mathlib.Core.Bool.{Bool, true, false}
+use mathlib.Core.Bool.{Bool, true, false, cond}
 use mathlib.Core.List.{List, [], _∷_, _++_}
 use mathlib.Core.Option.{Option, none, some}
 use native.Mathlib.Omega.{arith}
@@ -10,14 +10,14 @@ use native.Mathlib.Nat.{le-refl}
 use lib.Dec.{ltb}
 use lib.ListN.{length, getD, length-append, List·getD-append}
 use lib.Seq.{getD-append-add}
-use borrow.Author.Tests.{lt-ltb, ltb-true, ltb-false}
+use borrow.Author.Tests.{ltb-true, ltb-false}
 use Rattle.model.specs.Costs.{retention}
 use Rattle.model.specs.Sums.{sum}
 use Rattle.model.specs.Traces.{segs, entry, sizeOf, unitOf, touching, unreferenced}
 use Rattle.model.specs.Figures.{ofTime, refCost, refVolume}
 use Rattle.model.specs.Sheets.{SheetValue, Valid, traceOf, mostSegs, mostRows, mostRefs}
 use Rattle.model.specs.LastTouches.{lastTable}
-use Rattle.model.proofs.LastTouches.{unreferenced-below}
+use Rattle.model.proofs.LastTouches.{unreferenced-within}
 use Rattle.figures.specs.Buckets.{bucketCount, bucketOf, bucketAfter, tabulate}
 use Rattle.figures.specs.Pass.{touchOf, Limited, bucketOver, passedOf}
 use Rattle.figures.specs.Rows.{partsOf}
@@ -34,21 +34,21 @@ use Rattle.recorder.specs.Guards.{appended}
 
 module _ (v : SheetValue) (valid : Valid v) where
   -- each touch of the run is within the limits of a touch
-  limited : (t : ℕ) → t < length (v .refs) → Limited (touchAt (v .rows) (traceOf v) t (entry (traceOf v) t))
+  limited : (t : ℕ) → t < length (v .refs) → touches (traceOf v) t ≡ true → Limited (touchAt (v .rows) (traceOf v) t (entry (traceOf v) t))
   unfolding touchOf bucketOf
-  limited t lt =
+  limited t lt touch =
       let T = traceOf v in
       let run = valid-run v valid in
       let i = entry T t in
-      let z = run .size-within i (run .is-segment t lt) in
+      let z = run .size-within i (ltb-true i (segs T) touch) in
       record {
         is-bucket = omega (arith, ltb-true (bucketOf (v .rows) T t i) bucketCount (bucket-within v valid t i));
         size-within = z;
-        retention-within = retained (unreferenced T t i) (unreferenced-below T (λ j. refl) t i) (sizeOf T i) z;
+        retention-within = retained (unreferenced T t i) (unreferenced-within T t i) (sizeOf T i) z;
         swap-within = swap-within (v .a) (sizeOf T i) (omega (arith, valid .a-within)) z;
       }
     where
-      retained : (o : Option ℕ) → ((k : ℕ) → o ≡ some k → k < t) → (z : ℕ) → z < 2 ^ 16 → ofTime (retention (v .kind) z) o < 2 ^ 32
+      retained : (o : Option ℕ) → ((k : ℕ) → o ≡ some k → k ≤ t) → (z : ℕ) → z < 2 ^ 16 → ofTime (retention (v .kind) z) o < 2 ^ 32
       retained none below z small = omega arith
       retained (some k) below z small =
           retention-within (v .kind) z k small (omega (arith, below k refl, valid .refs-within))
@@ -61,8 +61,11 @@ module _ (v : SheetValue) (valid : Valid v) where
       let T = traceOf v in
       let run = valid-run v valid in
       sum-within (length (v .refs)) (2 ^ 16) (touching T (λ t i. f i))
-      (λ t lt.
-      rw (lt-ltb (entry T t) (segs T) (run .is-segment t lt)) (omega (arith, small (entry T t) (run .is-segment t lt))))
+      (λ t lt. go (entry T t) (ltb (entry T t) (segs T)) refl)
+    where
+      go : (i : ℕ) (b : Bool) → ltb i (length (v .sizes)) ≡ b → cond b (f i) 0 ≤ 2 ^ 16
+      go i true e = omega (arith, small i (ltb-true i (length (v .sizes)) e))
+      go i false e = omega arith
 
   pub standing : Passing (v .rows) (traceOf v) (length (v .refs))
       (tabulate bucketCount (bucketAfter (v .rows) (traceOf v) (length (v .refs)))) (lastTable (traceOf v) (length (v .refs)))

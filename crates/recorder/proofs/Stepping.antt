@@ -101,8 +101,8 @@ module _ (v : SheetValue) (valid : Valid v) (x : ℕ) (lt : x < length (v .sizes
       let n = length (v .refs) in
       let here : getD (v .refs ++ (x ∷ [])) n 0 ≡ x = getD-at (v .refs) x [] 0 n refl in
       rw here at
-      (passing-step (v .rows) (grown T x) (run-grown T x (valid-run v valid) lt room) n held-buckets held-last (refCost T) (refVolume T)
-      (passing-grown (v .rows) T x held-buckets held-last (refCost T) (refVolume T) (standing v valid)) (omega (arith, steps-grown T x)) y lim
+      (passing-step (v .rows) (grown T x) (run-grown T x (valid-run v valid) room) n held-buckets held-last (refCost T) (refVolume T)
+      (passing-grown (v .rows) T x held-buckets held-last (refCost T) (refVolume T) (standing v valid)) (omega (arith, steps-grown T x)) (rw here lt) y lim
       (rw here is) b d added u (rw here unit))
 
   -- a step of the code from the recorder of v

@@ -1,5 +1,5 @@
 -- One step against the step before: what passing one segment more, or a run of segments whose bits did not change, adds. Assumes nothing.
-use Prim.Native.Nat.{ℕ, zero, suc, _+_, _%_, _<_}
+use Prim.Native.Nat.{ℕ, zero, suc, _+_, _%_, _≤_, _<_}
 use mathlib.Core.Path.{_≡_, refl, sym, _∙_}
 use mathlib.Core.Bool.{Bool, true, false, cond, not, _&&_, _||_}
 use mathlib.Core.List.{List}
@@ -8,14 +8,14 @@ use native.Mathlib.Nat.{add-suc, add-zero}
 use native.Mathlib.Numerals.{add-one}
 use lib.Dec.{eqb, ltb}
 use lib.ListN.{getD}
-use borrow.Author.Tests.{ltb-false, eq-eqb, ne-eqb}
+use borrow.Author.Tests.{ltb-true, ltb-false, eq-eqb, ne-eqb}
 use Rattle.model.specs.Sums.{sum}
 use Rattle.model.specs.Traces.{Trace, segs, steps, entry, touched}
 use Rattle.model.specs.Schedules.{held}
 use Rattle.model.specs.declared.Kind.{Kind}
 use Rattle.schedule.specs.declared.pricing.Changes.{Changes}
 use Rattle.schedule.specs.Checking.{enters, someEnters}
-use Rattle.schedule.specs.Requires.{runOf, Limits}
+use Rattle.schedule.specs.Requires.{runOf, segmentOf}
 use Rattle.schedule.specs.Pricing.{byteOf, heldOf, unitAt, leaving, Passed, Passing}
 use Rattle.schedule.proofs.Marks.{getD-within}
 use Rattle.schedule.proofs.Words.{bit-zero}
@@ -74,19 +74,36 @@ pub held-after : (kind : Kind) (a : ℕ) (sizes refs p : List ℕ) (t i : ℕ) (
     → held (runOf kind a sizes refs) p (suc t) i ≡ r
 held-after kind a sizes refs p t i r e = held-of kind a sizes refs p (suc t) i ∙ sym (rw (add-one t) at e)
 
--- the entry of a step is its reference; within the limits it is a segment, and touched is whether it is that segment
+-- the same of answers that go by whether x is a segment
+pub lacks-told : (kind : Kind) (a : ℕ) (sizes refs p : List ℕ) (t x : ℕ) (r : Bool) → r ≡ cond (ltb x 256) (not (heldOf p (t + 1) x)) false
+    → cond (ltb x 256) (not (held (runOf kind a sizes refs) p (suc t) x)) false ≡ r
+lacks-told kind a sizes refs p t x r e = rw (held-of kind a sizes refs p (suc t) x) (sym (rw (add-one t) at e))
+
+pub loads-told : (kind : Kind) (a : ℕ) (sizes refs p : List ℕ) (t x : ℕ) (r : Bool) → r ≡ cond (ltb x 256) (heldOf p t x) true
+    → r ≡ cond (ltb x 256) (held (runOf kind a sizes refs) p t x) true
+loads-told kind a sizes refs p t x r e = rw (held-of kind a sizes refs p t x) e
+
+-- the entry of a step is its reference
 pub entry-ref : (T : Trace) (t : ℕ) → t < steps T → entry T t ≡ getD (T .refs) t 0
 entry-ref T t lt = getD-within (T .refs) t (segs T) 0 lt
 
-pub entry-within : (T : Trace) → Limits T → (t : ℕ) → t < steps T → entry T t < segs T
-entry-within T ok t lt = rw (entry-ref T t lt) (ok .ref-within t lt)
-
-pub touched-ref : (T : Trace) → Limits T → (t i : ℕ) → t < steps T → touched T t i ≡ eqb (getD (T .refs) t 0) i
-touched-ref T ok t i lt = rw (entry-ref T t lt) (go (ltb i (segs T)) refl)
+pub segment-within : (n x : ℕ) → n ≤ 256 → segmentOf n x ≤ 256
+segment-within n x few = go (ltb x n) refl
   where
-    go : (b : Bool) → ltb i (segs T) ≡ b → b && eqb (getD (T .refs) t 0) i ≡ eqb (getD (T .refs) t 0) i
-    go true e = refl
-    go false e = sym (ne-eqb (getD (T .refs) t 0) i (λ q. omega (arith, ok .ref-within t lt, ltb-false i (segs T) e)))
+    go : (b : Bool) → ltb x n ≡ b → cond b x 256 ≤ 256
+    go true e = omega (arith, ltb-true x n e)
+    go false e = omega arith
+
+-- what a step touches is the segment of its reference, if it has one
+pub touched-ref : (T : Trace) (t i : ℕ) → t < steps T → i < 256 → touched T t i ≡ eqb (segmentOf (segs T) (getD (T .refs) t 0)) i
+touched-ref T t i lt few = rw (entry-ref T t lt) (go (getD (T .refs) t 0) (ltb (getD (T .refs) t 0) (segs T)) refl (ltb i (segs T)) refl)
+  where
+    go : (x : ℕ) (b : Bool) → ltb x (segs T) ≡ b → (c : Bool) → ltb i (segs T) ≡ c → c && eqb x i ≡ eqb (cond b x 256) i
+    go x true e true f = refl
+    go x true e false f = sym (ne-eqb x i (λ q. omega (arith, ltb-true x (segs T) e, ltb-false i (segs T) f)))
+    go x false e true f =
+        ne-eqb x i (λ q. omega (arith, ltb-false x (segs T) e, ltb-true i (segs T) f)) ∙ sym (ne-eqb 256 i (λ q. omega arith))
+    go x false e false f = sym (ne-eqb 256 i (λ q. omega arith))
 
 module _ (T : Trace) (p : List ℕ) (t : ℕ) where
   -- before the first segment

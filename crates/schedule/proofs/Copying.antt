@@ -51,7 +51,7 @@ module _ (step d : List ℕ) (i on at : ℕ) (whole : length step ≡ 32) (room 
       ∙ length-paste d at (stepWith step i 255) j (omega arith) (omega (arith, length-stepWith step i 255))
 
   -- the byte that a turn stores, of the step with segment i as b tells
-  turn-byte : (masks next out : List ℕ) (b j : ℕ) → masks ≡ maskTable → i < 256 → Copied step d i on at next out j → j < 32
+  turn-byte : (masks next out : List ℕ) (b j : ℕ) → masks ≡ maskTable → i ≤ 256 → Copied step d i on at next out j → j < 32
       → masked (getD next j 0) (getD masks (32 * i + j) 0) b ≡ getD (stepWith step i b) j 0
   turn-byte masks next out b j et li v lt =
       let unread : getD next j 0 ≡ getD step j 0 =
@@ -61,7 +61,7 @@ module _ (step d : List ℕ) (i on at : ℕ) (whole : length step ≡ 32) (room 
       in
       rw (unread, et, maskTable-at i j li lt, stepWith-at step i b j lt)
 
-  pub copied-step : (masks next out : List ℕ) (j x y : ℕ) → masks ≡ maskTable → i < 256 → Copied step d i on at next out j → j < 32
+  pub copied-step : (masks next out : List ℕ) (j x y : ℕ) → masks ≡ maskTable → i ≤ 256 → Copied step d i on at next out j → j < 32
       → x ≡ masked (getD next j 0) (getD masks (32 * i + j) 0) 255 → y ≡ masked (getD next j 0) (getD masks (32 * i + j) 0) on
       → Copied step d i on at (set next j y) (set out (at + j) x) (j + 1)
   copied-step masks next out j x y et li v lt ex ey =

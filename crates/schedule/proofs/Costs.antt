@@ -3,12 +3,12 @@
 use Prim.Native.Nat.{ℕ, zero, suc, _+_, _-_, _*_, _≤_, _<_, _^_}
 use mathlib.Core.Path.{_≡_, refl, ap, sym, _∙_}
 use mathlib.Core.Bool.{Bool, true, false, cond, not, _&&_, false≢true}
-use mathlib.Core.List.{List}
+use mathlib.Core.List.{List, [], _∷_}
 use native.Mathlib.Omega.{arith}
 use native.Mathlib.Nat.{add-suc, add-zero}
 use lib.Dec.{ltb}
 use lib.ListN.{length, getD}
-use borrow.Author.Tests.{lt-ltb, le-ltb, ltb-true}
+use borrow.Author.Tests.{lt-ltb, le-ltb, ltb-true, ltb-false, not-true, not-false}
 use Rattle.model.specs.Costs.{unitCost, totalCost}
 use Rattle.model.specs.Sums.{sum}
 use Rattle.model.specs.Traces.{Trace, segs, steps, sizeOf, unitOf, swapOf, entry, touched, touching, overSegments}
@@ -24,9 +24,9 @@ use Rattle.model.proofs.Touches.{touching-sum}
 use Rattle.schedule.specs.declared.pricing.Changes.{Changes}
 use Rattle.schedule.specs.declared.pricing.Costs.{Costs}
 use Rattle.schedule.specs.Checking.{missing, enters, someEnters, stepVerdict, stepsVerdict, scheduleVerdict, priceAnswer}
-use Rattle.schedule.specs.Requires.{Limits}
+use Rattle.schedule.specs.Requires.{Limits, segmentOf}
 use Rattle.schedule.specs.Pricing.{unitAt, leaving, Passed, heldCost, memoryThrough, loadThrough, Through, Moved}
-use Rattle.schedule.proofs.Changes.{entry-ref, entry-within}
+use Rattle.schedule.proofs.Changes.{entry-ref}
 use Rattle.schedule.proofs.Verdicts.{none-enters, step-accepted, one-more, held-touched, accepted-permitted, whole-verdict, accepted-answer, priced}
 
 -- the touched segment was held before: nothing is loaded
@@ -41,6 +41,12 @@ pub moved-loaded : (u w v x left : ℕ) (b : Bool) (c : Costs) → b ≡ false �
 moved-loaded u w v x left true c e ev ex le = let z : _≡_ {A = ℕ} 0 1 = cc in absurd (omega arith)
 moved-loaded u w v x left false c e ev ex le =
     record { held-moved = omega arith; memory-moved = refl; load-moved = omega arith }
+
+-- beyond a list stands 0
+pub getD-beyond : (l : List ℕ) (i : ℕ) → length l ≤ i → getD l i 0 ≡ 0
+getD-beyond [] i le = refl
+getD-beyond (x ∷ l) zero le = absurd (omega arith)
+getD-beyond (x ∷ l) (suc i) le = getD-beyond l i (omega arith)
 
 -- a sum of terms within m is within n × m
 sum-within : (n m : ℕ) (f : ℕ → ℕ) → ((t : ℕ) → t < n → f t ≤ m) → sum n f ≤ n * m
@@ -81,9 +87,14 @@ both true false u must = omega arith
 both false false u must = refl
 
 -- what a step that touches a segment adds
-touching-ref : (T : Trace) → Limits T → (f : ℕ → ℕ → ℕ) (t : ℕ) → t < steps T → touching T f t ≡ f t (getD (T .refs) t 0)
+touching-ref : (T : Trace) (f : ℕ → ℕ → ℕ) (t : ℕ) → t < steps T → getD (T .refs) t 0 < segs T → touching T f t ≡ f t (getD (T .refs) t 0)
 unfolding touching
-touching-ref T ok f t lt = rw (lt-ltb (entry T t) (segs T) (entry-within T ok t lt), entry-ref T t lt)
+touching-ref T f t lt touch = rw (entry-ref T t lt, lt-ltb (getD (T .refs) t 0) (segs T) touch)
+
+-- and one that touches nothing
+touching-none : (T : Trace) (f : ℕ → ℕ → ℕ) (t : ℕ) → t < steps T → segs T ≤ getD (T .refs) t 0 → touching T f t ≡ 0
+unfolding touching
+touching-none T f t lt none = rw (entry-ref T t lt, le-ltb (getD (T .refs) t 0) (segs T) none)
 
 module _ (T : Trace) (ok : Limits T) (p : List ℕ) where
   -- any segment costs at most 4,095 for one step, and a number that is none costs nothing
@@ -190,11 +201,54 @@ module _ (T : Trace) (ok : Limits T) (p : List ℕ) where
         load-cost = sym (sum-none (touching T (λ t i. cond (held T p t i) 0 (swapOf T i))));
       }
 
-  module _ (t : ℕ) (lt : t < steps T) where
+  -- a step that touches nothing
+  module _ (t : ℕ) (lt : t < steps T) (none : segs T ≤ getD (T .refs) t 0) where
+    -- it lacks nothing
+    lacks-none : missing T p t ≡ false
+    unfolding missing
+    lacks-none = rw (entry-ref T t lt, le-ltb (getD (T .refs) t 0) (segs T) none)
+
+    pub idle-enters : someEnters T p t 256 ≡ true → stepVerdict T p t ≡ Refused HeldNotBefore
+    unfolding stepVerdict
+    idle-enters e = rw (lacks-none, e)
+
+    module _ (c : Costs) (g : Changes) (done : Through T p t c) (found : Passed T p t 256 g) (still : g .others ≡ false) where
+      idle-moves : heldCost T p (suc t) + g .left ≡ c .held
+      idle-moves =
+          omega (
+            arith,
+            done .held-cost,
+            found .gone,
+            held-step t lacks-none (sym (found .entered) ∙ still),
+            touching-none T (λ t i. cond (held T p t i) 0 (unitOf T i)) t lt none,
+          )
+
+      pub idle-within : g .left ≤ c .held
+      idle-within = omega (arith, idle-moves)
+
+      -- the costs with the step
+      pub idle-through : Through T p (suc t) (record { held = c .held - g .left; memory = c .memory + (c .held - g .left); load = c .load })
+      unfolding memoryThrough loadThrough
+      idle-through =
+          let held-now : c .held - g .left ≡ heldCost T p (suc t) = omega (arith, idle-moves) in
+          record {
+            accepted = one-more T p t (done .accepted) (step-accepted T p t lacks-none (sym (found .entered) ∙ still));
+            held-cost = held-now;
+            memory-cost = omega (arith, done .memory-cost, held-now, sum-suc t (λ t. heldCost T p (suc t)));
+            load-cost =
+                omega (
+                  arith,
+                  done .load-cost,
+                  sum-suc t (touching T (λ t i. cond (held T p t i) 0 (swapOf T i))),
+                  touching-none T (λ t i. cond (held T p t i) 0 (swapOf T i)) t lt none,
+                );
+          }
+
+  module _ (t : ℕ) (lt : t < steps T) (touch : getD (T .refs) t 0 < segs T) where
     -- the step at place t holds the segment that it touches exactly where it lacks nothing
     pub missing-is : missing T p t ≡ not (held T p (suc t) (getD (T .refs) t 0))
     unfolding missing
-    missing-is = rw (lt-ltb (entry T t) (segs T) (entry-within T ok t lt), entry-ref T t lt)
+    missing-is = rw (entry-ref T t lt, lt-ltb (getD (T .refs) t 0) (segs T) touch)
 
     -- its faults
     pub lacks : held T p (suc t) (getD (T .refs) t 0) ≡ false → stepVerdict T p t ≡ Refused TouchedNotHeld
@@ -218,7 +272,7 @@ module _ (T : Trace) (ok : Limits T) (p : List ℕ) where
             done .held-cost,
             found .gone,
             held-step t (missing-is ∙ rw h) (sym (found .entered) ∙ none),
-            touching-ref T ok (λ t i. cond (held T p t i) 0 (unitOf T i)) t lt,
+            touching-ref T (λ t i. cond (held T p t i) 0 (unitOf T i)) t lt touch,
           ))
 
       -- what left was held or loaded
@@ -241,9 +295,69 @@ module _ (T : Trace) (ok : Limits T) (p : List ℕ) where
                   rw before at (m .load-moved),
                   done .load-cost,
                   sum-suc t (touching T (λ t i. cond (held T p t i) 0 (swapOf T i))),
-                  touching-ref T ok (λ t i. cond (held T p t i) 0 (swapOf T i)) t lt,
+                  touching-ref T (λ t i. cond (held T p t i) 0 (swapOf T i)) t lt touch,
                 );
           }
+
+-- either, where x is the segment that the step touches, 256 where it touches none
+module _ (T : Trace) (ok : Limits T) (p : List ℕ) (t : ℕ) (lt : t < steps T) (x : ℕ) (is : x ≡ segmentOf (segs T) (getD (T .refs) t 0)) where
+  -- a fact of what is touched, and of nothing touched
+  by-entry : {A : Type 0} → (getD (T .refs) t 0 < segs T → x ≡ getD (T .refs) t 0 → ltb x 256 ≡ true → A)
+      → (segs T ≤ getD (T .refs) t 0 → ltb x 256 ≡ false → sizeOf T x ≡ 0 → A) → A
+  by-entry {A} f g = go (ltb (getD (T .refs) t 0) (segs T)) refl
+    where
+      go : (b : Bool) → ltb (getD (T .refs) t 0) (segs T) ≡ b → A
+      go true e =
+          let touch = ltb-true (getD (T .refs) t 0) (segs T) e in
+          let same : x ≡ getD (T .refs) t 0 = is ∙ rw e in
+          f touch same (lt-ltb x 256 (omega (arith, same, ok .segs-within)))
+      go false e =
+          let idle = ltb-false (getD (T .refs) t 0) (segs T) e in
+          let none : x ≡ 256 = is ∙ rw e in
+          g idle (le-ltb x 256 (omega (arith, none))) (getD-beyond (T .sizes) x (omega (arith, none, ok .segs-within)))
+
+  pub any-lacks : cond (ltb x 256) (not (held T p (suc t) x)) false ≡ true → stepVerdict T p t ≡ Refused TouchedNotHeld
+  any-lacks e =
+      by-entry
+      (λ touch same some. lacks T ok p t lt touch (not-true _ (rw (some, same) at e)))
+      (λ idle none z. absurd (false≢true (rw none at e)))
+
+  pub any-enters : cond (ltb x 256) (not (held T p (suc t) x)) false ≡ false → someEnters T p t 256 ≡ true
+      → stepVerdict T p t ≡ Refused HeldNotBefore
+  any-enters e f =
+      by-entry
+      (λ touch same some. enters-wrongly T ok p t lt touch (not-false _ (rw (some, same) at e)) f)
+      (λ idle none z. idle-enters T ok p t lt idle f)
+
+  module _ (c : Costs) (g : Changes) (done : Through T p t c) (found : Passed T p t 256 g)
+      (e : cond (ltb x 256) (not (held T p (suc t) x)) false ≡ false) (still : g .others ≡ false) (b : Bool)
+      (before : b ≡ cond (ltb x 256) (held T p t x) true) where
+    pub any-within : g .left ≤ c .held + cond b 0 (unitOf T x)
+    any-within =
+        by-entry
+        (λ touch same some.
+        rw same (left-within T ok p t lt touch c g done found (not-false _ (rw (some, same) at e)) still b (rw (some, same) at before)))
+        (λ idle none z. omega (arith, idle-within T ok p t lt idle c g done found still))
+
+    pub any-through : (r : Costs) → Moved (unitOf T x) (swapOf T x) b (g .left) c r → Through T p (suc t) r
+    any-through r m =
+        by-entry
+        (λ touch same some.
+        through-step T ok p t lt touch c g done found (not-false _ (rw (some, same) at e)) still b (rw (some, same) at before) r (rw same at m))
+        (λ idle none z.
+        let kept : b ≡ true = before ∙ rw none in
+        through-eq r (idle-through T ok p t lt idle c g done found still) (rw kept at m))
+      where
+        through-eq : (r : Costs)
+            → Through T p (suc t) (record { held = c .held - g .left; memory = c .memory + (c .held - g .left); load = c .load })
+            → Moved (unitOf T x) (swapOf T x) true (g .left) c r → Through T p (suc t) r
+        through-eq r d n =
+            record {
+              accepted = d .accepted;
+              held-cost = omega (arith, d .held-cost, n .held-moved);
+              memory-cost = omega (arith, d .memory-cost, n .memory-moved, n .held-moved);
+              load-cost = omega (arith, d .load-cost, n .load-moved);
+            }
 
 -- a step of a permitted schedule: the touched segment and the held untouched ones
 step-held : (T : Trace) (p : List ℕ) → Permitted T p → (t : ℕ) → t < steps T

@@ -8,12 +8,13 @@ use native.Mathlib.Omega.{arith}
 use lib.Dec.{eqb, ltb}
 use lib.ListN.{length, getD, take, drop, length-append, length-drop, take-append-drop, List·getD-append}
 use lib.Seq.{paste, ext-getD, take-all, take-take, take-append-le, drop-at, drop-drop, length-take-le, getD-take, getD-drop}
-use borrow.Author.Tests.{eqb-true, lt-ltb}
+use borrow.Author.Tests.{eqb-true, ne-eqb, lt-ltb, ltb-true, ltb-false}
 use Rattle.model.specs.Traces.{Trace, segs, steps, entry, touched}
 use Rattle.model.specs.Figures.{kept}
 use Rattle.model.specs.Schedules.{optimalHeld, optimalByte, optimalSchedule}
 use Rattle.model.proofs.Sums.{length-listOf, getD-listOf}
 use Rattle.model.proofs.Optimal.{next as nextAt, next-step, next-end}
+use Rattle.schedule.specs.Requires.{segmentOf}
 use Rattle.schedule.specs.Writing.{noSegments, stepWith}
 use Rattle.schedule.proofs.StepBytes.{bytesOf, bytesOf-eq, bytesOf-none, length-bytesOf, bytesOf-at, change, stepWith-bytesOf}
 
@@ -68,6 +69,28 @@ module _ (T : Trace) (h d : ℕ) where
           → cond b (kept T h d t (entry T t)) (nextAt T h d (suc t) i) ≡ cond b (kept T h d t i) (nextAt T h d (suc t) i)
       at-entry i true e = rw (eqb-true (entry T t) i e)
       at-entry i false e = refl
+
+  -- a step that touches nothing holds each segment whose next touch is kept, and so does the step before
+  idle-untouched : (t i : ℕ) → segs T ≤ entry T t → touched T t i ≡ false
+  idle-untouched t i le = go (ltb i (segs T)) refl
+    where
+      go : (b : Bool) → ltb i (segs T) ≡ b → b && eqb (entry T t) i ≡ false
+      go true e = ne-eqb (entry T t) i (λ same. omega (arith, ltb-true i (segs T) e))
+      go false e = refl
+
+  -- changing what is no segment changes nothing
+  none-changed : (f : ℕ → Bool) (on : Bool) → stepWith (bytesOf f) 256 (cond on 255 0) ≡ bytesOf f
+  none-changed f on =
+      stepWith-bytesOf f 256 on ∙ bytesOf-eq (change f 256 on) f (λ i l. rw (ne-eqb 256 i (λ same. omega arith)))
+
+  idle-held : (t : ℕ) → segs T ≤ entry T t → bytesOf (nextAt T h d (suc t)) ≡ bytesOf (optimalHeld T h d t)
+  unfolding optimalHeld
+  idle-held t le =
+      bytesOf-eq (nextAt T h d (suc t)) (optimalHeld T h d t) (λ i l. rw (idle-untouched t i le))
+
+  idle-next : (t : ℕ) → t < steps T → segs T ≤ entry T t → bytesOf (nextAt T h d (suc t)) ≡ bytesOf (nextAt T h d t)
+  idle-next t lt le =
+      bytesOf-eq (nextAt T h d (suc t)) (nextAt T h d t) (λ i l. rw (next-step T h d t i lt, idle-untouched t i le))
 
   -- the bytes of the step at place t in the optimal schedule, whatever follows that
   schedule-part : (rest : List ℕ) (t : ℕ) → t < steps T
@@ -133,6 +156,39 @@ module _ (T : Trace) (h d : ℕ) (old : List ℕ) (room : 32 * steps T ≤ lengt
             (fill-back old (optimalSchedule T h d ++ drop (32 * steps T) old) (bytesOf (optimalHeld T h d k)) (32 * k) 32
             (omega arith) (length-bytesOf (optimalHeld T h d k)) (schedule-part T h d (drop (32 * steps T) old) k (omega arith)));
       }
+
+  -- a turn that writes a step in which nothing is touched
+  pub filled-idle : (next out next′ out′ : List ℕ) (t i on : ℕ) (b : Bool) → Filled T h d old next out t → 0 < t → t ≤ steps T
+      → segs T ≤ entry T (t - 1) → i ≡ 256 → on ≡ cond b 255 0
+      → next′ ≡ stepWith next i on → out′ ≡ paste out (32 * (t - 1)) (stepWith next i 255) 32 → Filled T h d old next′ out′ (t - 1)
+  filled-idle next out next′ out′ t i on b v some le idle ei eo en ep =
+      let k = t - 1 in
+      let later : t ≡ suc k = omega arith in
+      let bytes : 32 * suc k ≡ 32 * k + 32 = omega arith in
+      let held : next ≡ bytesOf (nextAt T h d (suc k)) = rw later at (v .next-is) in
+      let place = rw (later, bytes) at (v .out-is) in
+      record {
+        next-is = en ∙ rw (held, eo, ei) (none-changed T h d (nextAt T h d (suc k)) b ∙ idle-next T h d k (omega arith) idle);
+        out-is =
+            ep
+            ∙ rw (place, held, ei, none-changed T h d (nextAt T h d (suc k)) true, idle-held T h d k idle)
+            (fill-back old (optimalSchedule T h d ++ drop (32 * steps T) old) (bytesOf (optimalHeld T h d k)) (32 * k) 32
+            (omega arith) (length-bytesOf (optimalHeld T h d k)) (schedule-part T h d (drop (32 * steps T) old) k (omega arith)));
+      }
+
+  -- either
+  pub filled-turn : (next out next′ out′ : List ℕ) (t i on : ℕ) (mark : Bool) → Filled T h d old next out t → 0 < t → t ≤ steps T
+      → i ≡ segmentOf (segs T) (entry T (t - 1)) → on ≡ cond mark 255 0
+      → (entry T (t - 1) < segs T → mark ≡ kept T h d (t - 1) (entry T (t - 1)))
+      → next′ ≡ stepWith next i on → out′ ≡ paste out (32 * (t - 1)) (stepWith next i 255) 32 → Filled T h d old next′ out′ (t - 1)
+  filled-turn next out next′ out′ t i on mark v some le ei eo told en ep = go (ltb (entry T (t - 1)) (segs T)) refl
+    where
+      go : (b : Bool) → ltb (entry T (t - 1)) (segs T) ≡ b → Filled T h d old next′ out′ (t - 1)
+      go true e =
+          let touch = ltb-true (entry T (t - 1)) (segs T) e in
+          filled-step next out next′ out′ t i on v some le touch (ei ∙ rw e) (eo ∙ rw (told touch)) en ep
+      go false e =
+          filled-idle next out next′ out′ t i on mark v some le (ltb-false (entry T (t - 1)) (segs T) e) (ei ∙ rw e) eo en ep
 
   pub filled-end : (next out : List ℕ) (t : ℕ) → t ≡ 0 → Filled T h d old next out t → out ≡ optimalSchedule T h d ++ drop (32 * steps T) old
   filled-end next out t e v = rw e at (v .out-is)

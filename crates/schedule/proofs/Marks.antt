@@ -11,14 +11,14 @@ use lib.Seq.{getD-set-same, getD-set-other}
 use borrow.Author.Count.{below-more}
 use borrow.Author.Tests.{le-leb, lt-leb}
 use Rattle.model.specs.Costs.{retention, unitCost}
-use Rattle.model.specs.Traces.{Trace, steps, entry, sizeOf, unreferenced}
+use Rattle.model.specs.Traces.{Trace, segs, steps, entry, sizeOf, unreferenced}
 use Rattle.model.specs.Figures.{kept}
 use Rattle.model.specs.declared.Kind.{Kind}
 use Rattle.model.specs.declared.PriceRow.{PriceRow}
 use Rattle.model.specs.declared.Kind.the-variants.{Time, Space}
 use Rattle.model.proofs.Bounds.{product-within}
 use Rattle.model.specs.LastTouches.{lastFrom, lastTable}
-use Rattle.model.proofs.LastTouches.{lastTable-at, lastTable-start, lastTable-step, unreferenced-below}
+use Rattle.model.proofs.LastTouches.{lastTable-at, lastTable-start, lastTable-step, lastTable-idle, unreferenced-within}
 use Rattle.schedule.specs.Requires.{runOf, Limits}
 use Rattle.schedule.specs.Writing.{allUntouched, noMarks, keptBy}
 
@@ -36,8 +36,7 @@ retention-within kind z k lz lk = omega (arith, product-within k (unitCost kind 
     within Time = omega arith
     within Space = omega arith
 
--- a run in which nothing was touched before step 1
-module _ (T : Trace) (fresh : (i : ℕ) → T .start i ≡ false) (row : PriceRow) where
+module _ (T : Trace) (row : PriceRow) where
   -- the mark in the table tells whether a touch is kept
   pub kept-mark : (t i : ℕ) → i < 256 → t < 65535
       → keptBy (T .kind) (T .a) row (sizeOf T i) (getD (lastTable T t) i 0) t ≡ kept T (row .h) (row .d) t i
@@ -48,7 +47,7 @@ module _ (T : Trace) (fresh : (i : ℕ) → T .start i ≡ false) (row : PriceRo
           → keptBy (T .kind) (T .a) row (sizeOf T i) (lastFrom t o) t ≡ kept T (row .h) (row .d) t i
       go none e = rw (e, lt-leb 65535 t lt)
       go (some k) e =
-          let below = unreferenced-below T fresh t i k e in
+          let below = unreferenced-within T t i k e in
           let back : t - (t - k) ≡ k = omega arith in
           rw (e, le-leb (t - k) t (omega arith), back)
 
@@ -56,7 +55,7 @@ module _ (T : Trace) (fresh : (i : ℕ) → T .start i ≡ false) (row : PriceRo
 pub record Marked (T : Trace) (row : PriceRow) (marks : List Bool) (last : List ℕ) (t : ℕ) : Type 0 where
   pub within : t ≤ steps T
   pub whole : length marks ≡ 2048
-  pub marked : (k : ℕ) → k < t → getD marks k false ≡ kept T (row .h) (row .d) k (entry T k)
+  pub marked : (k : ℕ) → k < t → entry T k < segs T → getD marks k false ≡ kept T (row .h) (row .d) k (entry T k)
   pub last-is : last ≡ lastTable T t
 
 module _ (kind : Kind) (a : ℕ) (row : PriceRow) (sizes refs : List ℕ) (ok : Limits (runOf kind a sizes refs)) where
@@ -69,27 +68,43 @@ module _ (kind : Kind) (a : ℕ) (row : PriceRow) (sizes refs : List ℕ) (ok : 
       record {
         within = omega arith;
         whole = length-replicate 2048 false;
-        marked = λ k lt. absurd (omega arith);
+        marked = λ k lt touch. absurd (omega arith);
         last-is = sym (lastTable-start run (λ i. refl));
       }
 
   pub marked-step : (marks : List Bool) (last : List ℕ) (t i : ℕ) (x : Bool) → Marked run row marks last t → t < length refs
-      → i ≡ getD refs t 0 → x ≡ keptBy kind a row (getD sizes i 0) (getD last i 0) t
+      → i ≡ getD refs t 0 → i < length sizes → x ≡ keptBy kind a row (getD sizes i 0) (getD last i 0) t
       → Marked run row (set marks t x) (set last i (t + 1)) (t + 1)
-  marked-step marks last t i x v lt ei ex =
-      let is-segment = ok .ref-within t lt in
+  marked-step marks last t i x v lt ei is-segment ex =
       let e : entry run t ≡ i = getD-within refs t (length sizes) 0 lt ∙ sym ei in
       let here : x ≡ kept run (row .h) (row .d) t (entry run t) =
-      ex ∙ rw (v .last-is, e) (kept-mark run (λ i. refl) row t i (omega arith) (omega arith))
+      ex ∙ rw (v .last-is, e) (kept-mark run row t i (omega arith) (omega arith))
       in
       record {
         within = omega arith;
         whole = length-set marks t x ∙ v .whole;
         marked =
             below-more
-            (λ k. getD (set marks t x) k false ≡ kept run (row .h) (row .d) k (entry run k))
+            (λ k. entry run k < segs run → getD (set marks t x) k false ≡ kept run (row .h) (row .d) k (entry run k))
             t
-            (λ k l. getD-set-other marks t k x false (λ s. omega arith) ∙ v .marked k l)
-            (getD-set-same marks t x false (omega (arith, v .whole)) ∙ here);
+            (λ k l touch. getD-set-other marks t k x false (λ s. omega arith) ∙ v .marked k l touch)
+            (λ touch. getD-set-same marks t x false (omega (arith, v .whole)) ∙ here);
         last-is = rw (v .last-is, add-one t, ← e) (lastTable-step run t (omega (arith, e)) (ok .segs-within));
+      }
+
+  -- a step that touches nothing
+  pub marked-idle : (marks : List Bool) (last : List ℕ) (t : ℕ) → Marked run row marks last t → t < length refs
+      → length sizes ≤ getD refs t 0 → Marked run row marks last (t + 1)
+  marked-idle marks last t v lt idle =
+      let e : entry run t ≡ getD refs t 0 = getD-within refs t (length sizes) 0 lt in
+      record {
+        within = omega arith;
+        whole = v .whole;
+        marked =
+            below-more
+            (λ k. entry run k < segs run → getD marks k false ≡ kept run (row .h) (row .d) k (entry run k))
+            t
+            (λ k l touch. v .marked k l touch)
+            (λ touch. absurd (omega (arith, e)));
+        last-is = rw (add-one t) (v .last-is ∙ lastTable-idle run t (omega (arith, e)));
       }

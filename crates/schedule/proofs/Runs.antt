@@ -7,14 +7,14 @@ use native.Mathlib.Omega.{arith}
 use native.Mathlib.Numerals.{add-one}
 use lib.Bits.{bitXor, xor-lt}
 use lib.Count.{trailingZeros, trailing-of-zero}
-use lib.ListN.{getD}
+use lib.ListN.{length, getD}
 use lib.Pow.{shr-lt, shr-shr}
 use Rattle.model.specs.Traces.{Trace}
 use Rattle.model.specs.Schedules.{bit, held}
 use Rattle.model.specs.declared.Kind.{Kind}
 use Rattle.schedule.specs.declared.pricing.Changes.{Changes}
 use Rattle.schedule.specs.Checking.{enters}
-use Rattle.schedule.specs.Requires.{runOf}
+use Rattle.schedule.specs.Requires.{runOf, segmentOf}
 use Rattle.schedule.specs.Pricing.{heldOf, unitAt, Step, Passed, Passing}
 use Rattle.schedule.proofs.Changes.{held-of, touched-ref, passed-one, passed-run}
 use Rattle.schedule.proofs.Words.{bit-shifted, same-below, lowest-below}
@@ -27,15 +27,15 @@ pub record Rest (p : List ℕ) (t i e w : ℕ) : Type 0 where
 -- a whole word
 pub rest-start : (p : List ℕ) (t i w : ℕ) → w < 2 ^ 64 → ((k : ℕ) → k < 64 → bit w k ≡ heldOf p t (i + k)) → Rest p t i (i + 64) w
 rest-start p t i w lt bits =
-    let length : i + 64 - i ≡ 64 = omega arith in
-    record { below = rw length lt; bits = λ k l. bits k (omega arith) }
+    let span : i + 64 - i ≡ 64 = omega arith in
+    record { below = rw span lt; bits = λ k l. bits k (omega arith) }
 
 -- after s bits and one more
 pub rest-shift : (p : List ℕ) (t i e w s : ℕ) → i + s < e → Rest p t i e w → Rest p t (i + s + 1) e (w / 2 ^ s / 2)
 rest-shift p t i e w s lt r =
-    let length : e - i ≡ (e - (i + s + 1)) + (s + 1) = omega arith in
+    let span : e - i ≡ (e - (i + s + 1)) + (s + 1) = omega arith in
     record {
-      below = rw (shr-shr w s 1) (shr-lt (e - (i + s + 1)) (s + 1) (rw length at (r .below)));
+      below = rw (shr-shr w s 1) (shr-lt (e - (i + s + 1)) (s + 1) (rw span at (r .below)));
       bits = λ k l.
           let place : i + (s + (1 + k)) ≡ i + s + 1 + k = omega arith in
           bit-shifted (w / 2 ^ s) 1 k ∙ bit-shifted w s (1 + k) ∙ r .bits (s + (1 + k)) (omega arith) ∙ ap (heldOf p t) place;
@@ -70,10 +70,10 @@ module _ (kind : Kind) (a : ℕ) (sizes refs p : List ℕ) (t : ℕ) where
 
   -- the run up to that bit, and the bit
   pub passes-on : (e i old new s : ℕ) (c r : Changes) → Step T p t → Passes e i old new c → (bitXor old new ≡ 0 → ⊥)
-      → s ≡ trailingZeros 64 (bitXor old new) → Passing (bit old s) (bit new s) (getD refs t 0) (i + s) (unitAt kind sizes (i + s)) c r
+      → e ≤ 256 → s ≡ trailingZeros 64 (bitXor old new) → Passing (bit old s) (bit new s) (segmentOf (length sizes) (getD refs t 0)) (i + s) (unitAt kind sizes (i + s)) c r
       → Passes e (i + s + 1) (old / 2 ^ s / 2) (new / 2 ^ s / 2) r
   unfolding enters
-  passes-on e i old new s c r ok w ne first one =
+  passes-on e i old new s c r ok w ne few first one =
       let lt : i + s < e = rw first (differs-below e i old new c w ne) in
       let old-held = w .before .bits s lt ∙ sym (held-of kind a sizes refs p t (i + s)) in
       let new-held = w .after .bits s lt ∙ sym (held-of kind a sizes refs p (suc t) (i + s)) in
@@ -88,7 +88,7 @@ module _ (kind : Kind) (a : ℕ) (sizes refs p : List ℕ) (t : ℕ) where
         passed =
             rw (add-one (i + s))
             (passed-one T p t (i + s) c r run
-            (rw (← old-held, ← new-held, touched-ref T (ok .limits) t (i + s) (ok .place)) (one .others-with))
+            (rw (← old-held, ← new-held, touched-ref T t (i + s) (ok .place) (omega arith)) (one .others-with))
             (rw (← old-held, ← new-held) (one .left-with)));
       }
 

@@ -1,7 +1,8 @@
 -- The run that a caller hands over, and the limits that it meets. Assumes nothing.
 use Prim.Native.Nat.{ℕ, _≤_, _<_}
+use mathlib.Core.Bool.{cond}
 use mathlib.Core.List.{List}
-use lib.ListN.{getD}
+use lib.Dec.{ltb}
 use Rattle.model.specs.Traces.{Trace, segs, steps, sizeOf}
 use Rattle.model.specs.Sheets.{mostSegs, largestSize, mostRefs, nothing}
 use Rattle.model.specs.declared.Kind.{Kind}
@@ -15,4 +16,7 @@ pub record Limits (T : Trace) : Type 0 where
   pub segs-within : segs T ≤ mostSegs
   pub size-within : (i : ℕ) → i < segs T → sizeOf T i ≤ largestSize
   pub refs-within : steps T ≤ mostRefs
-  pub ref-within : (t : ℕ) → t < steps T → getD (T .refs) t 0 < segs T
+
+-- the segment of an entry, 256 where it is none
+abbrev pub segmentOf : ℕ → ℕ → ℕ
+segmentOf n x = cond (ltb x n) x mostSegs

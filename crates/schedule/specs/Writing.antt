@@ -9,7 +9,7 @@ use lib.Dec.{eqb, leb}
 use lib.ListN.{getD, replicate}
 use Rattle.model.specs.Costs.{swapCost, retention, keeps}
 use Rattle.model.specs.Sums.{listOf}
-use Rattle.model.specs.Traces.{Trace, steps, entry}
+use Rattle.model.specs.Traces.{Trace, segs, steps, entry}
 use Rattle.model.specs.Figures.{kept}
 use Rattle.model.specs.Sheets.{mostSegs, mostRefs}
 use Rattle.model.specs.declared.Kind.{Kind}
@@ -27,25 +27,25 @@ noMarks = replicate mostRefs false
 abbrev pub keptBy : Kind → ℕ → PriceRow → ℕ → ℕ → ℕ → Bool
 keptBy kind a row z mark t = cond (leb mark t) (keeps (row .d * retention kind z (t - mark)) (row .h * swapCost a z)) false
 
--- mark t says whether the touch in the step at place t is kept
+-- mark t says whether the touch in the step at place t is kept, where it has one
 abbrev pub KeptMarks : Trace → PriceRow → List Bool → Type 0
-KeptMarks T row marks = (t : ℕ) → t < steps T → getD marks t false ≡ kept T (row .h) (row .d) t (entry T t)
+KeptMarks T row marks = (t : ℕ) → t < steps T → entry T t < segs T → getD marks t false ≡ kept T (row .h) (row .d) t (entry T t)
 
 -- the bytes of a step that holds no segment
 unfoldable pub noSegments : List ℕ
 noSegments = replicate 32 0
 
--- a table of masks without a bit, for 256 segments
+-- a table of masks without a bit, for 256 segments and for none
 unfoldable pub noMasks : List ℕ
-noMasks = replicate 8192 0
+noMasks = replicate 8224 0
 
 -- byte j of a step that holds segment i alone
 unfoldable pub maskByte : ℕ → ℕ → ℕ
 maskByte i j = cond (eqb (i / 8) j) (2 ^ (i % 8)) 0
 
--- for each segment the bytes of a step that holds this one alone
+-- for each segment the bytes of a step that holds this one alone, and then those of a step that holds none
 unfoldable pub maskTable : List ℕ
-maskTable = listOf 8192 (λ n. maskByte (n / 32) (n % 32))
+maskTable = listOf 8224 (λ n. maskByte (n / 32) (n % 32))
 
 -- a byte with its bits in a mask replaced by those of another byte
 unfoldable pub masked : ℕ → ℕ → ℕ → ℕ

@@ -8,13 +8,14 @@ use model::PriceRow;
 use model::Refusal;
 use model::Verdict;
 ghost use mathlib.Core.Path.{_≡_};
-ghost use mathlib.Core.Bool.{cond};
+ghost use mathlib.Core.Bool.{true, false, cond, not};
+ghost use lib.Dec.{ltb};
 ghost use Prim.Native.Nat.{ℕ, _+_, _*_, _/_, _%_, _^_, _≤_, _<_};
 ghost use lib.ListN.{length, getD};
 ghost use Rattle.model.specs.Costs.{unitCost, swapCost};
 ghost use Rattle.model.specs.Schedules.{bit};
 ghost use Rattle.schedule.specs.Checking.{noPrice, priceAnswer};
-ghost use Rattle.schedule.specs.Requires.{runOf, Limits};
+ghost use Rattle.schedule.specs.Requires.{runOf, Limits, segmentOf};
 ghost use Rattle.schedule.specs.Pricing.{heldOf, unitAt, Step, Passed, Passing, Through, After, Moved};
 
 // What the segments passed so far show of a step: whether an untouched one entered, and the cost of those that left.
@@ -134,14 +135,15 @@ fn pass_word(
     refs: &[u16],
     schedule: &[u8],
     t: usize,
+    x: usize,
     m: usize,
     c: Changes,
 ) -> Changes
     requires { ⌜ Step (runOf kind a (now sizes) (now refs)) (now schedule) t ⌝ }
+    requires { ⌜ x ≡ segmentOf (length (now sizes)) (getD (now refs) t 0) ⌝ }
     requires { ⌜ (m < 4) × Passed (runOf kind a (now sizes) (now refs)) (now schedule) t (64 * m) c ⌝ }
     ensures { λ r. ⌜ Passed (runOf kind a (now (sizes .entry)) (now (refs .entry))) (now (schedule .entry)) t (64 * m + 64) r ⌝ }
 {
-    let x = refs[t] as usize;
     let mut old = word_at(schedule, t, m);
     let mut new = word_at(schedule, t + 1, m);
     let mut i = 64 * m;
@@ -159,9 +161,18 @@ fn pass_word(
     c
 }
 
-// All segments of the step at place t.
-fn pass_step(kind: Kind, a: u8, sizes: &[u16], refs: &[u16], schedule: &[u8], t: usize) -> Changes
+// All segments of the step at place t, which touches x, or nothing where that is 256.
+fn pass_step(
+    kind: Kind,
+    a: u8,
+    sizes: &[u16],
+    refs: &[u16],
+    schedule: &[u8],
+    t: usize,
+    x: usize,
+) -> Changes
     requires { ⌜ Step (runOf kind a (now sizes) (now refs)) (now schedule) t ⌝ }
+    requires { ⌜ x ≡ segmentOf (length (now sizes)) (getD (now refs) t 0) ⌝ }
     ensures { λ r. ⌜ Passed (runOf kind a (now (sizes .entry)) (now (refs .entry))) (now (schedule .entry)) t 256 r ⌝ }
 {
     let mut c = Changes {
@@ -170,7 +181,7 @@ fn pass_step(kind: Kind, a: u8, sizes: &[u16], refs: &[u16], schedule: &[u8], t:
     };
     let mut m = 0;
     while m < 4 {
-        c = pass_word(kind, a, sizes, refs, schedule, t, m, c);
+        c = pass_word(kind, a, sizes, refs, schedule, t, x, m, c);
         m += 1;
     }
     c
@@ -198,6 +209,38 @@ fn moved(kind: Kind, a: u8, z: u16, before: bool, left: u64, c: Costs) -> Costs
     }
 }
 
+// Whether the step at place t touches a segment x that it does not hold; 256 is none.
+fn lacks(schedule: &[u8], t: usize, x: usize) -> bool
+    requires { ⌜ (32 * t + 32 ≤ length (now schedule)) × (x ≤ 256) ⌝ }
+    ensures { λ r. ⌜ r ≡ cond (ltb x 256) (not (heldOf (now (schedule .entry)) (t + 1) x)) false ⌝ }
+{
+    if x < 256 {
+        return !holds(schedule, t + 1, x);
+    }
+    false
+}
+
+// Whether the step at place t loads nothing: it touches a segment x that was held before, or none, where x is 256.
+fn loads_none(schedule: &[u8], t: usize, x: usize) -> bool
+    requires { ⌜ (32 * t ≤ length (now schedule)) × (x ≤ 256) ⌝ }
+    ensures { λ r. ⌜ r ≡ cond (ltb x 256) (heldOf (now (schedule .entry)) t x) true ⌝ }
+{
+    if x < 256 {
+        return holds(schedule, t, x);
+    }
+    true
+}
+
+// The size of segment x, 0 where it is none.
+fn size_at(sizes: &[u16], x: usize) -> u16
+    ensures { λ r. ⌜ r ≡ getD (now (sizes .entry)) x 0 ⌝ }
+{
+    if x < sizes.len() {
+        return sizes[x];
+    }
+    0
+}
+
 // One step more, at place t.
 fn step(
     kind: Kind,
@@ -212,16 +255,23 @@ fn step(
     requires { ⌜ Through (runOf kind a (now sizes) (now refs)) (now schedule) t c ⌝ }
     ensures { λ r. ⌜ After (runOf kind a (now (sizes .entry)) (now (refs .entry))) (now (schedule .entry)) t r ⌝ }
 {
-    let x = refs[t] as usize;
-    if !holds(schedule, t + 1, x) {
+    let x = crate::writing::segment_of(sizes.len(), refs[t]);
+    if lacks(schedule, t, x) {
         return Stepped::Faulty(Refusal::TouchedNotHeld);
     }
-    let found = pass_step(kind, a, sizes, refs, schedule, t);
+    let found = pass_step(kind, a, sizes, refs, schedule, t, x);
     if found.others {
         return Stepped::Faulty(Refusal::HeldNotBefore);
     }
-    let before = holds(schedule, t, x);
-    Stepped::Priced(moved(kind, a, sizes[x], before, found.left, c))
+    let before = loads_none(schedule, t, x);
+    Stepped::Priced(moved(
+        kind,
+        a,
+        size_at(sizes, x),
+        before,
+        found.left,
+        c,
+    ))
 }
 
 // What a refusal answers: zeros.

@@ -9,7 +9,7 @@ ghost use Prim.Native.Nat.{_+_, _*_, _≤_, _<_};
 ghost use lib.ListN.{length, drop};
 ghost use lib.Seq.{paste};
 ghost use Rattle.model.specs.Schedules.{optimalSchedule};
-ghost use Rattle.schedule.specs.Requires.{runOf, Limits};
+ghost use Rattle.schedule.specs.Requires.{runOf, Limits, segmentOf};
 ghost use Rattle.schedule.specs.Writing.{allUntouched, noMarks, noSegments, noMasks, maskTable, masked, stepWith, keptBy, KeptMarks};
 
 // The mark of a segment that was not touched yet. It is past every step.
@@ -37,10 +37,10 @@ fn no_segments() -> [u8; 32]
 }
 
 // A table of masks without a bit.
-fn no_masks() -> [u8; 8192]
+fn no_masks() -> [u8; 8224]
     ensures { λ r. ⌜ r ≡ noMasks ⌝ }
 {
-    [0; 8192]
+    [0; 8224]
 }
 
 // Whether a touch, after so many steps, of a segment of size z with that mark in the table of last touches is kept.
@@ -65,15 +65,19 @@ fn kept_marks(kind: Kind, a: u8, row: PriceRow, sizes: &[u16], refs: &[u16]) -> 
     let mut t: usize = 0;
     while t < refs.len() {
         let i = refs[t] as usize;
-        marks[t] = touch_kept(kind, a, row, sizes[i], last[i], t as u16);
-        t += 1;
-        last[i] = t as u16;
+        if i < sizes.len() {
+            marks[t] = touch_kept(kind, a, row, sizes[i], last[i], t as u16);
+            t += 1;
+            last[i] = t as u16;
+        } else {
+            t += 1;
+        }
     }
     marks
 }
 
 // For each segment the bytes of a step that holds this one alone.
-fn mask_table() -> [u8; 8192]
+fn mask_table() -> [u8; 8224]
     ensures { λ r. ⌜ r ≡ maskTable ⌝ }
 {
     let mut masks = no_masks();
@@ -92,6 +96,14 @@ fn masked(byte: u8, mask: u8, on: u8) -> u8
     byte - (byte & mask) + (mask & on)
 }
 
+// The segment of an entry of so many segments, 256 where it is none.
+pub fn segment_of(segs: usize, entry: u16) -> usize
+    ensures { λ r. ⌜ r ≡ segmentOf segs entry ⌝ }
+{
+    let i = entry as usize;
+    if i < segs { i } else { 256 }
+}
+
 // All bits, or none.
 fn all_bits(on: bool) -> u8
     ensures { λ r. ⌜ r ≡ cond on 255 0 ⌝ }
@@ -100,8 +112,8 @@ fn all_bits(on: bool) -> u8
 }
 
 // One step: the bytes of `next` with segment i held go to `out` from `at` on, and in `next` i is held where `on` is 255, not where it is 0.
-fn put_step(masks: &[u8; 8192], i: usize, on: u8, at: usize, next: &mut [u8; 32], out: &mut [u8])
-    requires { ⌜ (now masks ≡ maskTable) × (i < 256) × (length (now next) ≡ 32) × (at + 32 ≤ length (now out)) ⌝ }
+fn put_step(masks: &[u8; 8224], i: usize, on: u8, at: usize, next: &mut [u8; 32], out: &mut [u8])
+    requires { ⌜ (now masks ≡ maskTable) × (i ≤ 256) × (length (now next) ≡ 32) × (at + 32 ≤ length (now out)) ⌝ }
     ensures { λ _. ⌜ now (next .exit) ≡ stepWith (now (next .entry)) i on ⌝ }
     ensures { λ _. ⌜ now (out .exit) ≡ paste (now (out .entry)) at (stepWith (now (next .entry)) i 255) 32 ⌝ }
 {
@@ -129,7 +141,7 @@ pub fn write_optimal(kind: Kind, a: u8, row: PriceRow, sizes: &[u16], refs: &[u1
     let mut t = refs.len();
     while 0 < t {
         t -= 1;
-        let i = refs[t] as usize;
+        let i = segment_of(sizes.len(), refs[t]);
         put_step(&masks, i, all_bits(marks[t]), 32 * t, &mut next, out);
     }
 }

@@ -2,13 +2,15 @@
 -- measure is what is left of the references. Assumes nothing.
 use borrow.Author.Needs.{needs}
 use Prim.Native.Nat.{_-_, _<_}
+use mathlib.Core.Path.{refl}
 use native.Mathlib.Omega.{arith}
 use lib.ListN.{length, getD}
 use Rattle.model.specs.Sheets.{SheetValue, Valid, traceOf}
 use Rattle.figures.specs.Pass.{rowsOf, sheetApart, Limited}
 use Rattle.figures.proofs.Filling.{filling-room}
-use Rattle.figures.proofs.Passing.{valid-run, valid-ascending, Passing, passing-start, passing-step, passing-end}
+use Rattle.figures.proofs.Passing.{valid-run, valid-ascending, Passing, passing-start, passing-step, passing-idle, passing-end}
 use Rattle.figures.proofs.Passing.{cost-room, volume-room}
+use Rattle.figures.proofs.Marks.{last-start}
 use Rattle.figures.proofs.Rates.{touch-placed}
 use Rattle.figures.proofs.Touches.{placed, placed-limited}
 use Rattle.figures.proofs.pass.references.Statement.{statement}
@@ -38,23 +40,27 @@ args-sheet s =
 valid : (c : tie.In-loop Inv-loop μ-loop) → Valid (args-sheet (entry c))
 valid c = entry c .pre .1 .1 .1
 
--- the touched segment is one of the sheet, so among those of the table
-is-segment : (c : tie.In-loop Inv-loop μ-loop)
-    → getD (entry c .args .refs .now) (c .before .loop .t) 0 < length (entry c .args .sizes .now)
-is-segment c = valid c .ref-within (c .before .loop .t) (c .loop-test .taken)
+-- the turn of the loop in which a segment is touched
+abbrev loop-of : tie.Then1 Inv-loop μ-loop → tie.In-loop Inv-loop μ-loop
+loop-of c = c .before .before
 
-in-table : (c : tie.In-loop Inv-loop μ-loop) → getD (entry c .args .refs .now) (c .before .loop .t) 0 < 256
-in-table c = omega (arith, is-segment c, valid c .segs-within)
+-- the touched segment is one of the sheet, so among those of the table
+is-segment : (c : tie.Then1 Inv-loop μ-loop)
+    → getD (entry (loop-of c) .args .refs .now) (loop-of c .before .loop .t) 0 < length (entry (loop-of c) .args .sizes .now)
+is-segment c = c .if1 .taken
+
+in-table : (c : tie.Then1 Inv-loop μ-loop) → getD (entry (loop-of c) .args .refs .now) (loop-of c .before .loop .t) 0 < 256
+in-table c = omega (arith, is-segment c, valid (loop-of c) .segs-within)
 
 -- it has a rate
-in-rates : (c : tie.In-loop Inv-loop μ-loop)
-    → getD (entry c .args .refs .now) (c .before .loop .t) 0 < length (entry c .args .rates .now)
-in-rates c = omega (arith, is-segment c, entry c .pre .1 .1 .0 .as-many)
+in-rates : (c : tie.Then1 Inv-loop μ-loop)
+    → getD (entry (loop-of c) .args .refs .now) (loop-of c .before .loop .t) 0 < length (entry (loop-of c) .args .rates .now)
+in-rates c = omega (arith, is-segment c, entry (loop-of c) .pre .1 .1 .0 .as-many)
 
 loop-holds : tie.Need-loop-holds Inv-loop μ-loop
 loop-holds c =
     let s = c .before .before .before .before .before .before .before .before in
-    rw (c .before .empty-buckets .ensures, c .untouched .ensures) (passing-start _ _ (valid-run _ (s .pre .1 .1 .1)))
+    rw (c .before .empty-buckets .ensures, c .untouched .ensures) (passing-start _ _ (valid-run _ (s .pre .1 .1 .1)) _ (last-start (traceOf (args-sheet s)) (λ i. refl)))
 
 mul-i : tie.Need-mul-i Inv-loop μ-loop
 mul-i c = omega arith
@@ -63,19 +69,19 @@ shared-slice-read-i : tie.Need-shared-slice-read-i Inv-loop μ-loop
 shared-slice-read-i c = omega arith
 
 cast-i : tie.Need-cast-i Inv-loop μ-loop
-cast-i c = omega (arith, in-table (c .before))
+cast-i c = omega (arith, c .shared-slice-known7 .given (c .before .before .loop .t))
 
 mul-z : tie.Need-mul-z Inv-loop μ-loop
-mul-z c = omega (arith, in-table (c .before))
+mul-z c = omega (arith, in-table c)
 
 shared-slice-read-z : tie.Need-shared-slice-read-z Inv-loop μ-loop
-shared-slice-read-z c = is-segment (c .before .before)
+shared-slice-read-z c = is-segment (c .before)
 
 mul-mark : tie.Need-mul-mark Inv-loop μ-loop
-mul-mark c = omega (arith, in-table (c .before .before))
+mul-mark c = omega (arith, in-table (c .before))
 
 array-read-mark : tie.Need-array-read-mark Inv-loop μ-loop
-array-read-mark c = in-table (c .before .before)
+array-read-mark c = in-table (c .before)
 
 cast-touch-of : tie.Need-cast-touch-of Inv-loop μ-loop
 cast-touch-of c = omega arith
@@ -84,18 +90,18 @@ touch-of-requires : tie.Need-touch-of-requires Inv-loop μ-loop
 touch-of-requires c κs = search needs
 
 mul-bucket-of : tie.Need-mul-bucket-of Inv-loop μ-loop
-mul-bucket-of c = omega (arith, in-table (c .before .before .before))
+mul-bucket-of c = omega (arith, in-table (c .before .before))
 
 shared-slice-read-bucket-of : tie.Need-shared-slice-read-bucket-of Inv-loop μ-loop
-shared-slice-read-bucket-of c = in-rates (c .before .before .before .before)
+shared-slice-read-bucket-of c = in-rates (c .before .before .before)
 
 cast-bucket-of : tie.Need-cast-bucket-of Inv-loop μ-loop
 cast-bucket-of c = omega arith
 
 bucket-of-requires : tie.Need-bucket-of-requires Inv-loop μ-loop
 bucket-of-requires c κs =
-    let l = c .before .before .before .before in
-    let s = entry l in (s .pre .1 .0 .listed, s .pre .1 .1 .0 .within _ (in-rates l))
+    let l = c .before .before .before in
+    let s = entry (loop-of l) in (s .pre .1 .0 .listed, s .pre .1 .1 .0 .within _ (in-rates l))
 
 mul-b : tie.Need-mul-b Inv-loop μ-loop
 mul-b c = omega arith
@@ -110,7 +116,7 @@ touch-limited c = placed-limited _ _ (c .before .before .touch-of .ensures .0) (
 add-touch-requires : tie.Need-add-touch-requires Inv-loop μ-loop
 add-touch-requires c κs =
     let d = c .before in
-    let l = d .before .before .before .before .before .before in
+    let l = d .before .before .before .before .before .before .before in
     (filling-room _ _ _ _ (l .loop .inv .filling) _ (d .bucket-of .ensures .0) _, touch-limited d)
 
 mul-buckets : tie.Need-mul-buckets Inv-loop μ-loop
@@ -126,27 +132,29 @@ cast-last : tie.Need-cast-last Inv-loop μ-loop
 cast-last c = omega arith
 
 mul-last : tie.Need-mul-last Inv-loop μ-loop
-mul-last c = omega (arith, in-table (c .before .before .before .before .before .before .before))
+mul-last c = omega (arith, in-table (c .before .before .before .before .before .before))
 
 array-write-last : tie.Need-array-write-last Inv-loop μ-loop
-array-write-last c = in-table (c .before .before .before .before .before .before .before)
+array-write-last c = in-table (c .before .before .before .before .before .before)
 
 unit-cost-requires : tie.Need-unit-cost-requires Inv-loop μ-loop
 unit-cost-requires c κs = search needs
 
 -- a turn of the loop, from its end
-abbrev turn : tie.After-unit-cost Inv-loop μ-loop → tie.In-loop Inv-loop μ-loop
-turn c = c .before .before .before .before .before .before .before .before
+abbrev turn : tie.After-unit-cost Inv-loop μ-loop → tie.Then1 Inv-loop μ-loop
+turn c = c .before .before .before .before .before .before .before
 
 add-cost : tie.Need-add-cost Inv-loop μ-loop
 add-cost c =
-    let e = turn c in
-    record { fits = cost-room _ _ (valid-run _ (valid e)) _ _ _ _ _ (e .before .loop .inv) (e .loop-test .taken) _ (c .unit-cost .ensures) }
+    let e = loop-of (turn c) in
+    record {
+      fits = cost-room _ _ (valid-run _ (valid e)) _ _ _ _ _ (e .before .loop .inv) (e .loop-test .taken) (is-segment (turn c)) _ (c .unit-cost .ensures);
+    }
 
 add-volume : tie.Need-add-volume Inv-loop μ-loop
 add-volume c =
-    let e = turn c in
-    record { fits = volume-room _ _ (valid-run _ (valid e)) _ _ _ _ _ (e .before .loop .inv) (e .loop-test .taken) }
+    let e = loop-of (turn c) in
+    record { fits = volume-room _ _ (valid-run _ (valid e)) _ _ _ _ _ (e .before .loop .inv) (e .loop-test .taken) (is-segment (turn c)) }
 
 cast-volume : tie.Need-cast-volume Inv-loop μ-loop
 cast-volume c = omega (arith, add-volume c)
@@ -157,14 +165,26 @@ loop-less c = omega arith
 loop-again : tie.Need-loop-again Inv-loop μ-loop
 loop-again c =
     let d = c .before .before .before in
-    let e = turn c in
+    let e = loop-of (turn c) in
     let s = entry e in
     let v = valid e in
-    let here = is-segment e in
-    passing-step _ _ (valid-run _ v) _ _ _ _ _ (e .before .loop .inv) (e .loop-test .taken) _ (touch-limited d)
+    let here = is-segment (turn c) in
+    passing-step _ _ (valid-run _ v) _ _ _ _ _ (e .before .loop .inv) (e .loop-test .taken) here _ (touch-limited d)
     (touch-placed _ _ _ _ _ (s .pre .0) (s .pre .1 .0) _ _ _ _ _ _ (v .a-within) (v .size-within _ here)
     (omega (arith, e .loop-test .taken, v .refs-within)) (s .pre .1 .1 .0 .of-segment _ here) (d .before .before .touch-of .ensures .1)
     (d .bucket-of .ensures .1) (valid-ascending _ v)) _ _ (c .before .add-touch .ensures) _ (c .unit-cost .ensures)
+
+add-t-2 : tie.Need-add-t-2 Inv-loop μ-loop
+add-t-2 c = omega arith
+
+loop-less-2 : tie.Need-loop-less-2 Inv-loop μ-loop
+loop-less-2 c = omega arith
+
+-- a step in which nothing is touched
+loop-again-2 : tie.Need-loop-again-2 Inv-loop μ-loop
+loop-again-2 c =
+    let e = c .before .before in
+    passing-idle _ _ (valid-run _ (valid e)) _ _ _ _ _ (e .before .loop .inv) (e .loop-test .taken) (c .if1 .left)
 
 returns : tie.Need-returns Inv-loop μ-loop
 returns c =
@@ -208,4 +228,7 @@ references-spec =
     add-volume
     loop-less
     loop-again
+    add-t-2
+    loop-less-2
+    loop-again-2
     returns)

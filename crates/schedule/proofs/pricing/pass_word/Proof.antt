@@ -14,26 +14,17 @@ use Rattle.schedule.proofs.pricing.pass_word.Statement.{statement}
 use Rattle.schedule.proofs.pricing.pass_word.Tie as tie
 
 abbrev Inv-loop : tie.InvT-loop
-Inv-loop kind a sizes refs schedule t m x old₀ new₀ i₀ c₀ old new i c =
+Inv-loop kind a sizes refs schedule t x m old₀ new₀ i₀ c₀ old new i c =
     Passes kind a sizes refs schedule t (64 * m + 64) i old new c
 
 abbrev μ-loop : tie.MeasureT-loop
-μ-loop kind a sizes refs schedule t m x old₀ new₀ i₀ c₀ old new i c = 64 * m + 64 - i
+μ-loop kind a sizes refs schedule t x m old₀ new₀ i₀ c₀ old new i c = 64 * m + 64 - i
 
 -- the first bit that differs stands within the word
 differs : (c : tie.In-loop Inv-loop μ-loop)
     → c .before .loop .i + trailingZeros 64 (bitXor (c .before .loop .old) (c .before .loop .new))
-    < 64 * c .before .before .before .before .before .before .before .before .args .m + 64
+    < 64 * c .before .before .before .before .before .before .before .args .m + 64
 differs c = differs-below _ _ _ _ _ _ _ _ _ _ _ (c .before .loop .inv) (c .loop-test .taken)
-
-mul-x : tie.Need-mul-x Inv-loop μ-loop
-mul-x c = search needs
-
-shared-slice-read-x : tie.Need-shared-slice-read-x Inv-loop μ-loop
-shared-slice-read-x c = search needs
-
-cast-x : tie.Need-cast-x Inv-loop μ-loop
-cast-x c = omega (arith, c .shared-slice-known4 .given (c .before .before .before .before .args .t))
 
 word-at-requires : tie.Need-word-at-requires Inv-loop μ-loop
 word-at-requires c κs = search needs
@@ -52,8 +43,8 @@ loop-holds c = record {
   within = omega arith;
   close = omega arith;
   before = rest-start _ _ _ _ (c .before .word-at .ok) (c .before .word-at .ensures);
-  after = rest-start _ _ _ _ (c .word-at2 .ok) (rw (add-one (c .before .before .before .before .before .before .args .t)) at (c .word-at2 .ensures));
-  passed = c .before .before .before .before .before .before .pre .1 .1;
+  after = rest-start _ _ _ _ (c .word-at2 .ok) (rw (add-one (c .before .before .before .before .before .args .t)) at (c .word-at2 .ensures));
+  passed = c .before .before .before .before .before .pre .1 .1 .1;
 }
 
 cast-o : tie.Need-cast-o Inv-loop μ-loop
@@ -76,7 +67,7 @@ add-next c = omega (arith, differs c)
 
 pass-requires : tie.Need-pass-requires Inv-loop μ-loop
 pass-requires c κs =
-    let start = c .before .before .before .before .before .before .before .before in
+    let start = c .before .before .before .before .before .before .before in
     passed-within _ (start .pre .0 .limits) _ _ _ _ (c .before .loop .inv .passed) (omega arith)
 
 add-i : tie.Need-add-i Inv-loop μ-loop
@@ -87,8 +78,9 @@ loop-less c = omega (arith, differs (c .before))
 
 loop-again : tie.Need-loop-again Inv-loop μ-loop
 loop-again c =
-    let start = c .before .before .before .before .before .before .before .before .before in
-    passes-on _ _ _ _ _ _ _ _ _ _ _ _ _ (start .pre .0) (c .before .before .loop .inv) (c .before .loop-test .taken) refl (c .pass .ensures)
+    let start = c .before .before .before .before .before .before .before .before in
+    passes-on _ _ _ _ _ _ _ _ _ _ _ _ _ (start .pre .0) (c .before .before .loop .inv) (c .before .loop-test .taken) (omega (arith, start .pre .1 .1 .0)) refl
+    (rw (start .pre .1 .0) at (c .pass .ensures))
 
 returns : tie.Need-returns Inv-loop μ-loop
 returns c = passes-end _ _ _ _ _ _ _ _ _ _ _ (c .before .loop .inv) (c .loop-test .left)
@@ -99,9 +91,6 @@ pass-word-spec =
     (tie.spec
     Inv-loop
     μ-loop
-    mul-x
-    shared-slice-read-x
-    cast-x
     word-at-requires
     add-word-at
     word-at-requires-2

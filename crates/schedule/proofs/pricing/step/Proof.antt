@@ -1,100 +1,103 @@
 -- `pricing::step` meets its contract. Assumes nothing.
 use mathlib.Core.Path.{sym, _∙_}
 use native.Mathlib.Omega.{arith}
-use borrow.Author.Tests.{not-true, not-false}
-use Rattle.schedule.proofs.Changes.{held-before, held-after}
-use Rattle.schedule.proofs.Costs.{lacks, enters-wrongly, left-within, through-within, through-step}
+use denote.Ref.{now}
 use borrow.Author.Needs.{needs}
+use Rattle.schedule.proofs.Changes.{segment-within, lacks-told, loads-told}
+use Rattle.schedule.proofs.Costs.{any-lacks, any-enters, any-within, any-through, through-within}
 use Rattle.schedule.proofs.pricing.step.Statement.{statement}
 use Rattle.schedule.proofs.pricing.step.Tie as tie
 
-mul-x : tie.Need-mul-x
-mul-x c = search needs
+mul-segment-of : tie.Need-mul-segment-of
+mul-segment-of c = search needs
 
-shared-slice-read-x : tie.Need-shared-slice-read-x
-shared-slice-read-x c = search needs
+shared-slice-read-segment-of : tie.Need-shared-slice-read-segment-of
+shared-slice-read-segment-of c = search needs
 
-cast-x : tie.Need-cast-x
-cast-x c = omega (arith, c .shared-slice-known4 .given (c .before .before .before .before .args .t))
+segment-of-requires : tie.Need-segment-of-requires
+segment-of-requires c κs = search needs
 
-add-holds : tie.Need-add-holds
-add-holds c = search needs
+-- where the function begins
+abbrev Entry : tie.After-segment-of → tie.Start
+Entry c = c .before .before .before .before .before
 
-holds-requires : tie.Need-holds-requires
-holds-requires c κs =
-    let start = c .before .before .before .before in
-    let at = start .pre .0 in
-    omega (arith, at .whole, at .place, at .limits .segs-within, at .limits .ref-within _ (at .place))
+lacks-requires : tie.Need-lacks-requires
+lacks-requires c κs =
+    let at = Entry c .pre .0 in
+    (omega (arith, at .whole, at .place), rw (c .segment-of .ensures) (segment-within _ _ (at .limits .segs-within)))
 
 returns : tie.Need-returns
 returns c =
-    let start = c .before .before .before .before .before .before in
-    let at = start .pre .0 in
-    lacks _ (at .limits) _ _ (at .place) (held-after _ _ _ _ _ _ _ _ (c .before .holds .ensures) ∙ not-true _ (c .if1 .taken))
+    let x = c .before .before in
+    let A = Entry x .args in
+    let at = Entry x .pre .0 in
+    any-lacks _ (at .limits) _ _ (at .place) _ (x .segment-of .ensures)
+    (lacks-told (A .kind) (A .a) (now (A .sizes)) (now (A .refs)) (now (A .schedule)) (A .t) (x .segment-of .result) _ (c .before .lacks .ensures) ∙ c .if1 .taken)
 
 pass-step-requires : tie.Need-pass-step-requires
-pass-step-requires c κs = search needs
+pass-step-requires c κs =
+    let x = c .before .before in
+    (Entry x .pre .0, x .segment-of .ensures)
 
 returns-2 : tie.Need-returns-2
 returns-2 c =
-    let start = c .before .before .before .before .before .before .before .before in
-    let at = start .pre .0 in
-    enters-wrongly _ (at .limits) _ _ (at .place)
-    (held-after _ _ _ _ _ _ _ _ (c .before .before .before .holds .ensures) ∙ not-false _ (c .before .before .if1 .left))
+    let l = c .before .before in
+    let x = l .before .before in
+    let A = Entry x .args in
+    let at = Entry x .pre .0 in
+    any-enters _ (at .limits) _ _ (at .place) _ (x .segment-of .ensures)
+    (lacks-told (A .kind) (A .a) (now (A .sizes)) (now (A .refs)) (now (A .schedule)) (A .t) (x .segment-of .result) _ (l .before .lacks .ensures) ∙ l .if1 .left)
     (sym (c .before .pass-step .ensures .entered) ∙ c .if2 .taken)
 
-holds-requires-2 : tie.Need-holds-requires-2
-holds-requires-2 c κs =
-    let start = c .before .before .before .before .before .before .before .before in
-    let at = start .pre .0 in
-    omega (arith, at .whole, at .place, at .limits .segs-within, at .limits .ref-within _ (at .place))
+loads-none-requires : tie.Need-loads-none-requires
+loads-none-requires c κs =
+    let x = c .before .before .before .before in
+    let at = Entry x .pre .0 in
+    (omega (arith, at .whole, at .place), rw (x .segment-of .ensures) (segment-within _ _ (at .limits .segs-within)))
 
-mul-moved : tie.Need-mul-moved
-mul-moved c =
-    let start = c .before .before .before .before .before .before .before .before .before in
-    let at = start .pre .0 in
-    omega (arith, at .limits .segs-within, at .limits .ref-within _ (at .place))
-
-shared-slice-read-moved : tie.Need-shared-slice-read-moved
-shared-slice-read-moved c =
-    let start = c .before .before .before .before .before .before .before .before .before .before in
-    let at = start .pre .0 in
-    at .limits .ref-within _ (at .place)
+size-at-requires : tie.Need-size-at-requires
+size-at-requires c κs = search needs
 
 moved-requires : tie.Need-moved-requires
 moved-requires c κs =
-    let start = c .before .before .before .before .before .before .before .before .before .before in
+    let e = c .before .before in
+    let l = e .before .before in
+    let x = l .before .before in
+    let start = Entry x in
+    let A = start .args in
     let at = start .pre .0 in (
       through-within _ (at .limits) _ _ _ (omega (arith, at .place, at .limits .refs-within)) (omega (arith, start .fits .a)) (start .pre .1),
-      left-within _ (at .limits) _ _ (at .place) _ _ (start .pre .1) (c .before .before .before .pass-step .ensures)
-          (held-after _ _ _ _ _ _ _ _ (c .before .before .before .before .before .holds .ensures)
-          ∙ not-false _ (c .before .before .before .before .if1 .left))
-          (c .before .before .if2 .left) _ (held-before _ _ _ _ _ _ _ _ (c .before .holds2 .ensures)),
+      rw (c .size-at .ensures)
+          (any-within _ (at .limits) _ _ (at .place) _ (x .segment-of .ensures) _ _ (start .pre .1) (e .before .pass-step .ensures)
+          (lacks-told (A .kind) (A .a) (now (A .sizes)) (now (A .refs)) (now (A .schedule)) (A .t) (x .segment-of .result) _ (l .before .lacks .ensures) ∙ l .if1 .left) (e .if2 .left) _
+          (loads-told (A .kind) (A .a) (now (A .sizes)) (now (A .refs)) (now (A .schedule)) (A .t) (x .segment-of .result) _ (c .before .loads-none .ensures))),
     )
 
 returns-3 : tie.Need-returns-3
 returns-3 c =
-    let start = c .before .before .before .before .before .before .before .before .before .before .before in
+    let s = c .before in
+    let e = s .before .before in
+    let l = e .before .before in
+    let x = l .before .before in
+    let start = Entry x in
+    let A = start .args in
     let at = start .pre .0 in
-    through-step _ (at .limits) _ _ (at .place) _ _ (start .pre .1) (c .before .before .before .before .pass-step .ensures)
-    (held-after _ _ _ _ _ _ _ _ (c .before .before .before .before .before .before .holds .ensures)
-    ∙ not-false _ (c .before .before .before .before .before .if1 .left))
-    (c .before .before .before .if2 .left) _ (held-before _ _ _ _ _ _ _ _ (c .before .before .holds2 .ensures)) _ (c .moved .ensures)
+    any-through _ (at .limits) _ _ (at .place) _ (x .segment-of .ensures) _ _ (start .pre .1) (e .before .pass-step .ensures)
+    (lacks-told (A .kind) (A .a) (now (A .sizes)) (now (A .refs)) (now (A .schedule)) (A .t) (x .segment-of .result) _ (l .before .lacks .ensures) ∙ l .if1 .left) (e .if2 .left) _
+    (loads-told (A .kind) (A .a) (now (A .sizes)) (now (A .refs)) (now (A .schedule)) (A .t) (x .segment-of .result) _ (s .before .loads-none .ensures)) _ (rw (s .size-at .ensures) at (c .moved .ensures))
 
 pub step-spec : {M : Type 1} → statement M
 step-spec =
     tie.close
     (tie.spec
-    mul-x
-    shared-slice-read-x
-    cast-x
-    add-holds
-    holds-requires
+    mul-segment-of
+    shared-slice-read-segment-of
+    segment-of-requires
+    lacks-requires
     returns
     pass-step-requires
     returns-2
-    holds-requires-2
-    mul-moved
-    shared-slice-read-moved
+    loads-none-requires
+    size-at-requires
     moved-requires
     returns-3)

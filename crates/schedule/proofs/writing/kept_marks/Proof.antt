@@ -6,7 +6,7 @@ use lib.ListN.{length, getD}
 use denote.Ref.{now}
 use borrow.Author.Needs.{needs}
 use Rattle.schedule.specs.Requires.{runOf}
-use Rattle.schedule.proofs.Marks.{Marked, marked-start, marked-step}
+use Rattle.schedule.proofs.Marks.{Marked, marked-start, marked-step, marked-idle}
 use Rattle.schedule.proofs.writing.kept_marks.Statement.{statement}
 use Rattle.schedule.proofs.writing.kept_marks.Tie as tie
 
@@ -27,8 +27,9 @@ abbrev Entry : tie.In-loop Inv-loop μ-loop → tie.Start Inv-loop μ-loop
 Entry c = c .before .before .before .before .before .before
 
 -- the reference of a turn is a segment
-is-segment : (c : tie.In-loop Inv-loop μ-loop) → getD (now (Entry c .args .refs)) (c .before .loop .t) 0 < length (now (Entry c .args .sizes))
-is-segment c = Entry c .pre .ref-within (c .before .loop .t) (omega arith)
+is-segment : (c : tie.Then1 Inv-loop μ-loop)
+    → getD (now (Entry (c .before .before) .args .refs)) (c .before .before .before .loop .t) 0 < length (now (Entry (c .before .before) .args .sizes))
+is-segment c = c .if1 .taken
 
 loop-holds : tie.Need-loop-holds Inv-loop μ-loop
 loop-holds c =
@@ -44,47 +45,48 @@ shared-slice-read-i : tie.Need-shared-slice-read-i Inv-loop μ-loop
 shared-slice-read-i c = search needs
 
 cast-i : tie.Need-cast-i Inv-loop μ-loop
-cast-i c = omega (arith, is-segment (c .before), Entry (c .before) .pre)
+cast-i c = omega (arith, c .shared-slice-known3 .given (c .before .before .loop .t))
 
 mul-touch-kept : tie.Need-mul-touch-kept Inv-loop μ-loop
-mul-touch-kept c = omega (arith, is-segment (c .before), Entry (c .before) .pre)
+mul-touch-kept c = omega (arith, is-segment c, Entry (c .before .before) .pre)
 
 shared-slice-read-touch-kept : tie.Need-shared-slice-read-touch-kept Inv-loop μ-loop
-shared-slice-read-touch-kept c = omega (arith, is-segment (c .before .before), Entry (c .before .before) .pre)
+shared-slice-read-touch-kept c = omega (arith, is-segment (c .before), Entry (c .before .before .before) .pre)
 
 mul-touch-kept-2 : tie.Need-mul-touch-kept-2 Inv-loop μ-loop
-mul-touch-kept-2 c = omega (arith, is-segment (c .before .before), Entry (c .before .before) .pre)
+mul-touch-kept-2 c = omega (arith, is-segment (c .before), Entry (c .before .before .before) .pre)
 
 array-read-touch-kept : tie.Need-array-read-touch-kept Inv-loop μ-loop
-array-read-touch-kept c = omega (arith, is-segment (c .before .before), Entry (c .before .before) .pre)
+array-read-touch-kept c = omega (arith, is-segment (c .before), Entry (c .before .before .before) .pre)
 
 cast-touch-kept : tie.Need-cast-touch-kept Inv-loop μ-loop
-cast-touch-kept c = omega (arith, Entry (c .before .before) .pre)
+cast-touch-kept c = omega (arith, Entry (c .before .before .before) .pre)
 
 touch-kept-requires : tie.Need-touch-kept-requires Inv-loop μ-loop
 touch-kept-requires c κs = search needs
 
 array-write-marks : tie.Need-array-write-marks Inv-loop μ-loop
-array-write-marks c = omega (arith, Entry (c .before .before .before) .pre)
+array-write-marks c = omega (arith, Entry (c .before .before .before .before) .pre)
 
 add-t : tie.Need-add-t Inv-loop μ-loop
 add-t c = search needs
 
 cast-last : tie.Need-cast-last Inv-loop μ-loop
-cast-last c = omega (arith, Entry (c .before .before .before) .pre)
+cast-last c = omega (arith, Entry (c .before .before .before .before) .pre)
 
 mul-last : tie.Need-mul-last Inv-loop μ-loop
-mul-last c = omega (arith, is-segment (c .before .before .before), Entry (c .before .before .before) .pre)
+mul-last c = omega (arith, is-segment (c .before .before), Entry (c .before .before .before .before) .pre)
 
 array-write-last : tie.Need-array-write-last Inv-loop μ-loop
-array-write-last c = omega (arith, is-segment (c .before .before .before), Entry (c .before .before .before) .pre)
+array-write-last c = omega (arith, is-segment (c .before .before), Entry (c .before .before .before .before) .pre)
 
 loop-less : tie.Need-loop-less Inv-loop μ-loop
 loop-less c = search needs
 
 loop-again : tie.Need-loop-again Inv-loop μ-loop
 loop-again c =
-    let turn = c .before .before .before in
+    let touch = c .before .before in
+    let turn = touch .before .before in
     let s = Entry turn in
     let a = s .args in
     let l = turn .before .loop in
@@ -103,12 +105,28 @@ loop-again c =
     (l .inv)
     (turn .loop-test .taken)
     refl
+    (is-segment touch)
     (c .touch-kept .ensures)
+
+add-t-2 : tie.Need-add-t-2 Inv-loop μ-loop
+add-t-2 c = search needs
+
+loop-less-2 : tie.Need-loop-less-2 Inv-loop μ-loop
+loop-less-2 c = search needs
+
+loop-again-2 : tie.Need-loop-again-2 Inv-loop μ-loop
+loop-again-2 c =
+    let turn = c .before .before in
+    let s = Entry turn in
+    let a = s .args in
+    let l = turn .before .loop in
+    marked-idle (a .kind) (a .a) (a .row) (now (a .sizes)) (now (a .refs)) (s .pre) (l .marks) (l .last) (l .t) (l .inv)
+    (turn .loop-test .taken) (c .if1 .left)
 
 returns : tie.Need-returns Inv-loop μ-loop
 returns c =
     let l = c .before .loop in
-    λ t lt. l .inv .marked t (omega arith)
+    λ t lt touch. l .inv .marked t (omega arith) touch
 
 pub kept-marks-spec : {M : Type 1} → statement M
 kept-marks-spec =
@@ -135,4 +153,7 @@ kept-marks-spec =
     array-write-last
     loop-less
     loop-again
+    add-t-2
+    loop-less-2
+    loop-again-2
     returns)

@@ -1,18 +1,20 @@
 -- `write_optimal` meets its contract: the invariant of its loop is `Filled`, of every kind and row whose kept touches the marks tell, since
 -- the loop itself has neither. The measure is the steps that are left. Assumes nothing.
-use Prim.Native.Nat.{_-_, _≤_, _<_}
-use mathlib.Core.Path.{_≡_, sym, _∙_}
+use Prim.Native.Nat.{_-_, _≤_}
+use mathlib.Core.Bool.{false}
+use mathlib.Core.Path.{_≡_, _∙_}
 use lib.ListN.{length, getD}
 use denote.Ref.{now}
 use native.Mathlib.Omega.{arith}
 use borrow.Author.Needs.{needs}
-use Rattle.model.specs.Traces.{Trace, segs}
+use Rattle.model.specs.Traces.{Trace}
 use Rattle.model.specs.declared.Kind.{Kind}
 use Rattle.model.specs.declared.PriceRow.{PriceRow}
 use Rattle.schedule.specs.Requires.{runOf}
 use Rattle.schedule.specs.Writing.{KeptMarks}
-use Rattle.schedule.proofs.Filling.{Filled, filled-start, filled-step, filled-end, filled-next, filled-length}
+use Rattle.schedule.proofs.Filling.{Filled, filled-start, filled-turn, filled-end, filled-next, filled-length}
 use Rattle.schedule.proofs.Marks.{getD-within}
+use Rattle.schedule.proofs.Changes.{segment-within}
 use Rattle.schedule.proofs.writing.write_optimal.Statement.{statement}
 use Rattle.schedule.proofs.writing.write_optimal.Tie as tie
 
@@ -44,10 +46,6 @@ Run c =
     let a = Entry c .args in
     runOf (a .kind) (a .a) (now (a .sizes)) (now (a .refs))
 
--- the reference of a turn is a segment
-is-segment : (c : tie.In-loop Inv-loop μ-loop) → getD (Run (c .before) .refs) (c .before .loop .t - 1) 0 < segs (Run (c .before))
-is-segment c = Entry (c .before) .pre .0 .ref-within (c .before .loop .t - 1) (omega arith)
-
 -- the invariant, of that run and the row that the function is called with
 filled : (c : tie.At-loop Inv-loop μ-loop)
     → let a = Entry c .args in
@@ -75,31 +73,32 @@ loop-holds c =
 sub-t : tie.Need-sub-t Inv-loop μ-loop
 sub-t c = search needs
 
-mul-i : tie.Need-mul-i Inv-loop μ-loop
-mul-i c = search needs
+mul-segment-of : tie.Need-mul-segment-of Inv-loop μ-loop
+mul-segment-of c = search needs
 
-shared-slice-read-i : tie.Need-shared-slice-read-i Inv-loop μ-loop
-shared-slice-read-i c = search needs
+shared-slice-read-segment-of : tie.Need-shared-slice-read-segment-of Inv-loop μ-loop
+shared-slice-read-segment-of c = search needs
 
-cast-i : tie.Need-cast-i Inv-loop μ-loop
-cast-i c = omega (arith, is-segment (c .before), Entry (c .before .before) .pre .0)
+segment-of-requires : tie.Need-segment-of-requires Inv-loop μ-loop
+segment-of-requires c κs = search needs
 
 array-read-all-bits : tie.Need-array-read-all-bits Inv-loop μ-loop
-array-read-all-bits c = omega (arith, Entry (c .before .before .before) .pre .0)
+array-read-all-bits c = omega (arith, Entry (c .before .before .before .before) .pre .0)
 
 all-bits-requires : tie.Need-all-bits-requires Inv-loop μ-loop
 all-bits-requires c κs = search needs
 
 mul-put-step : tie.Need-mul-put-step Inv-loop μ-loop
-mul-put-step c = omega (arith, Entry (c .before .before .before .before) .pre .0)
+mul-put-step c = omega (arith, Entry (c .before .before .before .before .before) .pre .0)
 
 put-step-requires : tie.Need-put-step-requires Inv-loop μ-loop
 put-step-requires c κs =
-    let turn = c .before .before .before .before .before in
+    let found = c .before .before .before .before in
+    let turn = found .before .before in
     let l = turn .before in
     let s = Entry l in (
       l .before .before .mask-table .ensures,
-      omega (arith, is-segment turn, s .pre .0),
+      rw (found .segment-of .ensures) (segment-within _ _ (s .pre .0 .segs-within)),
       filled-next (Run l) (s .args .row .h) (s .args .row .d) (now (s .args .out)) (s .pre .1)
           (l .loop .next) (l .loop .out) (l .loop .t) (filled l),
       omega (arith, same l, s .pre .1, turn),
@@ -110,7 +109,8 @@ loop-less c = search needs
 
 loop-again : tie.Need-loop-again Inv-loop μ-loop
 loop-again c =
-    let turn = c .before .before .before .before .before .before .before .before in
+    let found = c .before .before .before .before .before .before .before in
+    let turn = found .before .before in
     let s = Entry (turn .before) in
     let a = s .args in
     let l = turn .before .loop in
@@ -119,7 +119,7 @@ loop-again c =
       λ kind row m.
           let run = runOf kind (a .a) (now (a .sizes)) (now (a .refs)) in
           let first = getD-within (now (a .refs)) (l .t - 1) (length (now (a .sizes))) 0 (omega (arith, turn)) in
-          filled-step
+          filled-turn
           run
           (row .h)
           (row .d)
@@ -130,14 +130,15 @@ loop-again c =
           (put .last .1 .1 .1 .1 .0)
           (put .last .1 .1 .1 .1 .1 .0)
           (l .t)
-          (getD (now (a .refs)) (l .t - 1) 0)
+          (found .segment-of .result)
           (c .before .before .before .before .before .all-bits .result)
+          (getD (c .before .before .before .before .before .before .before .before .before .before .before .before .before .kept-marks .result) (l .t - 1) false)
           (l .inv .1 kind row m)
           (turn .loop-test .taken)
           (l .inv .0)
-          (omega (arith, is-segment turn, first))
-          (sym first)
-          (c .before .before .before .before .before .all-bits .ensures ∙ rw (m (l .t - 1) (omega (arith, turn))))
+          (found .segment-of .ensures ∙ rw first)
+          (c .before .before .before .before .before .all-bits .ensures)
+          (m (l .t - 1) (omega (arith, turn)))
           (put .ensures .0)
           (put .ensures .1),
     )
@@ -163,9 +164,9 @@ write-optimal-spec =
     no-segments-requires
     loop-holds
     sub-t
-    mul-i
-    shared-slice-read-i
-    cast-i
+    mul-segment-of
+    shared-slice-read-segment-of
+    segment-of-requires
     array-read-all-bits
     all-bits-requires
     mul-put-step

@@ -1,0 +1,14 @@
+-- `writing::segment_of` meets its contract. Assumes nothing.
+use mathlib.Core.Path.{sym}
+use borrow.Author.Tests.{lt-ltb, le-ltb}
+use Rattle.schedule.proofs.writing.segment_of.Statement.{statement}
+use Rattle.schedule.proofs.writing.segment_of.Tie as tie
+
+returns : tie.Need-returns
+returns c = rw (lt-ltb _ _ (c .if1 .taken))
+
+returns-2 : tie.Need-returns-2
+returns-2 c = rw (le-ltb _ _ (c .if1 .left))
+
+pub segment-of-spec : {M : Type 1} → statement M
+segment-of-spec = tie.close (tie.spec returns returns-2)
