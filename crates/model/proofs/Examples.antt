@@ -1,29 +1,40 @@
 -- The examples P1 to P10 of document 01, and further ones worked by hand, in one table; a single proof goes over it, computed from
 -- the definitions. Assumes nothing.
-use Prim.Native.Nat.{ℕ}
+use Prim.Native.Nat.{ℕ, suc, _/_, _%_}
 use mathlib.Core.Path.{_≡_, refl}
 use mathlib.Core.Bool.{Bool, true, _&&_, false≢true}
 use mathlib.Core.List.{List, [], _∷_, _++_}
 use lib.ListN.{getD, replicate}
 use lib.Dec.{eqb, lit<}
+use lib.IntN.{ℤ, pos, negsuc}
 use Rattle.model.specs.Sums.{sum, listOf}
-use Rattle.model.specs.Traces.{Trace, touching, later, unreferenced}
-use Rattle.model.specs.Figures.{misses, volume, load, optmem, opttotal, optocc, wsmem, wsocc, mean, kept, refCost, refVolume, smaller, wsspace}
+use Rattle.model.specs.Traces.{Trace, entry, touching, later, unreferenced}
+use Rattle.model.specs.Figures.{misses, volume, load, optmem, opttotal, optocc, wsmem, wsocc, mean, kept, marginAt, refCost, refVolume, smaller, wsspace}
 use Rattle.model.specs.Schedules.{Permitted, held, scheduleMemory, scheduleLoad, scheduleTotal, optimalSchedule, nextKept, optimalHeld, optimalByte}
 use Rattle.model.specs.Sheets.{nothing}
 use Rattle.model.specs.declared.Kind.{Kind}
 use Rattle.model.specs.declared.Kind.the-variants.{Time, Space}
 
--- what an example speaks of: a figure, a byte of the optimal schedule, or the price of a schedule given by the first byte of each step
+-- what an example speaks of: a figure, by how much the margin of the touch in the step at a place is above 0 or below it, a byte of
+-- the optimal schedule, or the price of a schedule given by the first two bytes of each step as one number
 pub data Item : Type 0 where
   Misses Volume Load Optmem Opttotal Optocc Wsmem Wsocc Mean : Item
-  ScheduleByte : ℕ → Item
+  MarginAbove MarginBelow ScheduleByte : ℕ → Item
   MemoryOf LoadOf TotalOf : List ℕ → Item
 
--- 32 bytes for each step, all but the first of them 0
+-- 32 bytes for each step, all but the first two of them 0: bit i of a step's number says whether segment i is held
 pub bytesOf : List ℕ → List ℕ
 bytesOf [] = []
-bytesOf (b ∷ bs) = (b ∷ replicate 31 0) ++ bytesOf bs
+bytesOf (n ∷ ns) = (n % 256 ∷ n / 256 ∷ replicate 30 0) ++ bytesOf ns
+
+-- by how much a margin is above 0, and below it
+above : ℤ → ℕ
+above (pos n) = n
+above (negsuc n) = 0
+
+below : ℤ → ℕ
+below (pos n) = 0
+below (negsuc n) = suc n
 
 -- its value by the definitions
 valueOf : Item → Trace → ℕ → ℕ → ℕ
@@ -36,6 +47,8 @@ valueOf Optocc T h d = optocc T h d
 valueOf Wsmem T h d = wsmem T h d
 valueOf Wsocc T h d = wsocc T h d
 valueOf Mean T h d = mean T h d
+valueOf (MarginAbove t) T h d = above (marginAt T h d t (entry T t))
+valueOf (MarginBelow t) T h d = below (marginAt T h d t (entry T t))
 valueOf (ScheduleByte j) T h d = getD (optimalSchedule T h d) j 0
 valueOf (MemoryOf bs) T h d = scheduleMemory T (bytesOf bs)
 valueOf (LoadOf bs) T h d = scheduleLoad T (bytesOf bs)
@@ -98,6 +111,15 @@ rounded = runOf Time 0 (1 ∷ 2 ∷ []) (0 ∷ 0 ∷ 1 ∷ [])
 pub between : Trace
 between = runOf Time 0 (1 ∷ 1 ∷ []) (0 ∷ 1 ∷ 1 ∷ 0 ∷ [])
 
+-- kind time with a > 0 and reuses: w is 2 and 4; the row 1/2 keeps the reuses of steps 3 to 5 (R = 1, 1, 0) and not that of step 6
+-- (R = 2), and segment 1 has an end interval of R = 1. wsocc is 2 × 12 + (2 + 6 + 0 + 2) + 6
+timed : Trace
+timed = runOf Time 1 (1 ∷ 3 ∷ []) (0 ∷ 1 ∷ 0 ∷ 1 ∷ 1 ∷ 0 ∷ [])
+
+-- ten segments of size 1, of which segment 9 stands in the second byte of a step; at the row 1/1 its reuse is kept (R = w = 1)
+distant : Trace
+distant = runOf Time 0 (replicate 10 1) (9 ∷ 0 ∷ 9 ∷ [])
+
 -- P1 to P10, then the further ones
 pub table : List Example
 table =
@@ -114,6 +136,12 @@ table =
     ∷ at untouched 5 1 (Misses is 1 ∷ Volume is 1 ∷ Load is 1 ∷ Optmem is 2 ∷ Opttotal is 7 ∷ Optocc is 2 ∷ Wsmem is 2 ∷ Wsocc is 2 ∷ Mean is 1000 ∷ [])
     ∷ at weighted 1 1 (Misses is 1 ∷ Volume is 2 ∷ Load is 7 ∷ Optmem is 1 ∷ Opttotal is 8 ∷ Optocc is 2 ∷ Wsmem is 1 ∷ Wsocc is 2 ∷ Mean is 2000 ∷ [])
     ∷ at rounded 1 1 (Misses is 2 ∷ Volume is 3 ∷ Load is 2 ∷ Optmem is 3 ∷ Opttotal is 5 ∷ Optocc is 4 ∷ Wsmem is 4 ∷ Wsocc is 5 ∷ Mean is 1666 ∷ [])
+    ∷ at timed 1 2 (Misses is 3 ∷ Volume is 5 ∷ Load is 8 ∷ Optmem is 8 ∷ Opttotal is 24 ∷ Optocc is 16 ∷ Wsmem is 20 ∷ Wsocc is 40 ∷ Mean is 3333 ∷ [])
+    ∷ at listing 1 2 (MarginAbove 2 is 0 ∷ MarginBelow 2 is 0 ∷ MarginAbove 3 is 0 ∷ MarginBelow 3 is 2 ∷ MarginAbove 4 is 4 ∷ MarginBelow 4 is 0 ∷ [])
+    ∷ at timed 1 2 (MarginAbove 3 is 2 ∷ MarginBelow 3 is 0 ∷ MarginAbove 5 is 0 ∷ MarginBelow 5 is 2 ∷ [])
+    ∷ at distant 1 1 (ScheduleByte 0 is 0 ∷ ScheduleByte 1 is 2 ∷ ScheduleByte 32 is 1 ∷ ScheduleByte 33 is 2 ∷ ScheduleByte 64 is 0 ∷ ScheduleByte 65 is 2 ∷ [])
+    ∷ at distant 1 1 (MemoryOf (512 ∷ 513 ∷ 512 ∷ []) is 4 ∷ LoadOf (512 ∷ 513 ∷ 512 ∷ []) is 2 ∷ TotalOf (512 ∷ 513 ∷ 512 ∷ []) is 6 ∷ [])
+    ∷ at distant 1 1 (MemoryOf (512 ∷ 1 ∷ 512 ∷ []) is 3 ∷ LoadOf (512 ∷ 1 ∷ 512 ∷ []) is 3 ∷ TotalOf (512 ∷ 1 ∷ 512 ∷ []) is 6 ∷ [])
     ∷ at between 3 1 (Optmem is 6 ∷ Load is 2 ∷ Opttotal is 12 ∷ [])
     ∷ at between 3 1 (MemoryOf (1 ∷ 3 ∷ 3 ∷ 1 ∷ []) is 6 ∷ LoadOf (1 ∷ 3 ∷ 3 ∷ 1 ∷ []) is 2 ∷ TotalOf (1 ∷ 3 ∷ 3 ∷ 1 ∷ []) is 12 ∷ [])
     ∷ at between 3 1 (MemoryOf (1 ∷ 2 ∷ 2 ∷ 1 ∷ []) is 4 ∷ LoadOf (1 ∷ 2 ∷ 2 ∷ 1 ∷ []) is 3 ∷ TotalOf (1 ∷ 2 ∷ 2 ∷ 1 ∷ []) is 13 ∷ [])
@@ -121,7 +149,7 @@ table =
     ∷ []
 
 pub table-holds : allHold table ≡ true
-unfolding allHold claims valueOf bytesOf _is_ table runOf listing paper untouched weighted rounded between held scheduleMemory scheduleLoad scheduleTotal misses volume load optmem opttotal optocc wsmem wsocc mean optimalSchedule sum listOf touching later unreferenced kept refCost refVolume smaller wsspace nextKept optimalHeld optimalByte
+unfolding allHold claims valueOf bytesOf above below _is_ table runOf listing paper untouched weighted rounded between timed distant held scheduleMemory scheduleLoad scheduleTotal misses volume load optmem opttotal optocc wsmem wsocc mean optimalSchedule sum listOf touching later unreferenced kept refCost refVolume smaller wsspace nextKept optimalHeld optimalByte
 table-holds = refl
 
 -- the last schedule of the table drops segment 0 in step 2 and lets it enter again, untouched, in step 3. It would cost less than the

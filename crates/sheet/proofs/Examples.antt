@@ -1,13 +1,19 @@
--- The sheet of document 01's listing, read and written by the definitions. Assumes nothing.
+-- The sheet of document 01's listing, read and written by the definitions; and the limits of a sheet, each reached by a text that is
+-- accepted and left by one that is refused, in one table. Assumes nothing.
 use Prim.Native.Nat.{ℕ}
 use mathlib.Core.Path.{_≡_, refl}
-use mathlib.Core.List.{List, [], _∷_}
+use mathlib.Core.Bool.{Bool, true, _&&_}
+use mathlib.Core.List.{List, [], _∷_, _++_}
+use lib.Dec.{eqb}
+use Rattle.model.specs.Refusals.{numberOf}
 use Rattle.model.specs.Sheets.{SheetValue}
-use Rattle.model.specs.declared.Kind.the-variants.{Space}
+use Rattle.model.specs.declared.Kind.the-variants.{Time, Space}
+use Rattle.model.specs.declared.PriceRow.{PriceRow}
 use Rattle.decimal.specs.Decimal.{allDigits, valueFrom, isNumber, written, writtenIn}
 use Rattle.sheet.specs.Lines.{splitAt, afterKey, valueLine, numberLine, sameBytes}
-use Rattle.sheet.specs.Reading.{accepted, kindLine, numberLines, rowLine, rowLines, sheetLines, readSheet}
-use Rattle.sheet.specs.Writing.{numbersText, rowsText, sheetText}
+use Rattle.sheet.specs.Keys.{kindKey, aKey, segsKey, sizeKey, rowsKey, rowKey, refsKey, kindWord}
+use Rattle.sheet.specs.Reading.{Outcome, accepted, rejected, kindLine, numberLines, rowLine, rowLines, sheetLines, readSheet}
+use Rattle.sheet.specs.Writing.{lineText, numberText, numbersText, rowsText, sheetText}
 
 -- the bytes of the sheet
 listing : List ℕ
@@ -32,3 +38,75 @@ listing-read = refl
 listing-written : sheetText value-of-listing ≡ listing
 unfolding listing value-of-listing sheetText numbersText rowsText written writtenIn
 listing-written = refl
+
+-- ---- the limits
+
+-- the number of what reading comes to: 0 where the text is accepted, else that of the refusal
+outcomeNumber : Outcome → ℕ
+outcomeNumber (accepted v) = 0
+outcomeNumber (rejected r) = numberOf r
+
+-- a text and that number
+pub record Read : Type 0 where
+  pub text : List ℕ
+  pub number : ℕ
+
+infix 70 _reads_
+_reads_ : List ℕ → ℕ → Read
+text reads n = record { text = text; number = n }
+
+-- every text of the list is read so
+pub allRead : List Read → Bool
+allRead [] = true
+allRead (x ∷ xs) = eqb (outcomeNumber (readSheet (x .text))) (x .number) && allRead xs
+
+-- the row h/d
+price : ℕ → ℕ → PriceRow
+price h d = record { h = h; d = d }
+
+-- the text of a sheet of kind time with a, the sizes, the rows and the references
+textOf : ℕ → List ℕ → List PriceRow → List ℕ → List ℕ
+textOf a sizes rows refs = sheetText (record { kind = Time; a = a; sizes = sizes; rows = rows; refs = refs })
+
+-- the lines of such a sheet up to segs=, up to rows= and up to refs= with these numbers, and nothing after them. Where the number is
+-- within its range the refusal is 2, of the missing next line
+toSegs : ℕ → List ℕ
+toSegs segs = lineText kindKey (kindWord Time) ++ (numberText aKey 0 ++ numberText segsKey segs)
+
+toRows : ℕ → List ℕ
+toRows rows = toSegs 1 ++ (numberText sizeKey 1 ++ numberText rowsKey rows)
+
+toRefs : ℕ → List ℕ
+toRefs refs = toRows 1 ++ (lineText rowKey (48 ∷ 47 ∷ 49 ∷ []) ++ numberText refsKey refs)
+
+-- both sides of each limit of `Valid`, and of the order of rows
+pub limits : List Read
+limits =
+    textOf 255 (1 ∷ []) (price 0 1 ∷ []) [] reads 0
+    ∷ textOf 256 (1 ∷ []) (price 0 1 ∷ []) [] reads 4
+    ∷ textOf 0 [] (price 0 1 ∷ []) [] reads 4
+    ∷ toSegs 256 reads 2
+    ∷ toSegs 257 reads 4
+    ∷ textOf 0 (0 ∷ []) (price 0 1 ∷ []) [] reads 4
+    ∷ textOf 0 (4095 ∷ []) (price 0 1 ∷ []) [] reads 0
+    ∷ textOf 0 (4096 ∷ []) (price 0 1 ∷ []) [] reads 4
+    ∷ textOf 0 (1 ∷ []) [] [] reads 4
+    ∷ toRows 64 reads 2
+    ∷ toRows 65 reads 4
+    ∷ textOf 0 (1 ∷ []) (price 65535 1 ∷ []) [] reads 0
+    ∷ textOf 0 (1 ∷ []) (price 65536 1 ∷ []) [] reads 4
+    ∷ textOf 0 (1 ∷ []) (price 0 0 ∷ []) [] reads 4
+    ∷ textOf 0 (1 ∷ []) (price 0 65535 ∷ []) [] reads 0
+    ∷ textOf 0 (1 ∷ []) (price 0 65536 ∷ []) [] reads 4
+    ∷ textOf 0 (1 ∷ []) (price 1 2 ∷ price 2 4 ∷ []) [] reads 5
+    ∷ textOf 0 (1 ∷ []) (price 1 2 ∷ price 1 3 ∷ []) [] reads 5
+    ∷ textOf 0 (1 ∷ []) (price 1 2 ∷ price 3 5 ∷ []) [] reads 0
+    ∷ toRefs 2048 reads 2
+    ∷ toRefs 2049 reads 4
+    ∷ textOf 0 (1 ∷ 1 ∷ []) (price 0 1 ∷ []) (1 ∷ 0 ∷ []) reads 0
+    ∷ textOf 0 (1 ∷ 1 ∷ []) (price 0 1 ∷ []) (0 ∷ 2 ∷ []) reads 4
+    ∷ []
+
+pub limits-hold : allRead limits ≡ true
+unfolding outcomeNumber _reads_ allRead price textOf toSegs toRows toRefs limits readSheet sheetLines kindLine numberLines rowLine rowLines splitAt afterKey valueLine numberLine sameBytes allDigits valueFrom isNumber sheetText numbersText rowsText written writtenIn
+limits-hold = refl
