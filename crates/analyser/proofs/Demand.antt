@@ -40,7 +40,7 @@ module _ (s : List ℕ) (v : SheetValue) (reads : readSheet s ≡ accepted v) (r
         reported-memory = ap (λ f. f .optmem .0) figures-are;
         lower = d .lower;
         least = d .least;
-        written = λ place fits. rw reads (sym (schedule-placed v r place row fits .1));
+        written = λ place fits. rw reads (sym (schedule-placed v r place row fits .place-is));
         permitted = d .permitted;
         written-total = d .total;
         written-load = d .load;

@@ -5,7 +5,7 @@ use mathlib.Core.List.{List, _++_}
 use native.Mathlib.Omega.{arith}
 use lib.ListN.{length, take, drop, getD}
 use lib.Seq.{length-take-le, getD-take}
-use borrow.Author.Tests.{le-ltb, lt-ltb, le-leb, lt-leb}
+use borrow.Author.Tests.{le-ltb, lt-ltb, le-leb}
 use Rattle.model.specs.Demand.{rowSchedule}
 use Rattle.model.specs.Places.{placed, placeAnswer, nothingPlaced}
 use Rattle.model.specs.Rows.{zeroFigures}
@@ -16,12 +16,13 @@ use Rattle.model.specs.declared.Refusal.the-variants.{NoSuchRow, PlaceTooShort}
 use Rattle.model.specs.declared.RowFigures.{RowFigures}
 use Rattle.model.specs.declared.Verdict.the-variants.{Accepted}
 use Rattle.model.proofs.Sums.{length-listOf}
+use Rattle.sheet.proofs.Placing.{place-short}
 use Rattle.figures.specs.Buckets.{tabulate}
 use Rattle.figures.specs.Rows.{figuresAt, allFigures}
 use Rattle.figures.proofs.Tables.{length-tabulate, getD-tabulate, list-tabulate}
 use Rattle.report.specs.Listing.{listing, listingOf}
 use Rattle.schedule.specs.Checking.{noPrice, priceAnswer}
-use Rattle.analyser.specs.Answers.{answerFor, placeFor, scheduleFor, priceFor}
+use Rattle.analyser.specs.Answers.{PlaceLeft, gives, scheduleFor, priceFor}
 
 -- the figures of a row among those of all rows
 pub figures-at : (v : SheetValue) (r : ℕ) (d : RowFigures) → r < length (v .rows) → length (v .rows) ≤ mostRows
@@ -47,6 +48,17 @@ pub listing-is : (v : SheetValue) (refs segs rows : ℕ) → length (v .refs) �
 unfolding listingOf
 listing-is v refs segs rows a b c most = rw (← a, ← b, ← c, figures-front v most)
 
+-- a call that has a text for a lent place, from what it answers and leaves
+pub text-left : {text place place' : List ℕ} {answer : PlaceAnswer} → (answer ≡ placeAnswer text place) × (place' ≡ placed text place)
+    → PlaceLeft (gives text) place place' answer
+text-left e = record { answer-is = e .0; place-is = e .1 }
+
+-- a text of n bytes in a place that is long enough for it
+pub text-fits : (text place : List ℕ) {n : ℕ} → length text ≡ n → n ≤ length place
+    → (_≡_ {A = PlaceAnswer} (record { verdict = Accepted; length = n }) (placeAnswer text place)) × (text ++ drop n place ≡ placed text place)
+unfolding placed placeAnswer
+text-fits text place e fits = let h = le-leb (length text) (length place) (omega arith) in (rw (h, e), rw (h, e))
+
 -- the optimal schedule has 32 bytes for each reference
 pub schedule-length : (v : SheetValue) (r : ℕ) → length (rowSchedule v r) ≡ 32 * length (v .refs)
 unfolding optimalSchedule
@@ -56,28 +68,21 @@ schedule-length v r =
 module _ (v : SheetValue) (r : ℕ) (place : List ℕ) where
   -- what the schedule call answers, and what it leaves in the place
   abbrev pub Leaves : PlaceAnswer → List ℕ → Type 0
-  Leaves answer after = (answer ≡ answerFor (scheduleFor v r) place) × (after ≡ placeFor (scheduleFor v r) place)
+  Leaves answer after = PlaceLeft (scheduleFor v r) place after answer
 
   pub schedule-no-row : length (v .rows) ≤ r → Leaves (nothingPlaced NoSuchRow) place
   unfolding scheduleFor
-  schedule-no-row le = rw (le-ltb r (length (v .rows)) le) (refl, refl)
+  schedule-no-row le = rw (le-ltb r (length (v .rows)) le) (record { answer-is = refl; place-is = refl })
 
   pub schedule-short : r < length (v .rows) → length place < 32 * length (v .refs) → Leaves (nothingPlaced PlaceTooShort) place
-  unfolding scheduleFor placed placeAnswer
+  unfolding scheduleFor
   schedule-short lt short =
-      rw (lt-ltb r (length (v .rows)) lt, lt-leb (length (rowSchedule v r)) (length place) (omega (arith, schedule-length v r)))
-      (refl, refl)
+      rw (lt-ltb r (length (v .rows)) lt) (text-left (place-short (rowSchedule v r) place (omega (arith, schedule-length v r))))
 
   pub schedule-placed : r < length (v .rows) → 32 * length (v .refs) ≤ length place
       → Leaves (record { verdict = Accepted; length = 32 * length (v .refs) }) (rowSchedule v r ++ drop (32 * length (v .refs)) place)
-  unfolding scheduleFor placed placeAnswer
-  schedule-placed lt fits =
-      rw (
-        lt-ltb r (length (v .rows)) lt,
-        le-leb (length (rowSchedule v r)) (length place) (omega (arith, schedule-length v r)),
-        schedule-length v r,
-      )
-      (refl, refl)
+  unfolding scheduleFor
+  schedule-placed lt fits = rw (lt-ltb r (length (v .rows)) lt) (text-left (text-fits (rowSchedule v r) place (schedule-length v r) fits))
 
 -- the price of a schedule at a row that there is, and at one that there is not
 module _ (v : SheetValue) (r : ℕ) (p : List ℕ) where

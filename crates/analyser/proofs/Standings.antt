@@ -18,7 +18,7 @@ use Rattle.sheet.proofs.Accepted.{accepted-valid}
 use Rattle.sheet.proofs.Blanks.{zeros-length, zero-rows-length}
 use Rattle.sheet.proofs.Held.{held}
 use Rattle.schedule.specs.Requires.{Limits}
-use Rattle.analyser.specs.Answers.{onSheet, Result, refuses, answerFor, placeFor, Standing}
+use Rattle.analyser.specs.Answers.{onSheet, Result, refuses, PlaceLeft, Standing}
 
 -- a refused sheet: the call answers for the refusal
 refused-on : {X : Type 0} (o : Outcome) (A : SheetAnswer) (q : Refusal) → A ≡ answerOf o → A .verdict ≡ Refused q
@@ -80,9 +80,8 @@ module _ (s : List ℕ) (A : SheetAnswer) (e : A ≡ answerOf (readSheet s)) whe
 
   -- a call with a lent place that is refused with the sheet answers so, and leaves the place as it was
   pub result-refused : {q : Refusal} {answer : PlaceAnswer} (place : List ℕ) (g : SheetValue → Result) → answer ≡ nothingPlaced q
-      → A .verdict ≡ Refused q
-      → (answer ≡ answerFor (onSheet (readSheet s) refuses g) place) × (place ≡ placeFor (onSheet (readSheet s) refuses g) place)
-  result-refused {q} {answer} place g n r = rw (on-refused q r refuses g) (n, refl)
+      → A .verdict ≡ Refused q → PlaceLeft (onSheet (readSheet s) refuses g) place place answer
+  result-refused {q} {answer} place g n r = rw (on-refused q r refuses g) (record { answer-is = n; place-is = refl })
 
   pub sheet-is : A .verdict ≡ Accepted → A .sheet ≡ sheetOf (valueOf (A .sheet))
   sheet-is r = read-held A (readSheet s) e r

@@ -40,6 +40,11 @@ abbrev pub placeFor : Result → List ℕ → List ℕ
 placeFor (gives result) place = placed result place
 placeFor (refuses r) place = place
 
+-- what a call that has this for a lent place answers, and what the place is before and after it
+pub record PlaceLeft (result : Result) (place place' : List ℕ) (answer : PlaceAnswer) : Type 0 where
+  pub answer-is : answer ≡ answerFor result place
+  pub place-is : place' ≡ placeFor result place
+
 -- a sheet by value that stands for a valid sheet's value: its counts are within its arrays, which have the largest lengths
 pub record Standing (s : Sheet) : Type 0 where
   pub valid : Valid (valueOf s)

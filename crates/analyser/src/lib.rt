@@ -17,14 +17,14 @@ use sheet::Sheet;
 use sheet::SheetAnswer;
 ghost use mathlib.Core.Path.{_≡_};
 ghost use Prim.Native.Nat.{_*_, _<_};
-ghost use Rattle.model.specs.Places.{placed, placeAnswer, nothingPlaced};
+ghost use Rattle.model.specs.Places.{nothingPlaced};
 ghost use Rattle.sheet.specs.Reading.{readSheet};
 ghost use Rattle.sheet.specs.Values.{answerOf, valueOf};
 ghost use Rattle.sheet.specs.Writing.{sheetText};
 ghost use Rattle.figures.specs.Rows.{noFigures, figuresAt, figuresOf, allFigures};
 ghost use Rattle.report.specs.Listing.{listingOf};
 ghost use Rattle.schedule.specs.Checking.{noPrice};
-ghost use Rattle.analyser.specs.Answers.{Standing, answerFor, placeFor, figuresAnswer, listingResult, scheduleFor, scheduleResult, priceFor, pricing};
+ghost use Rattle.analyser.specs.Answers.{Standing, PlaceLeft, gives, figuresAnswer, listingResult, scheduleFor, scheduleResult, priceFor, pricing};
 
 // The sheet that a run of bytes stands for, or the refusal (1 to 6) and the empty sheet.
 pub fn read(bytes: &[u8]) -> SheetAnswer
@@ -35,7 +35,7 @@ pub fn read(bytes: &[u8]) -> SheetAnswer
 
 // The bytes of a sheet into a lent place, then its old contents; 11 and no change where the place is too short.
 pub fn write(sheet: Sheet, out: &mut [u8]) -> PlaceAnswer
-    ensures { λ r. ⌜ (r ≡ placeAnswer (sheetText (valueOf sheet)) (now (out .entry))) × (now (out .exit) ≡ placed (sheetText (valueOf sheet)) (now (out .entry))) ⌝ }
+    ensures { λ r. ⌜ PlaceLeft (gives (sheetText (valueOf sheet))) (now (out .entry)) (now (out .exit)) r ⌝ }
 {
     sheet::writing::write(sheet, out)
 }
@@ -120,7 +120,7 @@ fn nothing(why: Refusal) -> PlaceAnswer
 // The listing of an accepted sheet into a lent place, or 11.
 fn sheet_listing(s: Sheet, out: &mut [u8]) -> PlaceAnswer
     requires { ⌜ Standing s ⌝ }
-    ensures { λ r. ⌜ (r ≡ placeAnswer (listingOf (valueOf s)) (now (out .entry))) × (now (out .exit) ≡ placed (listingOf (valueOf s)) (now (out .entry))) ⌝ }
+    ensures { λ r. ⌜ PlaceLeft (gives (listingOf (valueOf s))) (now (out .entry)) (now (out .exit)) r ⌝ }
 {
     let all = all_figures(s);
     report::write(s.refs, s.segs, all, s.rows, out)
@@ -128,7 +128,7 @@ fn sheet_listing(s: Sheet, out: &mut [u8]) -> PlaceAnswer
 
 // The listing into a lent place, then its old contents: refused with 1 to 6, 11.
 pub fn listing(bytes: &[u8], out: &mut [u8]) -> PlaceAnswer
-    ensures { λ r. ⌜ (r ≡ answerFor (listingResult (now (bytes .entry))) (now (out .entry))) × (now (out .exit) ≡ placeFor (listingResult (now (bytes .entry))) (now (out .entry))) ⌝ }
+    ensures { λ r. ⌜ PlaceLeft (listingResult (now (bytes .entry))) (now (out .entry)) (now (out .exit)) r ⌝ }
 {
     let answer = sheet::reading::read(bytes);
     let verdict = answer.verdict;
@@ -142,7 +142,7 @@ pub fn listing(bytes: &[u8], out: &mut [u8]) -> PlaceAnswer
 // The optimal schedule of a row of an accepted sheet into a lent place: 7, then 11.
 fn sheet_schedule(s: Sheet, row: usize, out: &mut [u8]) -> PlaceAnswer
     requires { ⌜ Standing s ⌝ }
-    ensures { λ r. ⌜ (r ≡ answerFor (scheduleFor (valueOf s) row) (now (out .entry))) × (now (out .exit) ≡ placeFor (scheduleFor (valueOf s) row) (now (out .entry))) ⌝ }
+    ensures { λ r. ⌜ PlaceLeft (scheduleFor (valueOf s) row) (now (out .entry)) (now (out .exit)) r ⌝ }
 {
     if s.rows <= row {
         return nothing(Refusal::NoSuchRow);
@@ -172,7 +172,7 @@ fn sheet_schedule(s: Sheet, row: usize, out: &mut [u8]) -> PlaceAnswer
 
 // The optimal schedule of a row into a lent place, then its old contents: refused with 1 to 6, 7, 11.
 pub fn optimal_schedule(bytes: &[u8], row: usize, out: &mut [u8]) -> PlaceAnswer
-    ensures { λ r. ⌜ (r ≡ answerFor (scheduleResult (now (bytes .entry)) row) (now (out .entry))) × (now (out .exit) ≡ placeFor (scheduleResult (now (bytes .entry)) row) (now (out .entry))) ⌝ }
+    ensures { λ r. ⌜ PlaceLeft (scheduleResult (now (bytes .entry)) row) (now (out .entry)) (now (out .exit)) r ⌝ }
 {
     let answer = sheet::reading::read(bytes);
     let verdict = answer.verdict;

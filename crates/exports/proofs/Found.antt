@@ -16,8 +16,8 @@ use Rattle.sheet.specs.Reading.{Outcome, accepted, rejected, readSheet}
 use Rattle.sheet.proofs.Accepted.{accepted-valid}
 use Rattle.figures.proofs.Tables.{length-tabulate}
 use Rattle.figures.specs.Rows.{figuresAt}
-use Rattle.analyser.specs.Answers.{gives, onSheet, answerFor, placeFor}
-use Rattle.analyser.proofs.Results.{figures-front}
+use Rattle.analyser.specs.Answers.{gives, onSheet, PlaceLeft}
+use Rattle.analyser.proofs.Results.{figures-front, text-left}
 use Rattle.records.specs.Listed.{rowRecords, sheetAnswer, noRecords, recordsFor, recordsFound}
 use Rattle.records.specs.declared.Records.{Records}
 use Rattle.exports.specs.Exported.{figureLists, rowsResult}
@@ -31,7 +31,7 @@ pub record Fitting (s place : List ℕ) (r : Records) : Type 0 where
 
 -- a refusal: the result is refused with it, or the place is too short
 abbrev pub Refusing : List ℕ → List ℕ → Refusal → Type 0
-Refusing s place q = (nothingPlaced q ≡ answerFor (rowsResult s) place) × (place ≡ placeFor (rowsResult s) place)
+Refusing s place q = PlaceLeft (rowsResult s) place place (nothingPlaced q)
 
 rows-counted : (v : SheetValue) → length (figureLists (rowRecords v)) ≡ 11 * length (v .rows)
 rows-counted v = rows-length (rowRecords v) ∙ ap (λ n. 11 * n) (length-tabulate (length (v .rows)) (figuresAt v))
@@ -60,7 +60,7 @@ module _ (s place : List ℕ) (v : SheetValue) (e : readSheet s ≡ accepted v) 
       let w = rw t at a in
       let short = leb-false (length (v .rows)) (length place / 11) t in
       let n = rows-counted v in
-      rw (e, lt-leb (length (figureLists (rowRecords v))) (length place) (omega arith)) ((cc), refl)
+      rw e (text-left (rw (lt-leb (length (figureLists (rowRecords v))) (length place) (omega arith)) ((cc), refl)))
 
 module _ (s place : List ℕ) (r : Records) (found : r ≡ recordsFound s (length place / 11)) where
   fits-on : (o : Outcome) → readSheet s ≡ o → onSheet o noRecords (λ v. recordsFor v (length place / 11)) .answer .verdict ≡ Accepted
@@ -79,7 +79,7 @@ module _ (s place : List ℕ) (r : Records) (found : r ≡ recordsFound s (lengt
       → onSheet o noRecords (λ v. recordsFor v (length place / 11)) .answer .verdict ≡ Refused q → Refusing s place q
   unfolding noRecords rowsResult
   refuses-on (accepted v) e q a = sheet-refuses s place v e _ refl q a
-  refuses-on (rejected p) e q a = rw e ((cc), refl)
+  refuses-on (rejected p) e q a = rw e (record { answer-is = cc; place-is = refl })
 
   pub found-refuses : {q : Refusal} → r .answer .verdict ≡ Refused q → Refusing s place q
   unfolding recordsFound

@@ -8,7 +8,7 @@ use Rattle.model.specs.declared.Refusal.{Refusal}
 use Rattle.model.specs.declared.Verdict.{Verdict}
 use Rattle.model.specs.declared.Verdict.the-variants.{Accepted, Refused}
 use Rattle.sheet.specs.Reading.{Outcome}
-use Rattle.analyser.specs.Answers.{Result, refuses, answerFor, placeFor}
+use Rattle.analyser.specs.Answers.{Result, refuses, PlaceLeft}
 use Rattle.analyser.specs.Sizing.{SizingOf}
 use Rattle.analyser.specs.declared.sizing.SizingAnswer.{SizingAnswer}
 use Rattle.exports.specs.Exported.{orOld, PlaceCall, SizeCall}
@@ -26,14 +26,14 @@ module _ {R A : Type 0} (verdict : R → Verdict) (value : R → A) (answer due 
 
 -- a call that writes into a lent place, from what the analyser's call answered and left, and from what was told of the answer
 pub place-call : {result : Result} {place place' : List ℕ} {written written' returned : ℕ} (answer : PlaceAnswer)
-    → (answer ≡ answerFor result place) × (place' ≡ placeFor result place)
+    → PlaceLeft result place place' answer
     → (returned ≡ verdictNumber (answer .verdict)) × (written' ≡ orOld (answer .verdict) (answer .length) written)
     → PlaceCall result place place' written written' returned
 place-call answer a t =
     record {
-      returned-is = rw (a .0) at (t .0);
-      place-is = a .1;
-      written-is = rw (a .0) at (t .1);
+      returned-is = rw (a .answer-is) at (t .0);
+      place-is = a .place-is;
+      written-is = rw (a .answer-is) at (t .1);
     }
 
 -- a call that is refused before it writes

@@ -1,7 +1,7 @@
 -- `analyser::sheet_listing` meets its contract: the listing is that of the sheet's value. Assumes nothing.
 use borrow.Author.Needs.{needs}
 use Rattle.sheet.specs.Values.{valueOf}
-use Rattle.analyser.proofs.Results.{listing-is}
+use Rattle.analyser.proofs.Results.{listing-is, text-left}
 use Rattle.analyser.proofs.Standings.{segs-counted, rows-counted, refs-counted}
 use Rattle.analyser.proofs.sheet_listing.Statement.{statement}
 use Rattle.analyser.proofs.sheet_listing.Tie as tie
@@ -22,7 +22,7 @@ returns c =
     let l =
     listing-is (valueOf s) (s .refs) (s .segs) (s .rows) (refs-counted s (b .pre)) (segs-counted s (b .pre)) (rows-counted s (b .pre))
     (b .pre .valid .rows-within) in
-    rw (c .before .before .before .before .all-figures .ensures, l) at (c .before .before .write .ensures)
+    text-left (rw (c .before .before .before .before .all-figures .ensures, l) at (c .before .before .write .ensures))
 
 pub sheet-listing-spec : {M : Type 1} → statement M
 sheet-listing-spec = tie.close (tie.spec all-figures-requires write-requires same-length returns)

@@ -74,7 +74,10 @@ returns-3 c =
     let m = refs-counted (s .args .s) (s .pre) in
     let l : s .args .row < s .args .s .rows = omega (arith, e .before .if1 .left) in
     let p = schedule-placed v (s .args .row) (s .args .out .now) (omega arith) (omega (arith, e .if2 .left)) in
-    (rw m at (p .0), c .before .before .write-optimal .ensures ∙ rw (row-of (s .args .s) (s .pre) (s .args .row) l) at (p .1))
+    record {
+      answer-is = rw m at (p .answer-is);
+      place-is = c .before .before .write-optimal .ensures ∙ rw (row-of (s .args .s) (s .pre) (s .args .row) l) at (p .place-is);
+    }
 
 pub sheet-schedule-spec : {M : Type 1} → statement M
 sheet-schedule-spec =

@@ -6,6 +6,7 @@ use borrow.Author.Needs.{needs}
 use Rattle.model.specs.Places.{nothingPlaced}
 use Rattle.model.specs.declared.Verdict.the-variants.{Accepted}
 use Rattle.sheet.proofs.Placing.{place-put}
+use Rattle.analyser.proofs.Results.{text-left}
 use Rattle.exports.proofs.Found.{found-fits, found-refuses}
 use Rattle.exports.proofs.Told.{place-call}
 use Rattle.exports.proofs.segtrace_all_figures.Statement.{statement}
@@ -38,7 +39,7 @@ returns c =
     let r = w .before .before .before .before .before .before in
     let f = found-fits _ (r .before .before .before .args .out .now) (r .all-records .result) (r .all-records .ensures) (cc) in
     place-call (record { verdict = Accepted; length = w .put-rows .result })
-    (rw (f .result) (place-put _ _ _ _ _ (omega (arith, w .put-rows .ensures .ends)) (w .put-rows .ensures)))
+    (rw (f .result) (text-left (place-put _ _ _ _ _ (omega (arith, w .put-rows .ensures .ends)) (w .put-rows .ensures))))
     (refl, refl)
 
 returns-2 : tie.Need-returns-2
