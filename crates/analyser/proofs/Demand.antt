@@ -1,25 +1,27 @@
 -- Demand 3 holds of every run of bytes that reads as an accepted sheet, and of every row of it. Assumes nothing.
-use Prim.Native.Nat.{ℕ, _<_}
+use Prim.Native.Nat.{ℕ, _*_, _≤_, _<_}
 use mathlib.Core.Path.{_≡_, sym, ap, _∙_}
-use mathlib.Core.List.{List}
-use lib.ListN.{length}
+use mathlib.Core.List.{List, _++_}
+use lib.ListN.{length, drop}
+use lib.Seq.{take-append-seam}
 use borrow.Author.Tests.{lt-ltb}
 use Rattle.model.specs.Demand.{rowTotal, rowSchedule}
 use Rattle.model.specs.Rows.{rowFigures}
 use Rattle.model.specs.Schedules.{Permitted, scheduleMemory, scheduleLoad}
 use Rattle.model.specs.Sheets.{SheetValue, traceOf, rowAt}
+use Rattle.model.specs.declared.Verdict.the-variants.{Accepted}
 use Rattle.model.proofs.Demand.{demand-3}
 use Rattle.sheet.specs.Reading.{accepted, readSheet}
 use Rattle.sheet.proofs.Accepted.{accepted-valid}
 use Rattle.figures.specs.Rows.{figuresOf, figuresAt}
 use Rattle.schedule.proofs.Verdicts.{accepted-answer, permitted-accepted}
-use Rattle.analyser.specs.Answers.{figuresAnswer, scheduleResult, pricing}
-use Rattle.analyser.specs.Demand.{priceOf, Demand3FromBytes}
-use Rattle.analyser.proofs.Results.{schedule-placed, price-at}
+use Rattle.analyser.specs.Answers.{PlaceLeft, figuresAnswer, scheduleResult, pricing}
+use Rattle.analyser.specs.Demand.{priceOf, leftSchedule, HasOptimum, Demand3FromBytes}
+use Rattle.analyser.proofs.Results.{schedule-length, schedule-placed, price-at}
 
 module _ (s : List ℕ) (v : SheetValue) (reads : readSheet s ≡ accepted v) (r : ℕ) (row : r < length (v .rows)) where
   -- the figures call answers the row's figures
-  figures-are : figuresAnswer s r .figures ≡ figuresAt v r
+  figures-are : figuresAnswer s r ≡ record { verdict = Accepted; figures = figuresAt v r }
   unfolding figuresAnswer figuresOf
   figures-are = rw (reads, lt-ltb r (length (v .rows)) row)
 
@@ -29,22 +31,43 @@ module _ (s : List ℕ) (v : SheetValue) (reads : readSheet s ≡ accepted v) (r
   unfolding pricing
   priced-at p ok = rw reads (price-at v r p row ∙ accepted-answer (traceOf v) (rowAt v r .h) (rowAt v r .d) p (permitted-accepted (traceOf v) p ok))
 
-  pub demand-3-from-bytes : Demand3FromBytes s v r
-  unfolding rowFigures scheduleResult
-  demand-3-from-bytes =
-      let c = accepted-valid s v reads in
-      let d = demand-3 v (c .segs-within) r row in
+  -- what the schedule call answers and leaves
+  placed-at : (place : List ℕ) → 32 * length (v .refs) ≤ length place
+      → PlaceLeft (scheduleResult s r) place (rowSchedule v r ++ drop (32 * length (v .refs)) place)
+      (record { verdict = Accepted; length = 32 * length (v .refs) })
+  unfolding scheduleResult
+  placed-at place fits = rw reads (schedule-placed v r place row fits)
+
+  -- the bytes at the front are the optimal schedule
+  front-is : (place : List ℕ) → 32 * length (v .refs) ≤ length place → leftSchedule s v r place ≡ rowSchedule v r
+  front-is place fits =
+      rw (← placed-at place fits .place-is, ← schedule-length v r) (take-append-seam (rowSchedule v r) (drop (length (rowSchedule v r)) place))
+
+  -- which has the optimum
+  optimum-of : HasOptimum s v r (rowSchedule v r)
+  optimum-of =
+      let d = demand-3 v (accepted-valid s v reads .segs-within) r row in
       record {
-        reported-optimum = ap (λ f. f .opttotal) figures-are;
-        reported-load = ap (λ f. f .load .0) figures-are;
-        reported-memory = ap (λ f. f .optmem .0) figures-are;
+        permitted = d .permitted;
+        total = d .total;
+        load = d .load;
+        memory = d .memory;
+        priced = rw (priced-at (rowSchedule v r) (d .permitted), d .memory, d .load, d .total);
+      }
+
+  pub demand-3-from-bytes : Demand3FromBytes s v r
+  unfolding rowFigures
+  demand-3-from-bytes =
+      let d = demand-3 v (accepted-valid s v reads .segs-within) r row in
+      record {
+        figures-accepted = ap (λ a. a .verdict) figures-are;
+        reported-optimum = ap (λ a. a .figures .opttotal) figures-are;
+        reported-load = ap (λ a. a .figures .load .0) figures-are;
+        reported-memory = ap (λ a. a .figures .optmem .0) figures-are;
         lower = d .lower;
         least = d .least;
-        written = λ place fits. rw reads (sym (schedule-placed v r place row fits .place-is));
-        permitted = d .permitted;
-        written-total = d .total;
-        written-load = d .load;
-        written-memory = d .memory;
+        schedule-accepted = λ place fits. sym (placed-at place fits .answer-is);
+        written = λ place fits. rw (front-is place fits) optimum-of;
+        left = λ place fits. sym (placed-at place fits .place-is);
         priced = priced-at;
-        written-priced = rw (priced-at (rowSchedule v r) (d .permitted), d .memory, d .load, d .total);
       }
