@@ -18,7 +18,7 @@ use Rattle.sheet.proofs.Accepted.{accepted-valid}
 use Rattle.sheet.proofs.Blanks.{zeros-length, zero-rows-length}
 use Rattle.sheet.proofs.Held.{held}
 use Rattle.schedule.specs.Requires.{Limits}
-use Rattle.analyser.specs.Answers.{onSheet, Result, refuses, PlaceLeft, Standing}
+use Rattle.analyser.specs.Answers.{onSheet, Result, gives, refuses, PlaceLeft, Standing}
 
 -- a refused sheet: the call answers for the refusal
 refused-on : {X : Type 0} (o : Outcome) (A : SheetAnswer) (q : Refusal) → A ≡ answerOf o → A .verdict ≡ Refused q
@@ -82,6 +82,12 @@ module _ (s : List ℕ) (A : SheetAnswer) (e : A ≡ answerOf (readSheet s)) whe
   pub result-refused : {q : Refusal} {answer : PlaceAnswer} (place : List ℕ) (g : SheetValue → Result) → answer ≡ nothingPlaced q
       → A .verdict ≡ Refused q → PlaceLeft (onSheet (readSheet s) refuses g) place place answer
   result-refused {q} {answer} place g n r = rw (on-refused q r refuses g) (record { answer-is = n; place-is = refl })
+
+  -- a call that has a text also for a refusal
+  pub text-refused : {q : Refusal} {answer : PlaceAnswer} {place place' : List ℕ} (f : Refusal → List ℕ) (g : SheetValue → List ℕ)
+      → PlaceLeft (gives (f q)) place place' answer → A .verdict ≡ Refused q
+      → PlaceLeft (gives (onSheet (readSheet s) f g)) place place' answer
+  text-refused {q} f g left r = rw (on-refused q r f g) left
 
   pub sheet-is : A .verdict ≡ Accepted → A .sheet ≡ sheetOf (valueOf (A .sheet))
   sheet-is r = read-held A (readSheet s) e r

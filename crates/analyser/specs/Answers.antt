@@ -16,7 +16,7 @@ use Rattle.sheet.specs.Values.{valueOf}
 use Rattle.sheet.specs.declared.Sheet.{Sheet}
 use Rattle.figures.specs.Rows.{noFigures, figuresOf}
 use Rattle.figures.specs.declared.FiguresAnswer.{FiguresAnswer}
-use Rattle.report.specs.Listing.{listingOf}
+use Rattle.report.specs.Listing.{listingOf, refusedText}
 use Rattle.schedule.specs.Checking.{noPrice, priceAnswer}
 use Rattle.schedule.specs.declared.PriceAnswer.{PriceAnswer}
 
@@ -62,6 +62,11 @@ figuresAnswer s r = onSheet (readSheet s) noFigures (λ v. figuresOf v r)
 -- the listing of the sheet that the bytes stand for: 1 to 6, then 11 by the place
 unfoldable pub listingResult : List ℕ → Result
 listingResult s = onSheet (readSheet s) refuses (λ v. gives (listingOf v))
+
+-- what the program prints for a run of bytes: the listing of the sheet that they stand for, or for a refusal, 1 to 6, the line refused=
+-- with its number (`numberOf`)
+unfoldable pub printedText : List ℕ → List ℕ
+printedText s = onSheet (readSheet s) refusedText listingOf
 
 -- the optimal schedule of row r of a sheet: 7 where there is no such row
 unfoldable pub scheduleFor : SheetValue → ℕ → Result

@@ -24,7 +24,7 @@ ghost use Rattle.sheet.specs.Writing.{sheetText};
 ghost use Rattle.figures.specs.Rows.{noFigures, figuresAt, figuresOf, allFigures};
 ghost use Rattle.report.specs.Listing.{listingOf};
 ghost use Rattle.schedule.specs.Checking.{noPrice};
-ghost use Rattle.analyser.specs.Answers.{Standing, PlaceLeft, gives, figuresAnswer, listingResult, scheduleFor, scheduleResult, priceFor, pricing};
+ghost use Rattle.analyser.specs.Answers.{Standing, PlaceLeft, gives, figuresAnswer, listingResult, printedText, scheduleFor, scheduleResult, priceFor, pricing};
 
 // The sheet that a run of bytes stands for, or the refusal (1 to 6) and the empty sheet.
 pub fn read(bytes: &[u8]) -> SheetAnswer
@@ -135,6 +135,20 @@ pub fn listing(bytes: &[u8], out: &mut [u8]) -> PlaceAnswer
     let s = answer.sheet;
     match verdict {
         Verdict::Refused(why) => nothing(why),
+        Verdict::Accepted => sheet_listing(s, out),
+    }
+}
+
+// What the program prints for a run of bytes into a lent place, then its old contents: the listing, or for a refused sheet `refused=` and
+// the number, which is no refusal of this call; 11 and no change where the place is too short.
+pub fn printed(bytes: &[u8], out: &mut [u8]) -> PlaceAnswer
+    ensures { λ r. ⌜ PlaceLeft (gives (printedText (now (bytes .entry)))) (now (out .entry)) (now (out .exit)) r ⌝ }
+{
+    let answer = sheet::reading::read(bytes);
+    let verdict = answer.verdict;
+    let s = answer.sheet;
+    match verdict {
+        Verdict::Refused(why) => report::write_refusal(why, out),
         Verdict::Accepted => sheet_listing(s, out),
     }
 }
