@@ -5,6 +5,7 @@ pub mod MarginResults
 pub mod MarginSigns
 pub mod Outcomes
 pub mod Results
+pub mod RoundTrips
 pub mod Sizes
 pub mod Standings
 pub mod Times

@@ -13,6 +13,7 @@ use Rattle.model.specs.declared.Refusal.{Refusal}
 use Rattle.model.specs.declared.Refusal.the-variants.{NoSuchRow}
 use Rattle.sheet.specs.Reading.{Outcome, accepted, rejected, readSheet}
 use Rattle.sheet.specs.Values.{valueOf}
+use Rattle.sheet.specs.Writing.{sheetText}
 use Rattle.sheet.specs.declared.Sheet.{Sheet}
 use Rattle.figures.specs.Rows.{noFigures, figuresOf}
 use Rattle.figures.specs.declared.FiguresAnswer.{FiguresAnswer}
@@ -44,6 +45,10 @@ placeFor (refuses r) place = place
 pub record PlaceLeft (result : Result) (place place' : List ℕ) (answer : PlaceAnswer) : Type 0 where
   pub answer-is : answer ≡ answerFor result place
   pub place-is : place' ≡ placeFor result place
+
+-- the bytes of a sheet, for a lent place
+abbrev pub writeResult : Sheet → Result
+writeResult sheet = gives (sheetText (valueOf sheet))
 
 -- a sheet by value that stands for a valid sheet's value: its counts are within its arrays, which have the largest lengths
 pub record Standing (s : Sheet) : Type 0 where

@@ -20,11 +20,10 @@ ghost use Prim.Native.Nat.{_*_, _<_};
 ghost use Rattle.model.specs.Places.{nothingPlaced};
 ghost use Rattle.sheet.specs.Reading.{readSheet};
 ghost use Rattle.sheet.specs.Values.{answerOf, valueOf};
-ghost use Rattle.sheet.specs.Writing.{sheetText};
 ghost use Rattle.figures.specs.Rows.{noFigures, figuresAt, figuresOf, allFigures};
 ghost use Rattle.report.specs.Listing.{listingOf};
 ghost use Rattle.schedule.specs.Checking.{noPrice};
-ghost use Rattle.analyser.specs.Answers.{Standing, PlaceLeft, gives, figuresAnswer, listingResult, printedText, scheduleFor, scheduleResult, priceFor, pricing};
+ghost use Rattle.analyser.specs.Answers.{Standing, PlaceLeft, gives, writeResult, figuresAnswer, listingResult, printedText, scheduleFor, scheduleResult, priceFor, pricing};
 
 // The sheet that a run of bytes stands for, or the refusal (1 to 6) and the empty sheet.
 pub fn read(bytes: &[u8]) -> SheetAnswer
@@ -35,7 +34,7 @@ pub fn read(bytes: &[u8]) -> SheetAnswer
 
 // The bytes of a sheet into a lent place, then its old contents; 11 and no change where the place is too short.
 pub fn write(sheet: Sheet, out: &mut [u8]) -> PlaceAnswer
-    ensures { λ r. ⌜ PlaceLeft (gives (sheetText (valueOf sheet))) (now (out .entry)) (now (out .exit)) r ⌝ }
+    ensures { λ r. ⌜ PlaceLeft (writeResult sheet) (now (out .entry)) (now (out .exit)) r ⌝ }
 {
     sheet::writing::write(sheet, out)
 }
