@@ -2,9 +2,8 @@
  * The segment trace analyser as a library: link libexports.a, which `rt staticlib exports` makes.
  *
  * Every call returns 0, or the number of the refusal, 1 to 15 (README.md lists them; where several apply, the first that the call's
- * comment names). A refused call writes nothing: every lent place, number and recorder is as it was, but for segtrace_touch_all, which
- * says so. No call keeps a pointer or allocates. Pointers are not null, and lent places overlap nothing else; an empty run of bytes
- * may have any valid pointer.
+ * comment names). A refused call writes nothing: every lent place, number and recorder is as it was. No call keeps a pointer or
+ * allocates. Pointers are not null, and lent places overlap nothing else; an empty run of bytes may have any valid pointer.
  */
 #ifndef SEGTRACE_INCLUDED
 #define SEGTRACE_INCLUDED
@@ -94,7 +93,7 @@ uint64_t segtrace_recorder_touch(const uint64_t *head, uint64_t *counts, const u
                                  uint16_t *last, uint64_t *sums, uint64_t segment);
 uint64_t segtrace_recorder_touch_all(const uint64_t *head, uint64_t *counts, const uint16_t *sizes, const uint16_t *h,
                                      const uint16_t *d, uint16_t *last, uint64_t *sums, const uint16_t *segments,
-                                     size_t segments_length, uint64_t *taken);
+                                     size_t segments_length);
 uint64_t segtrace_recorder_figures(const uint64_t *head, const uint64_t *counts, const uint16_t *sizes, const uint16_t *h,
                                    const uint16_t *d, const uint16_t *last, const uint64_t *sums, uint64_t row, uint64_t *figures);
 
@@ -110,14 +109,10 @@ static inline uint64_t segtrace_touch(segtrace_recorder *r, uint64_t segment)
     return segtrace_recorder_touch(r->head, r->counts, r->sizes, r->h, r->d, r->last, r->sums, segment);
 }
 
-/*
- * Takes references one after the other and stops at the first that is refused (4, 13). `taken` becomes how many were taken, refused or
- * not: those before the refused one stay taken. This is the one call that writes where it is refused; where it takes none, the
- * recorder is as it was.
- */
-static inline uint64_t segtrace_touch_all(segtrace_recorder *r, const uint16_t *segments, size_t segments_length, uint64_t *taken)
+/* Takes all references, or none: 4 and 13 as for a touch, of the first reference that would be refused. */
+static inline uint64_t segtrace_touch_all(segtrace_recorder *r, const uint16_t *segments, size_t segments_length)
 {
-    return segtrace_recorder_touch_all(r->head, r->counts, r->sizes, r->h, r->d, r->last, r->sums, segments, segments_length, taken);
+    return segtrace_recorder_touch_all(r->head, r->counts, r->sizes, r->h, r->d, r->last, r->sums, segments, segments_length);
 }
 
 /* The eleven figures of a row at this moment: those of the sheet ending there: 7. */

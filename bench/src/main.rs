@@ -288,12 +288,12 @@ impl Table {
             count,
             |number| {
                 let mut recorder = started[number].clone();
-                recorder.touch_all(black_box(read[number].references())).1.expect("room");
+                recorder.touch_all(black_box(read[number].references())).expect("room");
                 black_box(&recorder);
             },
             Some(|number: usize| {
                 let mut recorder = others[number].clone();
-                recorder.touch_all(black_box(read[number].references())).1.expect("room");
+                recorder.touch_all(black_box(read[number].references())).expect("room");
                 black_box(&recorder);
             }),
         );
@@ -327,7 +327,7 @@ fn same_answers(bytes: &[Vec<u8>], read: &[Sheet], row: u64, schedules: &[Vec<u8
         assert!(segtrace::all_figures(bytes, &mut records) == Ok(rows), "the rows differ");
         let mut by_calls = segtrace::Recorder::start(bytes).expect("a sheet");
         let mut in_bulk = by_calls.clone();
-        in_bulk.touch_all(read.references()).1.expect("room");
+        in_bulk.touch_all(read.references()).expect("room");
         read.references().iter().for_each(|&segment| by_calls.touch(segment as u64).expect("room"));
         for row in 0..rows {
             let figures = segtrace::Recorder::figures(&by_calls, row as u64).expect("a row");

@@ -39,20 +39,16 @@ impl Recorder {
         Ok(())
     }
 
-    /// Takes references up to the first that `touch` would refuse, and gives how many were taken and that refusal.
-    pub fn touch_all(&mut self, segments: &[u16]) -> (usize, Result<(), Refusal>) {
+    /// Takes all references, or none where `touch` would refuse one, and gives the first such refusal.
+    pub fn touch_all(&mut self, segments: &[u16]) -> Result<(), Refusal> {
         let segs = self.segs;
         let room = Recorder::REFS - self.refs();
         let known = segments.iter().position(|&segment| segment as usize >= segs).unwrap_or(segments.len());
-        let taken = known.min(room);
-        self.pass.take(&self.scale, &segments[..taken]);
-        if taken == segments.len() {
-            (taken, Ok(()))
-        } else if taken == known {
-            (taken, Err(Refusal::OutOfRange))
-        } else {
-            (taken, Err(Refusal::RecorderFull))
+        if known.min(room) < segments.len() {
+            return Err(if known <= room { Refusal::OutOfRange } else { Refusal::RecorderFull });
         }
+        self.pass.take(&self.scale, segments);
+        Ok(())
     }
 
     /// The figures of a row, as of a sheet that ends here.

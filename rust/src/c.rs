@@ -88,7 +88,7 @@ extern "C" {
         segment: u64,
     ) -> u64;
 
-    /// Takes references one after the other.
+    /// Takes all references, or none.
     pub fn segtrace_recorder_touch_all(
         head: *const u64,
         counts: *mut u64,
@@ -99,7 +99,6 @@ extern "C" {
         sums: *mut u64,
         segments: *const u16,
         segments_length: usize,
-        taken: *mut u64,
     ) -> u64;
 
     /// The eleven figures of a row at this moment.

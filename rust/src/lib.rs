@@ -10,7 +10,8 @@
 //! assert_eq!(segtrace::figures(sheet, 2), Err(segtrace::Refusal::NoSuchRow));
 //!
 //! let mut recorder = segtrace::Recorder::start(sheet).unwrap();
-//! assert_eq!(recorder.touch_all(&[0, 1, 0, 2]), (3, Err(segtrace::Refusal::OutOfRange)));
+//! assert_eq!(recorder.touch_all(&[0, 1, 0, 2]), Err(segtrace::Refusal::OutOfRange));
+//! assert_eq!(recorder.touch_all(&[0, 1, 0]), Ok(()));
 //! assert_eq!(recorder.figures(0), Ok(figures));
 //! ```
 

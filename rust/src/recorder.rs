@@ -80,11 +80,9 @@ impl Recorder {
         })
     }
 
-    /// Takes references one after the other and stops at the first that is refused (4, 13). Gives how many were taken, and that refusal
-    /// if there is one; those before it stay taken.
-    pub fn touch_all(&mut self, segments: &[u16]) -> (usize, Result<(), Refusal>) {
-        let mut taken = 0;
-        let returned = unsafe {
+    /// Takes all references, or none: refused as the first touch that would be refused (4, 13), the recorder is as it was.
+    pub fn touch_all(&mut self, segments: &[u16]) -> Result<(), Refusal> {
+        Refusal::answer(unsafe {
             c::segtrace_recorder_touch_all(
                 self.head.as_ptr(),
                 self.counts.as_mut_ptr(),
@@ -95,10 +93,8 @@ impl Recorder {
                 self.sums.as_mut_ptr(),
                 segments.as_ptr(),
                 segments.len(),
-                &mut taken,
             )
-        };
-        (taken as usize, Refusal::answer(returned))
+        })
     }
 
     /// The figures of a row at this moment, those of the sheet that ends here: 7.

@@ -90,26 +90,20 @@ pub fn touch(recorder: &mut Recorder, segment: u64) -> u64 {
     })
 }
 
-pub fn touch_all(recorder: &mut Recorder, segments: &[u16], taken: &mut u64) -> u64 {
-    wrong::touch_all(
-        recorder,
-        segments,
-        taken,
-        |Recorder { head, counts, sizes, h, d, last, sums }, segments, taken| unsafe {
-            c::segtrace_recorder_touch_all(
-                head.as_ptr(),
-                counts.as_mut_ptr(),
-                sizes.as_ptr(),
-                h.as_ptr(),
-                d.as_ptr(),
-                last.as_mut_ptr(),
-                sums.as_mut_ptr(),
-                segments.as_ptr(),
-                segments.len(),
-                taken,
-            )
-        },
-    )
+pub fn touch_all(recorder: &mut Recorder, segments: &[u16]) -> u64 {
+    wrong::touch_all(recorder, segments, |Recorder { head, counts, sizes, h, d, last, sums }, segments| unsafe {
+        c::segtrace_recorder_touch_all(
+            head.as_ptr(),
+            counts.as_mut_ptr(),
+            sizes.as_ptr(),
+            h.as_ptr(),
+            d.as_ptr(),
+            last.as_mut_ptr(),
+            sums.as_mut_ptr(),
+            segments.as_ptr(),
+            segments.len(),
+        )
+    })
 }
 
 pub fn figures_now(recorder: &Recorder, row: u64, figures: &mut [u64; 11]) -> u64 {

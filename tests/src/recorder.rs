@@ -42,15 +42,18 @@ impl Model {
         0
     }
 
-    /// How many of several references are taken, and the number that stops them.
-    pub fn touch_all(&mut self, segments: &[u16]) -> (u64, u64) {
+    /// The number that several references get: that of the first that would be refused, and then none is taken.
+    pub fn touch_all(&mut self, segments: &[u16]) -> u64 {
+        let taken = self.sheet.refs.len();
         for (index, &segment) in segments.iter().enumerate() {
-            let number = self.touch(u64::from(segment));
-            if number > 0 {
-                return (index as u64, number);
+            if usize::from(segment) >= self.sheet.sizes.len() {
+                return 4;
+            }
+            if taken + index >= reference::MOST_REFS {
+                return 13;
             }
         }
-        (segments.len() as u64, 0)
+        segments.iter().map(|&segment| self.touch(u64::from(segment))).sum()
     }
 
     pub fn figures(&self, row: u64) -> Result<Figures, u64> {
@@ -90,10 +93,10 @@ impl Model {
 }
 
 /// A recorder under test.
-pub trait Recorder: Sized {
+pub trait Recorder: Clone {
     fn start(bytes: &[u8]) -> Result<Self, u64>;
     fn touch(&mut self, segment: u64) -> u64;
-    fn touch_all(&mut self, segments: &[u16], taken: &mut u64) -> u64;
+    fn touch_all(&mut self, segments: &[u16]) -> u64;
     fn figures(&self, row: u64, out: &mut [u64; 11]) -> u64;
     fn parts(&self) -> &Parts;
     /// Whether nothing around the recorder was changed.
@@ -101,6 +104,7 @@ pub trait Recorder: Sized {
 }
 
 /// The calls of the header on a recorder that stands between watched numbers.
+#[derive(Clone)]
 #[repr(C)]
 struct Watched {
     before: [u64; 8],
@@ -133,8 +137,8 @@ impl Recorder for Watched {
         calls::touch(&mut self.parts, segment)
     }
 
-    fn touch_all(&mut self, segments: &[u16], taken: &mut u64) -> u64 {
-        calls::touch_all(&mut self.parts, segments, taken)
+    fn touch_all(&mut self, segments: &[u16]) -> u64 {
+        calls::touch_all(&mut self.parts, segments)
     }
 
     fn figures(&self, row: u64, out: &mut [u64; 11]) -> u64 {
@@ -160,10 +164,8 @@ impl Recorder for Parts {
         Parts::touch(self, segment).err().map_or(0, segtrace::Refusal::number)
     }
 
-    fn touch_all(&mut self, segments: &[u16], taken: &mut u64) -> u64 {
-        let (count, answer) = Parts::touch_all(self, segments);
-        *taken = count as u64;
-        answer.err().map_or(0, segtrace::Refusal::number)
+    fn touch_all(&mut self, segments: &[u16]) -> u64 {
+        Parts::touch_all(self, segments).err().map_or(0, segtrace::Refusal::number)
     }
 
     fn figures(&self, row: u64, out: &mut [u64; 11]) -> u64 {
@@ -279,8 +281,8 @@ impl Case<'_> {
 
     // ---- In bulk ----
 
-    /// Records the sheet's references in several lists, some with a segment that there is not, beside a recorder that takes them one by
-    /// one. Now and then it is filled, and tried when it is full.
+    /// Records the sheet's references in several lists, now and then after the same list with a segment that there is not, beside a
+    /// recorder that takes them one by one. Now and then it is filled, and tried when it is full.
     fn in_bulk<R: Recorder>(&mut self, sheet: &Sheet) -> Outcome {
         let mut model = Model::start(sheet);
         let mut recorder = self.started::<R>()?;
@@ -289,12 +291,13 @@ impl Case<'_> {
         let mut rest = &refs[..];
         while !rest.is_empty() {
             let (part, after) = rest.split_at(1 + self.prng.below(rest.len()));
-            let mut segments = part.to_vec();
             if self.prng.one_in(3) {
+                let mut segments = part.to_vec();
                 let place = self.prng.below(segments.len() + 1);
                 segments.insert(place, no_segment(&mut self.prng, sheet).min(0xffff) as u16);
+                self.take(&mut model, &mut recorder, &mut by_calls, &segments)?;
             }
-            self.take(&mut model, &mut recorder, &mut by_calls, &segments)?;
+            self.take(&mut model, &mut recorder, &mut by_calls, part)?;
             rest = after;
         }
         self.take(&mut model, &mut recorder, &mut by_calls, &[])?;
@@ -306,23 +309,24 @@ impl Case<'_> {
         ensure(recorder.around(), || "recorder: a number beside it was changed".to_string())
     }
 
-    /// Fills the recorders with the same references again and again, ending in a list that is too long, and tries both refusals.
+    /// Fills the recorders with the same references again and again, after a list that is too long, and tries both refusals.
     fn fill<R: Recorder>(&mut self, model: &mut Model, recorder: &mut R, by_calls: &mut R, refs: &[u16]) -> Outcome {
         let wrong = model.sheet.sizes.len() as u16;
         let room = reference::MOST_REFS - model.sheet.refs.len();
-        let mut segments: Vec<u16> = refs.iter().copied().cycle().take(room + self.prng.below(4)).collect();
-        if self.prng.one_in(2) {
-            // A segment that there is not, where the room ends: 4.
-            segments.insert(room, wrong);
-        }
+        let mut segments: Vec<u16> = refs.iter().copied().cycle().take(room + 1 + self.prng.below(4)).collect();
         self.take(model, recorder, by_calls, &segments)?;
+        // A segment that there is not, where the room ends: 4; and after it: 13.
+        segments.insert(room + self.prng.below(2), wrong);
+        self.take(model, recorder, by_calls, &segments)?;
+        self.take(model, recorder, by_calls, &segments[..room])?;
         for list in [&refs[..1], &[wrong], &[wrong, refs[0]], &[refs[0], wrong], &[]] {
             self.take(model, recorder, by_calls, list)?;
         }
         Ok(())
     }
 
-    /// Hands a list to one recorder in bulk, and to another one by one: number, references taken and parts are the same.
+    /// Hands a list to one recorder in bulk, and to another one by one: number and parts are the same. A list that is refused changes no
+    /// part, and has the number of the first touch that is refused.
     fn take<R: Recorder>(
         &mut self,
         model: &mut Model,
@@ -330,16 +334,18 @@ impl Case<'_> {
         by_calls: &mut R,
         segments: &[u16],
     ) -> Outcome {
-        let (want_taken, want) = model.touch_all(segments);
-        let mut taken = Place::<u64>::new(&mut self.prng, 1);
-        let got = recorder.touch_all(segments, &mut taken.lent()[0]);
+        let want = model.touch_all(segments);
+        let got = recorder.touch_all(segments);
         self.tally.note_recorder(want);
         ensure(got == want, || format!("recorder: {segments:?} in bulk give {got}, wanted {want}"))?;
-        taken.check(&[want_taken]).map_err(|message| format!("recorder: {segments:?} in bulk, taken: {message}"))?;
-        let stop = segments.iter().position(|&segment| by_calls.touch(u64::from(segment)) > 0);
-        ensure(stop.unwrap_or(segments.len()) as u64 == want_taken, || {
-            format!("recorder: {segments:?} one by one stop at {stop:?}, wanted {want_taken}")
+        let mut touched = by_calls.clone();
+        let first = segments.iter().map(|&segment| touched.touch(u64::from(segment))).find(|&number| number > 0);
+        ensure(first.unwrap_or(0) == want, || {
+            format!("recorder: {segments:?} one by one are refused with {first:?}, wanted {want}")
         })?;
+        if want == 0 {
+            *by_calls = touched;
+        }
         ensure(recorder.parts() == by_calls.parts(), || {
             format!("recorder: {segments:?} in bulk and one by one leave different parts")
         })?;
@@ -397,19 +403,16 @@ impl Case<'_> {
         let old = parts.clone();
         let room = (reference::MOST_REFS as u64).saturating_sub(old.counts[0]);
         let known = segments.iter().position(|&segment| u64::from(segment) >= segs).unwrap_or(segments.len()) as u64;
-        let want_taken = known.min(room);
-        let want = match want_taken {
-            _ if want_taken == segments.len() as u64 => 0,
-            _ if want_taken == known => 4,
+        let want = match known.min(room) {
+            taken if taken == segments.len() as u64 => 0,
+            taken if taken == known => 4,
             _ => 13,
         };
-        let mut taken = Place::<u64>::new(&mut self.prng, 1);
-        let got = calls::touch_all(parts, segments, &mut taken.lent()[0]);
+        let got = calls::touch_all(parts, segments);
         self.tally.note_recorder(want);
         ensure(got == want, || format!("recorder: {segments:?} in bulk give {got}, wanted {want}"))?;
-        taken.check(&[want_taken]).map_err(|message| format!("recorder: {segments:?} in bulk, taken: {message}"))?;
         ensure(head_stays(&old, parts), || "recorder: bulk changed the head, sizes or prices".to_string())?;
-        ensure(want_taken > 0 || *parts == old, || "recorder: bulk that took nothing changed a part".to_string())
+        ensure(want == 0 || *parts == old, || format!("recorder: {segments:?} refused with {want} changed a part"))
     }
 
     fn figures_by_hand(&mut self, parts: &Parts, row: u64, rows: u64) -> Outcome {

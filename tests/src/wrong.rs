@@ -58,8 +58,8 @@ pub enum Way {
     FullFirst,
     /// The last reference in bulk is not taken.
     LastNotTaken,
-    /// A refusal in bulk undoes what was taken.
-    Undone,
+    /// A refusal in bulk keeps the references before the refused one.
+    Kept,
 }
 
 /// Wrong ways of every call with a lent place, and of every call with a list of fixed length.
@@ -79,7 +79,7 @@ const LIST_CALLS: [Call; 5] = [Call::Figures, Call::Price, Call::Margin, Call::S
 const LIST_WAYS: [Way; 5] = [Way::OtherNumber, Way::Refused(7), Way::Idle, Way::LastItem, Way::ItemRefused];
 
 /// Wrong ways of single calls.
-const OTHERS: [(Call, Way); 29] = [
+const OTHERS: [(Call, Way); 28] = [
     (Call::Check, Way::OtherNumber),
     (Call::Check, Way::NotRefused(5)),
     (Call::Check, Way::Refused(6)),
@@ -105,9 +105,8 @@ const OTHERS: [(Call, Way); 29] = [
     (Call::TouchAll, Way::FullFirst),
     (Call::TouchAll, Way::Idle),
     (Call::TouchAll, Way::LastNotTaken),
-    (Call::TouchAll, Way::Undone),
-    (Call::TouchAll, Way::Length),
-    (Call::TouchAll, Way::LengthRefused),
+    (Call::TouchAll, Way::Kept),
+    (Call::TouchAll, Way::LastRefused),
     (Call::TouchAll, Way::SumsRefused),
 ];
 
@@ -223,25 +222,18 @@ pub fn touch(recorder: &mut Recorder, real: impl FnOnce(&mut Recorder) -> u64) -
     number(way, returned)
 }
 
-pub fn touch_all(
-    recorder: &mut Recorder,
-    segments: &[u16],
-    taken: &mut u64,
-    real: impl FnOnce(&mut Recorder, &[u16], &mut u64) -> u64,
-) -> u64 {
-    let Some(way) = way(Call::TouchAll) else { return real(recorder, segments, taken) };
-    let (old, old_taken) = (recorder.clone(), *taken);
+pub fn touch_all(recorder: &mut Recorder, segments: &[u16], real: impl Fn(&mut Recorder, &[u16]) -> u64) -> u64 {
+    let Some(way) = way(Call::TouchAll) else { return real(recorder, segments) };
+    let old = recorder.clone();
     if way == Way::LastNotTaken && segments.len() > 1 {
-        let returned = real(recorder, &segments[..segments.len() - 1], taken);
-        *taken += u64::from(returned == 0);
-        return returned;
+        return real(recorder, &segments[..segments.len() - 1]);
     }
-    let returned = real(recorder, segments, taken);
+    let returned = real(recorder, segments);
     match (way, returned) {
-        (Way::Idle, 0) | (Way::Undone, 1..) => *recorder = old,
+        (Way::Idle, 0) => *recorder = old,
         (Way::FullFirst, 4) if recorder.counts[0] >= 2_048 => return 13,
-        (Way::Length, 1..) => *taken += 1,
-        (Way::LengthRefused, 1..) => *taken = old_taken,
+        (Way::Kept, 1..) => _ = segments.iter().take_while(|segment| real(recorder, &[**segment]) == 0).count(),
+        (Way::LastRefused, 1..) => recorder.last[255] ^= 1,
         (Way::SumsRefused, 1..) => recorder.sums[0] ^= 1,
         _ => {}
     }

@@ -3,11 +3,10 @@
 use figures::FiguresAnswer;
 use model::Refusal;
 use model::Verdict;
-use recorder::BulkAnswer;
 use recorder::Recorder;
 use recorder::TouchAnswer;
 ghost use mathlib.Core.Path.{_≡_};
-ghost use Rattle.recorder.specs.Recorders.{Touched, Figured, Bulked};
+ghost use Rattle.recorder.specs.Recorders.{Touched, TouchedAll, Figured};
 ghost use Rattle.analyser.specs.Recording.{noRecorder, startAnswer};
 
 // No recorder, and why.
@@ -50,9 +49,9 @@ pub fn figures(recorder: Recorder, row: usize) -> FiguresAnswer
     recorder.figures(row)
 }
 
-// Takes references one after the other and stops at the first refusal, 4 or 13; where it takes none, the recorder comes back as it was.
-pub fn touch_all(recorder: Recorder, refs: &[u16]) -> BulkAnswer
-    ensures { λ r. ⌜ Bulked recorder (now (refs .entry)) r ⌝ }
+// Takes all references, or none: refused with 4 or 13, for the first that would be refused, the recorder comes back as it was.
+pub fn touch_all(recorder: Recorder, refs: &[u16]) -> TouchAnswer
+    ensures { λ r. ⌜ TouchedAll recorder (now (refs .entry)) r ⌝ }
 {
     recorder.touch_all(refs)
 }

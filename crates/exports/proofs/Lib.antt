@@ -2,5 +2,5 @@ pub mod Found
 pub mod Rows
 pub mod Told
 pub mod RecorderCalls
-pub mod RecorderParts
+pub mod RecorderLists
 pub mod RecorderSums

@@ -1,8 +1,8 @@
 -- A list that a loop fills entry by entry, and six sums stored for each bucket. Assumes nothing.
-use Prim.Native.Nat.{ℕ, _+_, _*_, _≤_, _<_}
+use Prim.Native.Nat.{ℕ, zero, suc, _+_, _*_, _≤_, _<_}
 use mathlib.Core.Path.{_≡_, refl, sym, _∙_}
 use mathlib.Core.Logic.{⊎-elim}
-use mathlib.Core.List.{List}
+use mathlib.Core.List.{List, [], _∷_, _++_, append-assoc}
 use native.Mathlib.Omega.{arith}
 use native.Mathlib.Numerals.{add-one}
 use lib.ListN.{length, getD, take, set, length-set}
@@ -12,7 +12,7 @@ use Rattle.figures.specs.Buckets.{bucketCount, tabulate}
 use Rattle.figures.specs.Sweep.{noBucket}
 use Rattle.figures.specs.declared.Bucket.{Bucket}
 use Rattle.figures.proofs.Tables.{list-tabulate}
-use Rattle.exports.specs.Recording.{bucketIn}
+use Rattle.exports.specs.Recording.{bucketIn, sumsOf}
 
 -- the first i entries of a list are those of the whole that it is to become, n entries long
 pub record Filled {A : Type 0} (n : ℕ) (whole l : List A) (i : ℕ) : Type 0 where
@@ -157,6 +157,39 @@ bucket-before l k b j lt =
       six-before l (6 * k) b (6 * j + 5) (omega arith),
     ) refl
 
+-- the sums of a bucket more
+sums-more : (bs : List Bucket) (b : Bucket) → sumsOf (bs ++ (b ∷ [])) ≡ sumsOf bs ++ sumsOf (b ∷ [])
+unfolding sumsOf
+sums-more [] b = refl
+sums-more (x ∷ bs) b = rw (sums-more bs b) refl
+
+-- one entry more
+take-next : (l : List ℕ) (n m : ℕ) → m ≡ suc n → n < length l → take m l ≡ take n l ++ (getD l n 0 ∷ [])
+take-next l n m e lt = rw e (take-suc l n 0 lt)
+
+-- six entries more
+take-six : (l : List ℕ) (n : ℕ) → n + 6 ≤ length l
+    → take (n + 6) l
+    ≡ take n l ++ (getD l n 0 ∷ getD l (n + 1) 0 ∷ getD l (n + 2) 0 ∷ getD l (n + 3) 0 ∷ getD l (n + 4) 0 ∷ getD l (n + 5) 0 ∷ [])
+take-six l n le =
+    rw (
+      take-next l (n + 5) (n + 6) (omega arith) (omega arith),
+      take-next l (n + 4) (n + 5) (omega arith) (omega arith),
+      take-next l (n + 3) (n + 4) (omega arith) (omega arith),
+      take-next l (n + 2) (n + 3) (omega arith) (omega arith),
+      take-next l (n + 1) (n + 2) (omega arith) (omega arith),
+      take-next l n (n + 1) (omega arith) (omega arith),
+    ) (simp append-assoc)
+
+-- the sums of the buckets that stand in a list are the list, as far as they go
+sums-front : (l : List ℕ) (n : ℕ) → 6 * n ≤ length l → sumsOf (tabulate n (bucketIn l)) ≡ take (6 * n) l
+unfolding sumsOf tabulate
+sums-front l zero le = refl
+sums-front l (suc n) le =
+    let next : 6 * suc n ≡ 6 * n + 6 = omega arith in
+    sums-more (tabulate n (bucketIn l)) (bucketIn l n)
+    ∙ rw (sums-front l n (omega arith), next) (sym (take-six l (6 * n) (omega arith)))
+
 -- the first k buckets stand in the sums
 pub record SumsStored (buckets : List Bucket) (sums : List ℕ) (k : ℕ) : Type 0 where
   pub buckets-length : length buckets ≡ bucketCount
@@ -186,7 +219,10 @@ module _ (buckets : List Bucket) (sums : List ℕ) where
             (last-or-below k j l);
       })
 
-  pub sums-end : (k : ℕ) → SumsStored buckets sums k → bucketCount ≤ k → tabulate bucketCount (bucketIn sums) ≡ buckets
+  pub sums-end : (k : ℕ) → SumsStored buckets sums k → bucketCount ≤ k → sums ≡ sumsOf buckets
   sums-end k s le =
+      let all =
+      list-tabulate bucketCount (bucketIn sums) buckets noBucket (s .buckets-length) (λ j l. sym (s .stored j (omega arith))) in
       sym
-      (list-tabulate bucketCount (bucketIn sums) buckets noBucket (s .buckets-length) (λ j l. sym (s .stored j (omega arith))))
+      (rw all (sums-front sums bucketCount (omega (arith, s .sums-length)))
+      ∙ take-all (6 * bucketCount) sums (omega (arith, s .sums-length)))

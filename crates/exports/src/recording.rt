@@ -11,8 +11,9 @@ ghost use Prim.Native.Nat.{min};
 ghost use lib.ListN.{length};
 ghost use Rattle.figures.specs.Buckets.{bucketCount, tabulate};
 ghost use Rattle.figures.specs.Pass.{rowsOf};
-ghost use Rattle.exports.specs.Recording.{StartCall, TouchCall, TouchAllCall, FiguresCall, HeadStored, TakenStored};
-ghost use Rattle.exports.specs.Recording.{parts, recorderIn, kindIn, bucketIn};
+ghost use Rattle.recorder.specs.Recorders.{Touched, TouchedAll};
+ghost use Rattle.exports.specs.Recording.{StartCall, TouchCall, FiguresCall, HeadStored, TakenStored};
+ghost use Rattle.exports.specs.Recording.{lists, recorderIn, kindIn, kindNumber, bucketIn, sumsOf};
 
 // The kind that a number stands for.
 fn kind_of(n: u64) -> Kind
@@ -26,7 +27,7 @@ fn kind_of(n: u64) -> Kind
 
 // The number of a kind.
 fn kind_number(kind: Kind) -> u64
-    ensures { λ r. ⌜ kindIn r ≡ kind ⌝ }
+    ensures { λ r. ⌜ r ≡ kindNumber kind ⌝ }
 {
     match kind {
         Kind::Time => 0,
@@ -82,7 +83,7 @@ fn buckets_of(sums: &[u64; 390]) -> [Bucket; 65]
 // Stores the buckets in the sums.
 fn store_buckets(buckets: [Bucket; 65], sums: &mut [u64])
     requires { ⌜ length (now sums) ≡ 390 ⌝ }
-    ensures { λ u. ⌜ tabulate bucketCount (bucketIn (now (sums .exit))) ≡ buckets ⌝ }
+    ensures { λ u. ⌜ now (sums .exit) ≡ sumsOf buckets ⌝ }
 {
     let mut k = 0;
     while k < 65 {
@@ -98,7 +99,7 @@ fn store_buckets(buckets: [Bucket; 65], sums: &mut [u64])
     }
 }
 
-// The recorder that the parts hold.
+// The recorder that the lists hold.
 fn recorder_of(
     head: &[u64; 4],
     counts: &[u64; 3],
@@ -108,7 +109,7 @@ fn recorder_of(
     last: &[u16; 256],
     sums: &[u64; 390],
 ) -> Recorder
-    ensures { λ r. ⌜ r ≡ recorderIn (parts (now (head .entry)) (now (counts .entry)) (now (sizes .entry)) (now (h .entry))
+    ensures { λ r. ⌜ r ≡ recorderIn (lists (now (head .entry)) (now (counts .entry)) (now (sizes .entry)) (now (h .entry))
         (now (d .entry)) (now (last .entry)) (now (sums .entry))) ⌝ }
 {
     let kind = kind_of(head[0]);
@@ -177,9 +178,9 @@ pub extern "C" fn segtrace_recorder_start(
     sums: &mut [u64; 390],
 ) -> u64
     ensures { λ r. ⌜ StartCall (now (sheet .entry))
-        (parts (now (head .entry)) (now (counts .entry)) (now (sizes .entry)) (now (h .entry))
+        (lists (now (head .entry)) (now (counts .entry)) (now (sizes .entry)) (now (h .entry))
         (now (d .entry)) (now (last .entry)) (now (sums .entry)))
-        (parts (now (head .exit)) (now (counts .exit)) (now (sizes .exit)) (now (h .exit))
+        (lists (now (head .exit)) (now (counts .exit)) (now (sizes .exit)) (now (h .exit))
         (now (d .exit)) (now (last .exit)) (now (sums .exit))) r ⌝ }
 {
     let answer = analyser::recording::start(sheet);
@@ -207,11 +208,11 @@ pub extern "C" fn segtrace_recorder_touch(
     sums: &mut [u64; 390],
     segment: u64,
 ) -> u64
-    ensures { λ r. ⌜ TouchCall
-        (parts (now (head .entry)) (now (counts .entry)) (now (sizes .entry)) (now (h .entry))
+    ensures { λ r. ⌜ TouchCall (λ R a. Touched R segment a)
+        (lists (now (head .entry)) (now (counts .entry)) (now (sizes .entry)) (now (h .entry))
         (now (d .entry)) (now (last .entry)) (now (sums .entry)))
-        (parts (now (head .exit)) (now (counts .exit)) (now (sizes .exit)) (now (h .exit))
-        (now (d .exit)) (now (last .exit)) (now (sums .exit))) segment r ⌝ }
+        (lists (now (head .exit)) (now (counts .exit)) (now (sizes .exit)) (now (h .exit))
+        (now (d .exit)) (now (last .exit)) (now (sums .exit))) r ⌝ }
 {
     let r = recorder_of(head, counts, sizes, h, d, last, sums);
     let answer = analyser::recording::touch(r, segment as usize);
@@ -226,7 +227,7 @@ pub extern "C" fn segtrace_recorder_touch(
     }
 }
 
-// Takes references one after the other, stops at the first that is refused, and tells how many were taken: 4, 13.
+// Takes all references, or none where one would be refused: 4, 13.
 #[no_mangle]
 pub extern "C" fn segtrace_recorder_touch_all(
     head: &[u64; 4],
@@ -237,24 +238,24 @@ pub extern "C" fn segtrace_recorder_touch_all(
     last: &mut [u16; 256],
     sums: &mut [u64; 390],
     segments: &[u16],
-    taken: &mut u64,
 ) -> u64
-    ensures { λ r. ⌜ TouchAllCall
-        (parts (now (head .entry)) (now (counts .entry)) (now (sizes .entry)) (now (h .entry))
+    ensures { λ r. ⌜ TouchCall (λ R a. TouchedAll R (now (segments .entry)) a)
+        (lists (now (head .entry)) (now (counts .entry)) (now (sizes .entry)) (now (h .entry))
         (now (d .entry)) (now (last .entry)) (now (sums .entry)))
-        (parts (now (head .exit)) (now (counts .exit)) (now (sizes .exit)) (now (h .exit))
-        (now (d .exit)) (now (last .exit)) (now (sums .exit))) (now (segments .entry)) (now (taken .exit)) r ⌝ }
+        (lists (now (head .exit)) (now (counts .exit)) (now (sizes .exit)) (now (h .exit))
+        (now (d .exit)) (now (last .exit)) (now (sums .exit))) r ⌝ }
 {
     let r = recorder_of(head, counts, sizes, h, d, last, sums);
     let answer = analyser::recording::touch_all(r, segments);
     let verdict = answer.verdict;
     let after = answer.recorder;
-    *taken = answer.taken as u64;
-    if answer.taken == 0 {
-        return model::verdict_number(verdict);
+    match verdict {
+        Verdict::Accepted => {
+            store_taken(after, counts, last, sums);
+            0
+        }
+        Verdict::Refused(why) => model::number(why),
     }
-    store_taken(after, counts, last, sums);
-    model::verdict_number(verdict)
 }
 
 // The figures of a row at this moment: 7.
@@ -271,7 +272,7 @@ pub extern "C" fn segtrace_recorder_figures(
     figures: &mut [u64; 11],
 ) -> u64
     ensures { λ r. ⌜ FiguresCall
-        (parts (now (head .entry)) (now (counts .entry)) (now (sizes .entry)) (now (h .entry))
+        (lists (now (head .entry)) (now (counts .entry)) (now (sizes .entry)) (now (h .entry))
         (now (d .entry)) (now (last .entry)) (now (sums .entry)))
         row (now (figures .entry)) (now (figures .exit)) r ⌝ }
 {

@@ -1,7 +1,7 @@
 -- What the calls of a recorder answer: each answer meets its contract. Assumes nothing.
 use Prim.Native.Nat.{ℕ, _≤_, _<_, min}
 use mathlib.Core.Path.{_≡_, refl, sym, ap}
-use mathlib.Core.List.{List}
+use mathlib.Core.List.{List, []}
 use native.Mathlib.Omega.{arith}
 use lib.ListN.{length}
 use borrow.Author.Tests.{lt-ltb, le-ltb}
@@ -10,6 +10,7 @@ use Rattle.model.specs.Rows.{zeroFigures}
 use Rattle.model.specs.declared.RowFigures.{RowFigures}
 use Rattle.model.specs.declared.Refusal.{Refusal}
 use Rattle.model.specs.declared.Refusal.the-variants.{OutOfRange, NoSuchRow, RecorderFull}
+use Rattle.model.specs.declared.Verdict.{Verdict}
 use Rattle.model.specs.declared.Verdict.the-variants.{Accepted, Refused}
 use Rattle.sheet.specs.Values.{sheetOf}
 use Rattle.sheet.specs.declared.Sheet.{Sheet}
@@ -18,12 +19,12 @@ use Rattle.figures.specs.Rows.{figuresAt, figuresOf}
 use Rattle.figures.specs.declared.Bucket.{Bucket}
 use Rattle.figures.proofs.Marks.{last-start}
 use Rattle.figures.proofs.Passing.{valid-run, passing-start}
-use Rattle.recorder.specs.Recorders.{recorderOf, headOf, taken, Touched, Figured}
+use Rattle.recorder.specs.Recorders.{recorderOf, headOf, appended, taken, refsVerdict, touchAllVerdict, Touched, TouchedAll, Figured}
 use Rattle.recorder.specs.declared.Recorder.{Recorder}
 use Rattle.recorder.proofs.Standing.{head-valid, recorder-passed}
 
 -- an answer is not both
-refused-accepted : {A : Type 0} (why : Refusal) → Refused why ≡ Accepted → A
+pub refused-accepted : {A : Type 0} (why : Refusal) → Refused why ≡ Accepted → A
 refused-accepted why e = let z : _≡_ {A = ℕ} 0 1 = cc in absurd (omega arith)
 
 -- a start: nothing was touched yet
@@ -77,6 +78,33 @@ accepted R N x lt room next =
       unchanged = λ why e. refused-accepted why (sym e);
       stands = λ v valid e a. next v valid e;
     }
+
+-- the verdict on several references that the code finds is the definition's
+pub verdict-found : (segs least count : ℕ) (xs : List ℕ) (w : Verdict) → least ≡ min segs mostSegs → w ≡ refsVerdict least count xs
+    → w ≡ refsVerdict (min segs mostSegs) count xs
+verdict-found segs least count xs w clamped found = rw clamped at found
+
+-- several references, refused or taken
+module _ (R : Recorder) (xs : List ℕ) where
+  pub all-refused : (why : Refusal) → touchAllVerdict R xs ≡ Refused why → TouchedAll R xs (record { verdict = Refused why; recorder = R })
+  all-refused why e =
+      record {
+        verdict-is = sym e;
+        unchanged = λ w f. refl;
+        nothing = λ none. refl;
+        stands = λ v valid f a. refused-accepted why a;
+      }
+
+  pub all-accepted : (N : Recorder) → touchAllVerdict R xs ≡ Accepted → (xs ≡ [] → N ≡ R)
+      → ((v : SheetValue) → Valid v → R ≡ recorderOf v → N ≡ recorderOf (appended v xs))
+      → TouchedAll R xs (record { verdict = Accepted; recorder = N })
+  all-accepted N e none next =
+      record {
+        verdict-is = sym e;
+        unchanged = λ why f. refused-accepted why (sym f);
+        nothing = none;
+        stands = λ v valid f a. next v valid f;
+      }
 
 -- the rows of a recorder that stands for a sheet
 rows-are : (R : Recorder) (v : SheetValue) → R ≡ recorderOf v → R .rows ≡ length (v .rows)

@@ -12,8 +12,7 @@ use Rattle.figures.specs.Rows.{figuresOf}
 use Rattle.figures.specs.Sweep.{noBucket}
 use Rattle.figures.specs.declared.FiguresAnswer.{FiguresAnswer}
 use Rattle.figures.proofs.Filed.{counts-add-up}
-use Rattle.recorder.specs.Recorders.{recorderOf, headOf, taken, touchVerdict, Touched, Figured}
-use Rattle.recorder.specs.Guards.{appended}
+use Rattle.recorder.specs.Recorders.{recorderOf, headOf, appended, taken, touchVerdict, Touched, Figured}
 use Rattle.recorder.specs.declared.Recorder.{Recorder}
 use Rattle.recorder.specs.declared.TouchAnswer.{TouchAnswer}
 use Rattle.recorder.proofs.Standing.{taken-valid, appended-valid, head-valid}

@@ -29,8 +29,7 @@ use Rattle.figures.proofs.Passing.{Passing, valid-run, passing-end}
 use Rattle.figures.specs.declared.Bucket.{Bucket}
 use Rattle.figures.specs.declared.pass.Passed.{Passed}
 use Rattle.sheet.specs.Values.{padded, zeros, zeroRows}
-use Rattle.recorder.specs.Recorders.{recorderOf, headOf, taken}
-use Rattle.recorder.specs.Guards.{appended}
+use Rattle.recorder.specs.Recorders.{recorderOf, headOf, appended, taken}
 
 module _ (v : SheetValue) (valid : Valid v) where
   -- each touch of the run is within the limits of a touch

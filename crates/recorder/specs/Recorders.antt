@@ -19,10 +19,8 @@ use Rattle.figures.specs.Pass.{allUntouched, allEmpty}
 use Rattle.figures.specs.Rows.{noFigures, figuresOf}
 use Rattle.figures.specs.declared.FiguresAnswer.{FiguresAnswer}
 use Rattle.model.specs.LastTouches.{lastTable}
-use Rattle.recorder.specs.Guards.{Takable, TakesNoMore, stopVerdict}
 use Rattle.recorder.specs.declared.Recorder.{Recorder}
 use Rattle.recorder.specs.declared.TouchAnswer.{TouchAnswer}
-use Rattle.recorder.specs.declared.BulkAnswer.{BulkAnswer}
 
 -- the recorder that stands for a sheet's value: its head, and what the pass has after its references
 unfoldable pub recorderOf : SheetValue → Recorder
@@ -62,14 +60,33 @@ emptyRecorder =
 abbrev pub headOf : SheetValue → SheetValue
 headOf v = record { kind = v .kind; a = v .a; sizes = v .sizes; rows = v .rows; refs = [] }
 
+-- a sheet's value with the references xs after its own
+abbrev pub appended : SheetValue → List ℕ → SheetValue
+appended v xs = record { kind = v .kind; a = v .a; sizes = v .sizes; rows = v .rows; refs = v .refs ++ xs }
+
 -- one reference more
 abbrev pub taken : SheetValue → ℕ → SheetValue
-taken v x = record { kind = v .kind; a = v .a; sizes = v .sizes; rows = v .rows; refs = v .refs ++ (x ∷ []) }
+taken v x = appended v (x ∷ [])
 
--- 4 for a segment not below segs, then 13 where the recorder has 2,048 references
+-- the verdict on a reference x after `count` references: 4 for a segment not below segs, then 13 where there are 2,048
+abbrev pub refVerdict : ℕ → ℕ → ℕ → Verdict
+refVerdict segs count x = cond (ltb x segs) (cond (ltb count mostRefs) Accepted (Refused RecorderFull)) (Refused OutOfRange)
+
+-- the verdict of the first of the references xs that would be refused, each being asked after those before it
+unfoldable pub refsVerdict : ℕ → ℕ → List ℕ → Verdict
+refsVerdict segs count [] = Accepted
+refsVerdict segs count (x ∷ xs) =
+    elim (refVerdict segs count x) [
+      | Accepted ↦ refsVerdict segs (suc count) xs
+      | Refused why ↦ Refused why
+    ]
+
+-- the verdicts of a recorder on one reference and on several
 abbrev pub touchVerdict : Recorder → ℕ → Verdict
-touchVerdict R x =
-    cond (ltb x (min (R .segs) mostSegs)) (cond (ltb (R .refs) mostRefs) Accepted (Refused RecorderFull)) (Refused OutOfRange)
+touchVerdict R x = refVerdict (min (R .segs) mostSegs) (R .refs) x
+
+abbrev pub touchAllVerdict : Recorder → List ℕ → Verdict
+touchAllVerdict R xs = refsVerdict (min (R .segs) mostSegs) (R .refs) xs
 
 -- what a touch answers
 pub record Touched (R : Recorder) (x : ℕ) (r : TouchAnswer) : Type 0 where
@@ -79,6 +96,24 @@ pub record Touched (R : Recorder) (x : ℕ) (r : TouchAnswer) : Type 0 where
   -- a recorder that stands for a sheet stands for one reference more
   pub stands : (v : SheetValue) → Valid v → R ≡ recorderOf v → r .verdict ≡ Accepted → r .recorder ≡ recorderOf (taken v x)
 
+-- what taking several references answers: all of them or none
+pub record TouchedAll (R : Recorder) (xs : List ℕ) (r : TouchAnswer) : Type 0 where
+  pub verdict-is : r .verdict ≡ touchAllVerdict R xs
+  -- refused, the recorder comes back as it was; so it does where there is no reference
+  pub unchanged : (why : Refusal) → r .verdict ≡ Refused why → r .recorder ≡ R
+  pub nothing : xs ≡ [] → r .recorder ≡ R
+  -- a recorder that stands for a sheet stands for the sheet with all of them
+  pub stands : (v : SheetValue) → Valid v → R ≡ recorderOf v → r .verdict ≡ Accepted → r .recorder ≡ recorderOf (appended v xs)
+
+-- touching one by one a recorder that stands for a sheet: the answer of the first touch that is refused, or of the last
+unfoldable pub oneByOne : SheetValue → List ℕ → TouchAnswer
+oneByOne v [] = record { verdict = Accepted; recorder = recorderOf v }
+oneByOne v (x ∷ xs) =
+    elim (touchVerdict (recorderOf v) x) [
+      | Accepted ↦ oneByOne (taken v x) xs
+      | Refused why ↦ record { verdict = Refused why; recorder = recorderOf v }
+    ]
+
 -- what reading the figures of a row answers
 pub record Figured (R : Recorder) (row : ℕ) (r : FiguresAnswer) : Type 0 where
   pub verdict-is : r .verdict ≡ cond (ltb row (min (R .rows) mostRows)) Accepted (Refused NoSuchRow)
@@ -86,24 +121,3 @@ pub record Figured (R : Recorder) (row : ℕ) (r : FiguresAnswer) : Type 0 where
   pub zero-figures : (why : Refusal) → r .verdict ≡ Refused why → r ≡ noFigures why
   -- the figures of a recorder that stands for a sheet are those of the sheet ending there
   pub stands : (v : SheetValue) → Valid v → R ≡ recorderOf v → r ≡ figuresOf v row
-
--- touching one by one: the references xs after k taken ones; it stops at the first refusal
-unfoldable pub bulkOf : SheetValue → ℕ → List ℕ → BulkAnswer
-bulkOf v k [] = record { verdict = Accepted; taken = k; recorder = recorderOf v }
-bulkOf v k (x ∷ xs) =
-    elim (touchVerdict (recorderOf v) x) [
-      | Accepted ↦ bulkOf (taken v x) (suc k) xs
-      | Refused why ↦ record { verdict = Refused why; taken = k; recorder = recorderOf v }
-    ]
-
--- what taking several references answers
-pub record Bulked (R : Recorder) (xs : List ℕ) (r : BulkAnswer) : Type 0 where
-  -- those that were taken can be taken one after the other, and the next cannot
-  pub fit : Takable (min (R .segs) mostSegs) (R .refs) xs (r .taken)
-  pub stopped : TakesNoMore (min (R .segs) mostSegs) (R .refs) xs (r .taken)
-  -- why the next one is refused, if there is one
-  pub verdict-is : r .verdict ≡ stopVerdict (min (R .segs) mostSegs) xs (r .taken)
-  -- where none was taken the recorder comes back as it was
-  pub unchanged : r .taken ≡ 0 → r .recorder ≡ R
-  -- of a recorder that stands for a sheet it is the same as touching one by one
-  pub stands : (v : SheetValue) → Valid v → R ≡ recorderOf v → r ≡ bulkOf v 0 xs

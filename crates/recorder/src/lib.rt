@@ -15,7 +15,7 @@ use sheet::Sheet;
 ghost use mathlib.Core.Path.{_≡_};
 ghost use Rattle.model.specs.Sheets.{SheetValue, Valid};
 ghost use Rattle.sheet.specs.Values.{sheetOf};
-ghost use Rattle.recorder.specs.Recorders.{recorderOf, emptyRecorder, headOf, Touched, Figured, Bulked};
+ghost use Rattle.recorder.specs.Recorders.{recorderOf, emptyRecorder, headOf, Touched, TouchedAll, Figured};
 
 // A recorder by value: kind, a, sizes and rows of its sheet, the references taken, the table of last touches, the buckets, Q and V.
 pub struct Recorder {
@@ -32,16 +32,9 @@ pub struct Recorder {
     pub volume: u64,
 }
 
-// What a touch answers: the recorder with the reference taken, or the refusal and the recorder as it was.
+// What a touch answers, of one reference or of several: the recorder with them taken, or the refusal and the recorder as it was.
 pub struct TouchAnswer {
     pub verdict: Verdict,
-    pub recorder: Recorder,
-}
-
-// What taking several references answers: how many were taken, the refusal of the next one if any, and the recorder.
-pub struct BulkAnswer {
-    pub verdict: Verdict,
-    pub taken: usize,
     pub recorder: Recorder,
 }
 
@@ -121,24 +114,21 @@ impl Recorder {
         }
     }
 
-    // Takes references one after the other and stops at the first refusal; where it takes none, the recorder comes back as it was.
-    pub fn touch_all(self, refs: &[u16]) -> BulkAnswer
-        ensures { λ r. ⌜ Bulked self (now (refs .entry)) r ⌝ }
+    // Takes all references, or none: refused for the first that would be refused, with 4 or 13, the recorder comes back as it was.
+    pub fn touch_all(self, refs: &[u16]) -> TouchAnswer
+        ensures { λ r. ⌜ TouchedAll self (now (refs .entry)) r ⌝ }
     {
         let segs = guards::least(self.segs, Recorder::MAX_SEGS);
-        let n = taking::acceptable(refs, segs, self.refs);
-        if n == 0 {
-            return BulkAnswer {
-                verdict: taking::verdict(refs, segs, n),
-                taken: n,
+        let verdict = taking::acceptable(refs, segs, self.refs);
+        if let Verdict::Refused(why) = verdict {
+            return TouchAnswer {
+                verdict: Verdict::Refused(why),
                 recorder: self,
             };
         }
-        let recorder = taking::take_first(self, refs, n);
-        BulkAnswer {
-            verdict: taking::verdict(refs, segs, n),
-            taken: n,
-            recorder: recorder,
+        TouchAnswer {
+            verdict: Verdict::Accepted,
+            recorder: taking::take_all(self, refs),
         }
     }
 

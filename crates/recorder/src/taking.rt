@@ -1,15 +1,15 @@
-// Taking references: one, or the first n of several in one loop over local arrays.
+// Taking references: one, or several in one loop over local arrays.
 // Nothing is assumed.
 use crate::Recorder;
 use crate::guards;
 use model::Refusal;
 use model::Verdict;
 ghost use mathlib.Core.Path.{_≡_};
-ghost use Prim.Native.Nat.{_+_, _<_, min};
-ghost use lib.ListN.{take};
+ghost use Prim.Native.Nat.{_<_, min};
+ghost use mathlib.Core.List.{[]};
 ghost use Rattle.model.specs.Sheets.{SheetValue, Valid, mostRefs, mostSegs};
-ghost use Rattle.recorder.specs.Recorders.{recorderOf, taken};
-ghost use Rattle.recorder.specs.Guards.{appended, Takable, TakesNoMore, stopVerdict};
+ghost use Rattle.model.specs.declared.Verdict.the-variants.{Accepted};
+ghost use Rattle.recorder.specs.Recorders.{recorderOf, appended, taken, refsVerdict, touchAllVerdict};
 
 // The recorder with one more reference.
 pub fn take_one(mut recorder: Recorder, segment: usize) -> Recorder
@@ -36,28 +36,28 @@ pub fn take_one(mut recorder: Recorder, segment: usize) -> Recorder
     recorder
 }
 
-// How many of the references are taken: up to the first that is not below segs, or for which there is no room.
-pub fn acceptable(refs: &[u16], segs: usize, count: usize) -> usize
-    ensures fit { λ r. ⌜ Takable segs count (now (refs .entry)) r ⌝ }
-    ensures most { λ r. ⌜ TakesNoMore segs count (now (refs .entry)) r ⌝ }
+// The verdict on references after `count` others: that of the first that would be refused.
+pub fn acceptable(refs: &[u16], segs: usize, count: usize) -> Verdict
+    ensures { λ r. ⌜ r ≡ refsVerdict segs count (now (refs .entry)) ⌝ }
 {
     let mut n = 0;
     while n < refs.len() {
         if segs <= refs[n] as usize {
-            return n;
+            return Verdict::Refused(Refusal::OutOfRange);
         }
         if Recorder::MAX_REFS - n <= count {
-            return n;
+            return Verdict::Refused(Refusal::RecorderFull);
         }
         n += 1;
     }
-    n
+    Verdict::Accepted
 }
 
-// The recorder with the first n references.
-pub fn take_first(recorder: Recorder, refs: &[u16], n: usize) -> Recorder
-    requires { ⌜ Takable (min (recorder .segs) mostSegs) (recorder .refs) (now refs) n ⌝ }
-    ensures { λ r. ⌜ ((v : SheetValue) → Valid v → recorder ≡ recorderOf v → r ≡ recorderOf (appended v (take n (now (refs .entry))))) ⌝ }
+// The recorder with all references.
+pub fn take_all(recorder: Recorder, refs: &[u16]) -> Recorder
+    requires { ⌜ touchAllVerdict recorder (now refs) ≡ Accepted ⌝ }
+    ensures none { λ r. ⌜ (now (refs .entry) ≡ [] → r ≡ recorder) ⌝ }
+    ensures all { λ r. ⌜ ((v : SheetValue) → Valid v → recorder ≡ recorderOf v → r ≡ recorderOf (appended v (now (refs .entry)))) ⌝ }
 {
     let rows = guards::least(recorder.rows, Recorder::MAX_ROWS);
     let prices = recorder.prices;
@@ -78,7 +78,7 @@ pub fn take_first(recorder: Recorder, refs: &[u16], n: usize) -> Recorder
     let mut volume = recorder.volume;
     let mut count = recorder.refs;
     let mut t = 0;
-    while t < n {
+    while t < refs.len() {
         let i = refs[t] as usize;
         let z = sizes[i];
         let mark = last[i];
@@ -107,17 +107,4 @@ pub fn take_first(recorder: Recorder, refs: &[u16], n: usize) -> Recorder
         cost: cost,
         volume: volume,
     }
-}
-
-// The verdict on references of which the first n were taken: why the next one is refused.
-pub fn verdict(refs: &[u16], segs: usize, n: usize) -> Verdict
-    ensures { λ r. ⌜ r ≡ stopVerdict segs (now (refs .entry)) n ⌝ }
-{
-    if refs.len() <= n {
-        return Verdict::Accepted;
-    }
-    if segs <= refs[n] as usize {
-        return Verdict::Refused(Refusal::OutOfRange);
-    }
-    Verdict::Refused(Refusal::RecorderFull)
 }

@@ -1,5 +1,5 @@
 -- `recording::segtrace_recorder_touch_all` meets its contract. Assumes nothing.
-use Rattle.exports.proofs.RecorderCalls.{none-taken, some-taken}
+use Rattle.exports.proofs.RecorderCalls.{touch-accepted, touch-refused}
 use borrow.Author.Needs.{needs}
 use Rattle.exports.proofs.recording.segtrace_recorder_touch_all.Statement.{statement}
 use Rattle.exports.proofs.recording.segtrace_recorder_touch_all.Tie as tie
@@ -10,32 +10,29 @@ recorder-of-requires c κs = search needs
 touch-all-requires : tie.Need-touch-all-requires
 touch-all-requires c κs = search needs
 
-verdict-number-requires : tie.Need-verdict-number-requires
-verdict-number-requires c κs = search needs
-
-returns : tie.Need-returns
-returns c =
-    let t = c .before .before .before .before in
-    none-taken _ _ _ _ _ _ _ _ _ (t .touch-all .result) (t .before .recorder-of .ensures) (t .touch-all .ensures) _
-    (c .verdict-number .ensures)
-    (c .before .if1 .taken)
+enum-told : tie.Need-enum-told
+enum-told c = search needs
 
 store-taken-requires : tie.Need-store-taken-requires
 store-taken-requires c κs = search needs
 
-verdict-number-requires-2 : tie.Need-verdict-number-requires-2
-verdict-number-requires-2 c κs = search needs
+enum-known-verdict : tie.Need-enum-known-verdict
+enum-known-verdict c = search needs
+
+number-requires : tie.Need-number-requires
+number-requires c κs = search needs
+
+returns : tie.Need-returns
+returns c =
+    let t = c .before .before .before .before .before .before .before in
+    touch-accepted _ _ _ _ _ _ _ _ _ (t .touch-all .result) (t .before .recorder-of .ensures) (t .touch-all .ensures) _ _ _ (c .before .before .before .before .enum-told .given .1)
+    (c .store-taken .ensures)
 
 returns-2 : tie.Need-returns-2
 returns-2 c =
-    let t = c .before .before .before .before .before .before .before .before in
-    some-taken _ _ _ _ _ _ _ _ _ (t .touch-all .result) (t .before .recorder-of .ensures) (t .touch-all .ensures) _
-    (c .verdict-number2 .ensures)
-    _
-    _
-    _
-    (c .before .before .before .before .before .if1 .left)
-    (c .before .store-taken .ensures)
+    let t = c .before .before .before .before .before in
+    touch-refused _ _ _ _ _ _ _ _ _ (t .touch-all .result) (t .before .recorder-of .ensures) (t .touch-all .ensures) _ _ (c .before .before .verdict .given .1)
+    (c .number .ensures)
 
 pub segtrace-recorder-touch-all-spec : {M : Type 1} → statement M
 segtrace-recorder-touch-all-spec =
@@ -43,8 +40,9 @@ segtrace-recorder-touch-all-spec =
     (tie.spec
     recorder-of-requires
     touch-all-requires
-    verdict-number-requires
-    returns
+    enum-told
     store-taken-requires
-    verdict-number-requires-2
+    enum-known-verdict
+    number-requires
+    returns
     returns-2)

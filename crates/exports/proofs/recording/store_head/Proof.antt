@@ -1,6 +1,7 @@
 -- `recording::store_head` meets its contract. Assumes nothing.
-use mathlib.Core.Path.{refl}
-use Rattle.exports.proofs.RecorderParts.{rows-split}
+use mathlib.Core.Path.{refl, ap}
+use Rattle.figures.specs.declared.pass.Prices.{Prices}
+use Rattle.exports.specs.Recording.{listsOf}
 use borrow.Author.Needs.{needs}
 use Rattle.exports.proofs.recording.store_head.Statement.{statement}
 use Rattle.exports.proofs.recording.store_head.Tie as tie
@@ -15,14 +16,14 @@ cast-t13 : tie.Need-cast-t13
 cast-t13 c = search needs
 
 returns : tie.Need-returns
+unfolding listsOf
 returns c =
+    let prices = c .before .before .before .before .before .split .ensures in
     record {
-      kind-is = c .before .before .kind-number .ensures;
-      a-is = refl;
-      segs-is = refl;
-      rows-is = refl;
+      head-is = rw (c .before .before .kind-number .ensures) refl;
       sizes-are = refl;
-      prices-are = rows-split _ _ (c .before .before .before .before .before .split .ensures);
+      h-are = ap (λ (p : Prices). p .h) prices;
+      d-are = ap (λ (p : Prices). p .d) prices;
     }
 
 pub store-head-spec : {M : Type 1} → statement M

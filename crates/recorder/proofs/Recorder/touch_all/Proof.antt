@@ -1,7 +1,7 @@
--- `Recorder::touch_all` meets its contract, by whether a reference is taken. Assumes nothing.
-use mathlib.Core.Path.{refl}
+-- `Recorder::touch_all` meets its contract, by the verdict on the references. Assumes nothing.
+use mathlib.Core.Path.{sym, _∙_}
 use borrow.Author.Needs.{needs}
-use Rattle.recorder.proofs.Bulk.{none-taken, bulked}
+use Rattle.recorder.proofs.Answers.{verdict-found, all-refused, all-accepted}
 use Rattle.recorder.proofs.Recorder.touch_all.Statement.{statement}
 use Rattle.recorder.proofs.Recorder.touch_all.Tie as tie
 
@@ -11,26 +11,29 @@ least-requires c κs = search needs
 acceptable-requires : tie.Need-acceptable-requires
 acceptable-requires c κs = search needs
 
-verdict-requires : tie.Need-verdict-requires
-verdict-requires c κs = search needs
+enum-known-verdict : tie.Need-enum-known-verdict
+enum-known-verdict c = search needs
 
 returns : tie.Need-returns
-returns c = let a = c .before .before in
-    rw (c .verdict .ensures)
-    (bulked _ _ _ _ _ (a .before .least .ensures) (a .acceptable .ensures .0) (none-taken _ _ _ (c .before .if1 .taken)) (a .acceptable .ensures .1) (λ e. refl))
+returns c =
+    let a = c .before .before .before in
+    all-refused _ _ _ (sym (verdict-found _ _ _ _ _ (a .before .least .ensures) (a .acceptable .ensures)) ∙ c .before .verdict .given .1)
 
-take-first-requires : tie.Need-take-first-requires
-take-first-requires c κs = rw (← (c .before .before .least .ensures)) (c .before .acceptable .ensures .0)
+enum-told : tie.Need-enum-told
+enum-told c = search needs
 
-verdict-requires-2 : tie.Need-verdict-requires-2
-verdict-requires-2 c κs = search needs
+take-all-requires : tie.Need-take-all-requires
+take-all-requires c κs =
+    let a = c .before .before in
+    sym (verdict-found _ _ _ _ _ (a .before .least .ensures) (a .acceptable .ensures)) ∙ c .enum-told .given .1
 
 returns-2 : tie.Need-returns-2
-returns-2 c = let b = c .before .before in let a = b .before in
-    rw (c .verdict2 .ensures)
-    (bulked _ _ _ _ _ (a .before .least .ensures) (a .acceptable .ensures .0) (c .before .take-first .ensures) (a .acceptable .ensures .1) (λ e. absurd (b .if1 .left e)))
+returns-2 c =
+    let a = c .before .before .before in
+    all-accepted _ _ _ (sym (verdict-found _ _ _ _ _ (a .before .least .ensures) (a .acceptable .ensures)) ∙ c .before .enum-told .given .1)
+    (c .take-all .ensures .0)
+    (c .take-all .ensures .1)
 
 pub touch-all-spec : {M : Type 1} → statement M
 touch-all-spec =
-    tie.close
-    (tie.spec least-requires acceptable-requires verdict-requires returns take-first-requires verdict-requires-2 returns-2)
+    tie.close (tie.spec least-requires acceptable-requires enum-known-verdict returns enum-told take-all-requires returns-2)

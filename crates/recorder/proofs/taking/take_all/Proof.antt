@@ -1,25 +1,25 @@
--- `recorder::taking::take_first` meets its contract. The loop's invariant: what the locals hold stands for the sheet with the references
--- passed. The measure is what is left of the n references. Assumes nothing.
+-- `recorder::taking::take_all` meets its contract. The loop's invariant: what the locals hold stands for the sheet with the references
+-- passed. The measure is what is left of the references. Assumes nothing.
 use Prim.Native.Nat.{ℕ, _+_, _-_, _^_, _≤_, _<_, min}
 use mathlib.Core.List.{List}
 use mathlib.Core.Path.{_≡_, refl, sym, ap, _∙_}
 use native.Mathlib.Omega.{arith}
+use native.Mathlib.Nat.{le-refl}
 use borrow.Author.Needs.{needs}
 use lib.ListN.{length, take, getD}
-use lib.Seq.{length-take-le}
+use lib.Seq.{length-take-le, take-all}
 use Rattle.model.specs.Sheets.{SheetValue, Valid}
 use Rattle.model.specs.Sheets.{mostSegs, mostRows, mostRefs}
 use Rattle.figures.specs.Pass.{rowsOf, Paired}
 use Rattle.figures.specs.declared.Bucket.{Bucket}
 use Rattle.figures.proofs.Rates.{touch-placed}
 use Rattle.figures.proofs.Touches.{placed, placed-limited}
-use Rattle.recorder.proofs.Bulk.{takable-of, takable-valid, appended-more, appended-none}
+use Rattle.recorder.proofs.Bulk.{Takable, takable, takable-of, takable-valid, appended-more, appended-none}
 use Rattle.recorder.proofs.Stepping.{clamped-rows, stepped-stands}
-use Rattle.recorder.specs.Guards.{appended}
-use Rattle.recorder.specs.Recorders.{recorderOf}
+use Rattle.recorder.specs.Recorders.{recorderOf, appended}
 use Rattle.recorder.specs.declared.Recorder.{Recorder}
-use Rattle.recorder.proofs.taking.take_first.Statement.{statement}
-use Rattle.recorder.proofs.taking.take_first.Tie as tie
+use Rattle.recorder.proofs.taking.take_all.Statement.{statement}
+use Rattle.recorder.proofs.taking.take_all.Tie as tie
 
 -- the recorder with these references, table of last touches, buckets, Q and V
 abbrev with-these : Recorder → ℕ → List ℕ → List Bucket → ℕ → ℕ → Recorder
@@ -39,14 +39,15 @@ with-these R count last buckets cost volume =
     }
 
 abbrev Inv-loop : tie.InvT-loop
-Inv-loop recorder refs n rows prices kind a sizes qs rates last₀ buckets₀ cost₀ volume₀ count₀ t₀ last buckets cost volume count t =
-    (t ≤ n) × (count ≡ recorder .refs + t)
+Inv-loop recorder refs rows prices kind a sizes qs rates last₀ buckets₀ cost₀ volume₀ count₀ t₀ last buckets cost volume count t =
+    (t ≤ length refs) × (count ≡ recorder .refs + t)
+    × (t ≡ 0 → with-these recorder count last buckets cost volume ≡ recorder)
     × ((v : SheetValue) → Valid v → recorder ≡ recorderOf v
     → with-these recorder count last buckets cost volume ≡ recorderOf (appended v (take t refs)))
 
 abbrev μ-loop : tie.MeasureT-loop
-μ-loop recorder refs n rows prices kind a sizes qs rates last₀ buckets₀ cost₀ volume₀ count₀ t₀ last buckets cost volume count t =
-    n - t
+μ-loop recorder refs rows prices kind a sizes qs rates last₀ buckets₀ cost₀ volume₀ count₀ t₀ last buckets cost volume count t =
+    length refs - t
 
 -- places on the way: the function's entry and the split prices, from a turn of the loop
 abbrev entry : tie.In-loop Inv-loop μ-loop → tie.Start Inv-loop μ-loop
@@ -83,13 +84,17 @@ rows-are c =
     clamped-rows (c .before .before .before .before .args .recorder) (c .split .result) (c .split .ensures) _
     (c .before .before .least .ensures)
 
+-- all references can be taken
+can : (s : tie.Start Inv-loop μ-loop) → Takable (min (s .args .recorder .segs) mostSegs) (s .args .recorder .refs) (s .args .refs .now)
+can s = takable _ _ _ (s .pre)
+
 -- the touched segment, in a turn of the loop
 segment-within : (c : tie.In-loop Inv-loop μ-loop)
     → getD (entry c .args .refs .now) (c .before .loop .t) 0 < min (entry c .args .recorder .segs) mostSegs
-segment-within c = entry c .pre .segments (c .before .loop .t) (c .loop-test .taken)
+segment-within c = can (entry c) .segments (c .before .loop .t) (c .loop-test .taken)
 
 room : (c : tie.In-loop Inv-loop μ-loop) → c .before .loop .count < mostRefs
-room c = omega (arith, c .before .loop .inv .1, entry c .pre .room (c .before .loop .t) (c .loop-test .taken))
+room c = omega (arith, c .before .loop .inv .1, can (entry c) .room (c .before .loop .t) (c .loop-test .taken))
 
 least-requires : tie.Need-least-requires Inv-loop μ-loop
 least-requires c κs = search needs
@@ -147,13 +152,13 @@ row-count : (c : tie.In-loop Inv-loop μ-loop)
 row-count c = slice-aggregate-hs (quoted c .before .before .before)
 
 loop-holds : tie.Need-loop-holds Inv-loop μ-loop
-loop-holds c = (omega arith, omega arith, λ v valid e. e ∙ ap recorderOf (sym (appended-none v)))
+loop-holds c = (omega arith, omega arith, λ none. refl, λ v valid e. e ∙ ap recorderOf (sym (appended-none v)))
 
 mul-i : tie.Need-mul-i Inv-loop μ-loop
-mul-i c = omega (arith, entry c .pre .within)
+mul-i c = search needs
 
 shared-slice-read-i : tie.Need-shared-slice-read-i Inv-loop μ-loop
-shared-slice-read-i c = omega (arith, entry (c .before) .pre .within)
+shared-slice-read-i c = search needs
 
 cast-i : tie.Need-cast-i Inv-loop μ-loop
 cast-i c = omega (arith, segment-within (c .before))
@@ -234,7 +239,7 @@ more-requires-2 c κs = search needs
 add-t : tie.Need-add-t Inv-loop μ-loop
 add-t c =
     let t = c .before .before .before .before .before .before .before .before .before in
-    omega (arith, t .loop-test .taken, entry t .fits)
+    omega (arith, can (entry t) .room _ (t .loop-test .taken))
 
 loop-less : tie.Need-loop-less Inv-loop μ-loop
 loop-less c = search needs
@@ -250,8 +255,9 @@ loop-again c =
     let refs = s .args .refs .now in (
       omega (arith, t .loop-test .taken),
       omega (arith, l .inv .1),
+      λ none. absurd (omega arith),
       λ v valid e.
-          let can = takable-of R refs (s .args .n) (s .pre) v valid e in
+          let all = takable-of R refs (s .pre) v valid e in
           stepped-stands (with-these R (l .count) (l .last) (l .buckets) (l .cost) (l .volume)) _ (getD refs (l .t) 0) (segment-within t) (room t)
           (record {
             hs = take (p .before .before .least .result) (p .split .result .h);
@@ -274,19 +280,22 @@ loop-again c =
             volume-is = rw (c .before .wide .ensures) at (c .more2 .ensures);
             next-is = refl;
           })
-          (appended v (take (l .t) refs)) (takable-valid v valid refs (s .args .n) can (l .t) (l .inv .0)) (l .inv .2 v valid e)
-          ∙ ap recorderOf (appended-more v refs (l .t) (omega (arith, t .loop-test .taken, s .pre .within))),
+          (appended v (take (l .t) refs)) (takable-valid v valid refs all (l .t) (l .inv .0)) (l .inv .3 v valid e)
+          ∙ ap recorderOf (appended-more v refs (l .t) (t .loop-test .taken)),
     )
 
 returns : tie.Need-returns Inv-loop μ-loop
 returns c =
     let s =
     c .before .before .before .before .before .before .before .before .before .before .before .before .before .before .before .before .before in
-    let all : c .before .loop .t ≡ s .args .n = omega (arith, c .loop-test .left, c .before .loop .inv .0) in
-    λ v valid e. c .before .loop .inv .2 v valid e ∙ rw all refl
+    let refs = s .args .refs .now in
+    let all : c .before .loop .t ≡ length refs = omega (arith, c .loop-test .left, c .before .loop .inv .0) in (
+      λ none. c .before .loop .inv .2 (all ∙ ap length none),
+      λ v valid e. c .before .loop .inv .3 v valid e ∙ rw (all, take-all (length refs) refs (le-refl (length refs))) refl,
+    )
 
-pub take-first-spec : {M : Type 1} → statement M
-take-first-spec =
+pub take-all-spec : {M : Type 1} → statement M
+take-all-spec =
     tie.close
     (tie.spec
     Inv-loop
