@@ -3,7 +3,8 @@
  *
  * Every call returns 0, or the number of the refusal, 1 to 15 (README.md lists them; where several apply, the first that the call's
  * comment names). A refused call writes nothing: every lent place, number and recorder is as it was. No call keeps a pointer or
- * allocates. Pointers are not null, and lent places overlap nothing else; an empty run of bytes may have any valid pointer.
+ * allocates. Lent places overlap nothing else. A pointer that comes with a length may be NULL where the length is 0; no other may be
+ * NULL. A call uses less than SEGTRACE_STACK_BYTES of stack, which is not proved; tests/calls.c measures it (46 KB).
  */
 #ifndef SEGTRACE_INCLUDED
 #define SEGTRACE_INCLUDED
@@ -15,13 +16,17 @@
 extern "C" {
 #endif
 
-/* The most bytes of a sheet, of a listing and of a schedule; the most rows and references. */
+/*
+ * The most bytes of a sheet, of a listing and of a schedule; the most rows and references; more stack than a call uses. That no listing is
+ * longer is proved (`listing-most`, crates/report/proofs/ListingMost.antt): each figure with as many digits as it can have.
+ */
 enum {
     SEGTRACE_SHEET_BYTES = 20012,
-    SEGTRACE_LISTING_BYTES = 21210,
+    SEGTRACE_LISTING_BYTES = 11547,
     SEGTRACE_SCHEDULE_BYTES = 65536,
     SEGTRACE_ROWS = 64,
-    SEGTRACE_REFERENCES = 2048
+    SEGTRACE_REFERENCES = 2048,
+    SEGTRACE_STACK_BYTES = 65536
 };
 
 /* The places of a row's figures in a list of SEGTRACE_FIGURES numbers. */

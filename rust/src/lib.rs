@@ -25,7 +25,7 @@ pub use refusal::Refusal;
 /// The most bytes of a sheet.
 pub const SHEET_BYTES: usize = 20_012;
 /// The most bytes of a listing.
-pub const LISTING_BYTES: usize = 21_210;
+pub const LISTING_BYTES: usize = 11_547;
 /// The most bytes of a schedule.
 pub const SCHEDULE_BYTES: usize = 65_536;
 /// The most rows of a sheet.

@@ -4,6 +4,7 @@ pub mod Entries
 pub mod MarginResults
 pub mod MarginSigns
 pub mod Outcomes
+pub mod Printing
 pub mod Results
 pub mod RoundTrips
 pub mod Sizes

@@ -1,11 +1,13 @@
 -- What a call answers and leaves in a lent place, by its tests. Assumes nothing.
 use Prim.Native.Nat.{ℕ, _*_, _≤_, _<_}
-use mathlib.Core.Path.{_≡_, refl, _∙_}
+use mathlib.Core.Path.{_≡_, refl, ap, _∙_}
+use mathlib.Core.Bool.{Bool, true, false, cond}
 use mathlib.Core.List.{List, _++_}
 use native.Mathlib.Omega.{arith}
 use lib.ListN.{length, take, drop, getD}
 use lib.Seq.{length-take-le, getD-take}
-use borrow.Author.Tests.{le-ltb, lt-ltb, le-leb}
+use borrow.Author.Tests.{le-ltb, lt-ltb, le-leb, leb-true}
+use lib.Dec.{leb}
 use Rattle.model.specs.Demand.{rowSchedule}
 use Rattle.model.specs.Places.{placed, placeAnswer, nothingPlaced}
 use Rattle.model.specs.Rows.{zeroFigures}
@@ -52,6 +54,19 @@ listing-is v refs segs rows a b c most = rw (← a, ← b, ← c, figures-front 
 pub text-left : {text place place' : List ℕ} {answer : PlaceAnswer} → (answer ≡ placeAnswer text place) × (place' ≡ placed text place)
     → PlaceLeft (gives text) place place' answer
 text-left e = record { answer-is = e .0; place-is = e .1 }
+
+-- the length that it tells lies within the place
+pub left-length : {text place place' : List ℕ} {answer : PlaceAnswer} → PlaceLeft (gives text) place place' answer → answer .length ≤ length place
+unfolding placeAnswer
+left-length {text} {place} {place'} {answer} left =
+    let e : answer .length ≡ placeAnswer text place .length = ap (λ a. a .length) (left .answer-is) in
+    omega (arith, e, go (leb (length text) (length place)) refl)
+  where
+    go : (b : Bool) → leb (length text) (length place) ≡ b
+        → cond (leb (length text) (length place)) (record { verdict = Accepted; length = length text }) (nothingPlaced PlaceTooShort) .length
+        ≤ length place
+    go true t = rw t (leb-true (length text) (length place) t)
+    go false t = rw t (omega arith)
 
 -- a text of n bytes in a place that is long enough for it
 pub text-fits : (text place : List ℕ) {n : ℕ} → length text ≡ n → n ≤ length place

@@ -3,7 +3,7 @@ use Prim.Native.Nat.{ℕ, _≤_, _<_}
 use mathlib.Core.Path.{_≡_, refl, sym, ap, _∙_}
 use mathlib.Core.List.{List}
 use native.Mathlib.Omega.{arith}
-use lib.ListN.{length, getD, length-append, length-drop}
+use lib.ListN.{length, take, getD, length-append, length-drop}
 use lib.Seq.{length-take-le, getD-take}
 use Rattle.model.specs.Places.{nothingPlaced}
 use Rattle.model.specs.Sheets.{SheetValue, Valid, traceOf, rowAt, mostSegs, mostRows, mostRefs}
@@ -17,8 +17,11 @@ use Rattle.sheet.specs.declared.SheetAnswer.{SheetAnswer}
 use Rattle.sheet.proofs.Accepted.{accepted-valid}
 use Rattle.sheet.proofs.Blanks.{zeros-length, zero-rows-length}
 use Rattle.sheet.proofs.Held.{held}
+use Rattle.figures.specs.Rows.{allFigures}
+use Rattle.report.specs.Listing.{listing, listingOf}
 use Rattle.schedule.specs.Requires.{Limits}
 use Rattle.analyser.specs.Answers.{onSheet, Result, gives, refuses, PlaceLeft, Standing}
+use Rattle.analyser.proofs.Results.{listing-is}
 
 -- a refused sheet: the call answers for the refusal
 refused-on : {X : Type 0} (o : Outcome) (A : SheetAnswer) (q : Refusal) → A ≡ answerOf o → A .verdict ≡ Refused q
@@ -117,6 +120,10 @@ module _ (s : Sheet) (c : Standing s) where
   pub refs-counted : length (valueOf s .refs) ≡ s .refs
   unfolding valueOf
   refs-counted = length-take-le (s .refs) (s .touches) (omega arith)
+
+  -- its listing, from the figures of all rows
+  pub listing-of : listing (s .refs) (s .segs) (take (s .rows) (allFigures (valueOf s))) ≡ listingOf (valueOf s)
+  listing-of = listing-is (valueOf s) (s .refs) (s .segs) (s .rows) refs-counted segs-counted rows-counted (c .valid .rows-within)
 
   pub row-of : (r : ℕ) → r < s .rows → rowAt (valueOf s) r ≡ getD (s .prices) r (record { h = 0; d = 0 })
   unfolding valueOf

@@ -1,2 +1,3 @@
+pub mod FigureBounds
+pub mod ListingMost
 pub mod ListingParts
-pub mod ListingWithin

@@ -99,6 +99,10 @@ listing refs segs fs =
 unfoldable pub listingOf : SheetValue → List ℕ
 listingOf v = listing (length (v .refs)) (length (v .sizes)) (tabulate (length (v .rows)) (figuresAt v))
 
+-- no listing of an accepted sheet has more bytes: 64 rows, each figure with as many digits as it can have
+abbrev pub mostListing : ℕ
+mostListing = 11547
+
 -- what is printed for a refusal
 unfoldable pub refusedText : Refusal → List ℕ
 refusedText r = numberText refusedKey (numberOf r)

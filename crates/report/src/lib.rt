@@ -9,13 +9,16 @@ use sheet::writing::put;
 use sheet::writing::put_digits;
 use sheet::writing::put_number;
 ghost use mathlib.Core.Path.{_≡_};
-ghost use Prim.Native.Nat.{_+_, _*_, _≤_, min};
+ghost use Prim.Native.Nat.{_+_, _≤_};
 ghost use lib.Dec.{ltb};
 ghost use lib.ListN.{length, take};
 ghost use Rattle.model.specs.Places.{placed, placeAnswer};
 ghost use Rattle.sheet.specs.Parts.{Put};
-ghost use Rattle.report.specs.Listing.{rowListing, rowsListing, listing, refusedText};
+ghost use Rattle.report.specs.Listing.{rowListing, rowsListing, listing, mostListing, refusedText};
 ghost use Rattle.report.specs.Parts.{threeText};
+
+// The most bytes of the listing of a sheet.
+pub const MAX_BYTES: usize = 11547;
 
 // ---- lengths
 
@@ -67,13 +70,12 @@ fn rows_length(figures: [RowFigures; 64], n: usize) -> usize
     sum
 }
 
-// Whether a place of `size` bytes is shorter than the listing. No listing exceeds 21,210 bytes, so the length is worked out only for a
-// shorter place.
+// Whether a place of `size` bytes is shorter than the listing. Its length is worked out only for a place that is shorter than the longest.
 fn too_short(refs: usize, segs: usize, figures: [RowFigures; 64], rows: usize, size: usize) -> bool
-    requires { ⌜ rows ≤ 64 ⌝ }
-    ensures { λ r. ⌜ r ≡ ltb size (min (length (listing refs segs (take rows figures))) 21210) ⌝ }
+    requires { ⌜ (rows ≤ 64) × (length (listing refs segs (take rows figures)) ≤ mostListing) ⌝ }
+    ensures { λ r. ⌜ r ≡ ltb size (length (listing refs segs (take rows figures))) ⌝ }
 {
-    if 21210 <= size {
+    if MAX_BYTES <= size {
         return false;
     }
     let head = three_length(
@@ -148,24 +150,16 @@ fn put_row(f: RowFigures, out: &mut [u8], at: usize) -> usize
     )
 }
 
-// The same where there is room for 330 bytes, which no row exceeds.
-fn put_row_within(f: RowFigures, out: &mut [u8], at: usize) -> usize
-    requires { ⌜ at + min (length (rowListing f)) 330 ≤ length (now out) ⌝ }
-    ensures { λ r. ⌜ Put (rowListing f) at (now (out .entry)) r (now (out .exit)) × (r ≤ at + 330) ⌝ }
-{
-    put_row(f, out, at)
-}
-
-// Writes the lines of the first `n` rows, and gives the index after them. There is room for them, or for 330 bytes a row.
+// Writes the lines of the first `n` rows, and gives the index after them.
 fn put_rows(figures: [RowFigures; 64], n: usize, out: &mut [u8], at: usize) -> usize
-    requires { ⌜ (n ≤ 64) × (at + min (length (rowsListing (take n figures))) (330 * n) ≤ length (now out)) ⌝ }
+    requires { ⌜ (n ≤ 64) × (at + length (rowsListing (take n figures)) ≤ length (now out)) ⌝ }
     ensures { λ r. ⌜ Put (rowsListing (take n figures)) at (now (out .entry)) r (now (out .exit)) ⌝ }
 {
     let mut next = at;
     let mut i = 0;
     while i < n {
         let f = figures[i];
-        next = put_row_within(f, out, next);
+        next = put_row(f, out, next);
         i += 1;
     }
     next
@@ -174,7 +168,7 @@ fn put_rows(figures: [RowFigures; 64], n: usize, out: &mut [u8], at: usize) -> u
 // ---- the listing
 
 // The listing of so many references, segments and rows into a lent place, then its old contents; refusal 11 and no change where the
-// place is shorter.
+// place is shorter. It has no more bytes than that of an accepted sheet can have.
 pub fn write(
     refs: usize,
     segs: usize,
@@ -182,7 +176,7 @@ pub fn write(
     rows: usize,
     out: &mut [u8],
 ) -> PlaceAnswer
-    requires { ⌜ rows ≤ 64 ⌝ }
+    requires { ⌜ (rows ≤ 64) × (length (listing refs segs (take rows figures)) ≤ mostListing) ⌝ }
     ensures { λ r. ⌜ (r ≡ placeAnswer (listing refs segs (take rows figures)) (now (out .entry)))
         × (now (out .exit) ≡ placed (listing refs segs (take rows figures)) (now (out .entry))) ⌝ }
 {

@@ -1,7 +1,7 @@
 -- `report::put_rows` meets its contract. The loop's invariant: the lines of the rows passed are put from `at` on.
 -- Assumes nothing.
 use mathlib.Core.Path.{_≡_, refl, sym, ap}
-use Prim.Native.Nat.{_+_, _*_, _-_, _≤_}
+use Prim.Native.Nat.{_-_, _≤_}
 use native.Mathlib.Omega.{arith}
 use borrow.Author.Needs.{needs}
 use lib.ListN.{length, take}
@@ -17,14 +17,13 @@ use Rattle.report.proofs.put_rows.Tie as tie
 abbrev Inv-loop : tie.InvT-loop
 Inv-loop n out₀ at figures next₀ i₀ out next i =
     (i ≤ n) × (length out ≡ length out₀) × Put (linesText rowListing (take i figures)) at out₀ next out
-    × (next ≤ at + 330 * i)
 
 abbrev μ-loop : tie.MeasureT-loop
 μ-loop n out₀ at figures next₀ i₀ out next i = n - i
 
 loop-holds : tie.Need-loop-holds Inv-loop μ-loop
 unfolding linesText
-loop-holds c = (omega arith, refl, put-nothing _ _ (omega arith), omega arith)
+loop-holds c = (omega arith, refl, put-nothing _ _ (omega arith))
 
 mul-f : tie.Need-mul-f Inv-loop μ-loop
 mul-f c = search needs
@@ -32,8 +31,8 @@ mul-f c = search needs
 array-copy-out-f : tie.Need-array-copy-out-f Inv-loop μ-loop
 array-copy-out-f c = search needs
 
-put-row-within-requires : tie.Need-put-row-within-requires Inv-loop μ-loop
-put-row-within-requires c κs =
+put-row-requires : tie.Need-put-row-requires Inv-loop μ-loop
+put-row-requires c κs =
     let t = c .before .before in
     let l = t .before .loop in
     let a = t .before .before .before .args in
@@ -50,8 +49,8 @@ loop-again : tie.Need-loop-again Inv-loop μ-loop
 loop-again c =
     let t = c .before .before .before .before .before in
     let l = t .before .loop in
-    let p = put-then (l .inv .2) (c .before .before .put-row-within .ensures .0) in
-    (omega arith, omega arith, put-same (sym (lines-next _ _ (l .i) _ (search needs))) p, omega arith)
+    let p = put-then (l .inv .2) (c .before .before .put-row .ensures) in
+    (omega arith, omega arith, put-same (sym (lines-next _ _ (l .i) _ (search needs))) p)
 
 same-length : tie.Need-same-length Inv-loop μ-loop
 same-length c = c .before .loop .inv .1
@@ -71,7 +70,7 @@ put-rows-spec =
     loop-holds
     mul-f
     array-copy-out-f
-    put-row-within-requires
+    put-row-requires
     add-i
     loop-less
     loop-again

@@ -1,4 +1,4 @@
--- `report::too_short` meets its contract: the listing's length decides, or 21,210 bytes do. Assumes nothing.
+-- `report::too_short` meets its contract: the listing's length decides. Assumes nothing.
 use Prim.Native.Nat.{_+_}
 use mathlib.Core.Path.{_≡_, sym}
 use native.Mathlib.Omega.{arith}
@@ -7,7 +7,6 @@ use borrow.Author.Tests.{le-ltb}
 use lib.ListN.{length, take}
 use Rattle.report.specs.Listing.{listing}
 use Rattle.report.proofs.ListingParts.{listing-length}
-use Rattle.report.proofs.ListingWithin.{short-of}
 use Rattle.report.proofs.too_short.Statement.{statement}
 use Rattle.report.proofs.too_short.Tie as tie
 
@@ -37,7 +36,7 @@ returns-2 c =
     let a = c .before .before .before .before .before .before .args in
     let e : c .before .three-length .result + c .rows-length .result ≡ length (listing (a .refs) (a .segs) (take (a .rows) (a .figures))) =
     omega (arith, listing-length (a .refs) (a .segs) (a .rows) (a .figures) (omega arith)) in
-    rw e (short-of (a .size) _ 21210 (omega arith))
+    rw e
 
 pub too-short-spec : {M : Type 1} → statement M
 too-short-spec =

@@ -1,15 +1,12 @@
 -- `report::write` meets its contract: a place that is too short stays, and else the listing is put at the front. Assumes nothing.
-use Prim.Native.Nat.{min}
 use mathlib.Core.Path.{sym, _∙_}
 use native.Mathlib.Omega.{arith}
 use borrow.Author.Needs.{needs}
 use borrow.Author.Tests.{ltb-true, ltb-false}
-use lib.ListN.{length, take}
+use lib.ListN.{length}
 use Rattle.sheet.proofs.Placing.{place-short, place-put}
 use Rattle.sheet.proofs.Putting.{put-then, put-same}
-use Rattle.report.specs.Listing.{listing}
-use Rattle.report.proofs.ListingParts.{listing-parts}
-use Rattle.report.proofs.ListingWithin.{listing-room}
+use Rattle.report.proofs.ListingParts.{listing-parts, listing-length}
 use Rattle.report.proofs.write.Statement.{statement}
 use Rattle.report.proofs.write.Tie as tie
 
@@ -19,9 +16,7 @@ too-short-requires c κs = search needs
 returns : tie.Need-returns
 returns c =
     let a = c .before .before .before .args in
-    let m = min (length (listing (a .refs) (a .segs) (take (a .rows) (a .figures)))) 21210 in
-    let h = ltb-true (length (a .out .now)) m (sym (c .before .too-short .ensures) ∙ c .if1 .taken) in
-    place-short _ _ (omega arith)
+    place-short _ _ (ltb-true (length (a .out .now)) _ (sym (c .before .too-short .ensures) ∙ c .if1 .taken))
 
 slice-aggregate-put-three : tie.Need-slice-aggregate-put-three
 slice-aggregate-put-three c = search needs
@@ -36,19 +31,16 @@ put-three-requires : tie.Need-put-three-requires
 put-three-requires c κs =
     let e = c .before .before .before .before in
     let a = e .before .before .before .args in
-    let m = min (length (listing (a .refs) (a .segs) (take (a .rows) (a .figures)))) 21210 in
-    let h = ltb-false (length (a .out .now)) m (sym (e .before .too-short .ensures) ∙ e .if1 .left) in
-    let r = listing-room (a .refs) (a .segs) (a .rows) (a .figures) (length (a .out .now)) (omega arith) (omega arith) (omega arith) (omega arith) h in
-    omega (arith, r .0)
+    let h = ltb-false (length (a .out .now)) _ (sym (e .before .too-short .ensures) ∙ e .if1 .left) in
+    omega (arith, h, listing-length (a .refs) (a .segs) (a .rows) (a .figures) (omega arith))
 
 put-rows-requires : tie.Need-put-rows-requires
 put-rows-requires c κs =
     let e = c .before .before .before .before .before .before .before .before in
     let a = e .before .before .before .args in
-    let m = min (length (listing (a .refs) (a .segs) (take (a .rows) (a .figures)))) 21210 in
-    let h = ltb-false (length (a .out .now)) m (sym (e .before .too-short .ensures) ∙ e .if1 .left) in
-    let r = listing-room (a .refs) (a .segs) (a .rows) (a .figures) (length (a .out .now)) (omega arith) (omega arith) (omega arith) (omega arith) h in
-    (omega arith, omega (arith, r .1, c .before .before .before .put-three .ensures .ends))
+    let h = ltb-false (length (a .out .now)) _ (sym (e .before .too-short .ensures) ∙ e .if1 .left) in
+    let l = listing-length (a .refs) (a .segs) (a .rows) (a .figures) (omega arith) in
+    (omega arith, omega (arith, h, l, c .before .before .before .put-three .ensures .ends))
 
 same-length : tie.Need-same-length
 same-length c = search needs

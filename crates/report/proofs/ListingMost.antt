@@ -1,0 +1,161 @@
+-- The listing of an accepted sheet has at most 11,547 bytes: how many digits each figure can have. Assumes nothing.
+use Prim.Native.Nat.{ℕ, suc, _+_, _*_, _^_, _≤_, _<_}
+use mathlib.Core.Path.{_≡_, refl}
+use mathlib.Core.List.{List}
+use mathlib.Core.Option.{Option, none}
+use native.Mathlib.Omega.{arith}
+use lib.ListN.{length, getD}
+use lib.Seq.{take-all}
+use Rattle.decimal.specs.Decimal.{written}
+use Rattle.decimal.proofs.Written.{written-length}
+use Rattle.model.specs.Figures.{load, optmem, opttotal}
+use Rattle.model.specs.Refusals.{numberOf}
+use Rattle.model.specs.Rows.{rowFigures, zeroFigures}
+use Rattle.model.specs.Sheets.{SheetValue, Valid, traceOf, rowAt}
+use Rattle.model.specs.Traces.{steps}
+use Rattle.model.specs.declared.Refusal.{Refusal}
+use Rattle.model.specs.declared.RowFigures.{RowFigures}
+use Rattle.model.proofs.Bounds.{product-within}
+use Rattle.sheet.specs.Writing.{numberText}
+use Rattle.sheet.proofs.Lengths.{line-length}
+use Rattle.sheet.proofs.Runs.{each-of, lines-length}
+use Rattle.figures.specs.Buckets.{tabulate}
+use Rattle.figures.specs.Rows.{figuresAt}
+use Rattle.figures.proofs.Tables.{length-tabulate, getD-tabulate}
+use Rattle.report.specs.Listing.{
+  refsKey,
+  segsKey,
+  rowsKey,
+  hKey,
+  dKey,
+  missesKey,
+  volumeKey,
+  loadKey,
+  optmemKey,
+  opttotalKey,
+  optoccKey,
+  wsmemKey,
+  wsoccKey,
+  meanKey,
+  refusedKey,
+  refusedText,
+  rowListing,
+  mostListing,
+  listing,
+  listingOf,
+}
+use Rattle.report.proofs.FigureBounds.{
+  allSizes,
+  optmem-within,
+  optocc-within,
+  wsmem-within,
+  wsocc-within,
+  mean-within,
+  misses-within,
+  missed-within,
+  sizes-within,
+}
+use Rattle.report.proofs.ListingParts.{three-length, row-length, rows-listing, listing-length}
+
+-- the digits that the figures of a row can have
+pub record Digits (f : RowFigures) : Type 0 where
+  pub h-digits : f .h < 10 ^ 5
+  pub d-digits : f .d < 10 ^ 5
+  pub misses-digits : f .misses < 10 ^ 4
+  pub volume-digits : f .volume < 10 ^ 7
+  pub load-digits : f .load .0 < 10 ^ 10
+  pub optmem-digits : f .optmem .0 < 10 ^ 10
+  pub opttotal-digits : f .opttotal < 10 ^ 15
+  pub optocc-digits : f .optocc < 10 ^ 10
+  pub wsmem-digits : f .wsmem < 10 ^ 15
+  pub wsocc-digits : f .wsocc < 10 ^ 15
+  pub mean-digits : f .mean < 10 ^ 10
+
+-- the line of a number below 10 ^ suc k
+line-most : (key : List ℕ) (k n : ℕ) → n < 10 ^ suc k → length (numberText key n) ≤ length key + (suc k + 1)
+line-most key k n h = rw (line-length key (written n)) (omega (arith, written-length k n h))
+
+-- the line of a refusal with one digit has fewer than a listing
+pub refused-most : (q : Refusal) → numberOf q < 10 → length (refusedText q) ≤ mostListing
+unfolding refusedText
+refused-most q h = omega (arith, line-most refusedKey 0 (numberOf q) h)
+
+-- a row has at most 180 bytes
+row-most : (f : RowFigures) → Digits f → length (rowListing f) ≤ 180
+row-most f w =
+    omega (
+      arith,
+      row-length f,
+      three-length missesKey (f .misses) volumeKey (f .volume) loadKey (f .load .0),
+      three-length optmemKey (f .optmem .0) opttotalKey (f .opttotal) optoccKey (f .optocc),
+      three-length wsmemKey (f .wsmem) wsoccKey (f .wsocc) meanKey (f .mean),
+      line-most hKey 4 (f .h) (w .h-digits),
+      line-most dKey 4 (f .d) (w .d-digits),
+      line-most missesKey 3 (f .misses) (w .misses-digits),
+      line-most volumeKey 6 (f .volume) (w .volume-digits),
+      line-most loadKey 9 (f .load .0) (w .load-digits),
+      line-most optmemKey 9 (f .optmem .0) (w .optmem-digits),
+      line-most opttotalKey 14 (f .opttotal) (w .opttotal-digits),
+      line-most optoccKey 9 (f .optocc) (w .optocc-digits),
+      line-most wsmemKey 14 (f .wsmem) (w .wsmem-digits),
+      line-most wsoccKey 14 (f .wsocc) (w .wsocc-digits),
+      line-most meanKey 9 (f .mean) (w .mean-digits),
+    )
+
+module _ (v : SheetValue) (c : Valid v) where
+  -- the figures of a row
+  row-digits : (r : ℕ) → r < length (v .rows) → Digits (figuresAt v r)
+  unfolding rowFigures load opttotal
+  row-digits r lt =
+      let T = traceOf v in
+      let h = rowAt v r .h in
+      let d = rowAt v r .d in
+      let S = sizes-within v c h d in
+      let held : steps T * (1 * allSizes T) ≤ 2048 * 1048320 = product-within (steps T) (1 * allSizes T) 2048 1048320 (c .refs-within) (omega arith) in
+      let dS = product-within d (allSizes T) 65535 1048320 (c .d-within r lt) (omega arith) in
+      let priced : steps T * (d * allSizes T) ≤ 2048 * (65535 * 1048320) =
+      product-within (steps T) (d * allSizes T) 2048 (65535 * 1048320) (c .refs-within) dS in
+      let m = misses-within v c h d in
+      let l = product-within (v .a) _ 255 (2048 * 4095) (c .a-within) (missed-within v c h d) in
+      let M = optmem-within v c h d in
+      record {
+        h-digits = omega (arith, c .h-within r lt);
+        d-digits = omega (arith, c .d-within r lt);
+        misses-digits = omega (arith, c .refs-within);
+        volume-digits = omega (arith, missed-within v c h d);
+        load-digits = omega (arith, c .refs-within);
+        optmem-digits = omega arith;
+        opttotal-digits =
+            omega (
+              arith,
+              product-within d (optmem T h d) 65535 2146959360 (c .d-within r lt) (omega arith),
+              product-within h (load T h d) 65535 2138574848 (c .h-within r lt) (omega (arith, c .refs-within)),
+            );
+        optocc-digits = omega (arith, optocc-within v c h d);
+        wsmem-digits = omega (arith, wsmem-within v c h d);
+        wsocc-digits = omega (arith, wsocc-within v c h d);
+        mean-digits = omega (arith, mean-within v c h d);
+      }
+
+  -- the listing
+  pub listing-most : length (listingOf v) ≤ mostListing
+  unfolding listingOf
+  listing-most =
+      let fs = tabulate (length (v .rows)) (figuresAt v) in
+      let n : length fs ≡ length (v .rows) = length-tabulate (length (v .rows)) (figuresAt v) in
+      let rows =
+      lines-length rowListing Fits 0 180 (λ prev f w. (omega arith, row-most f w)) none fs
+      (each-of Fits zeroFigures none fs (λ i lt. rw (getD-tabulate (length (v .rows)) (figuresAt v) i zeroFigures (omega arith)) (row-digits i (omega arith)))) in
+      omega (
+        arith,
+        rows,
+        c .rows-within,
+        line-most refsKey 3 (length (v .refs)) (omega (arith, c .refs-within)),
+        line-most segsKey 2 (length (v .sizes)) (omega (arith, c .segs-within)),
+        line-most rowsKey 1 (length fs) (omega (arith, c .rows-within)),
+        three-length refsKey (length (v .refs)) segsKey (length (v .sizes)) rowsKey (length fs),
+        rw (take-all (length fs) fs (omega arith), rows-listing fs) at (listing-length (length (v .refs)) (length (v .sizes)) (length fs) fs (omega arith)),
+      )
+    where
+      Fits : Option RowFigures → RowFigures → Type 0
+      Fits prev f = Digits f

@@ -1,0 +1,138 @@
+/*
+ * The calls from C as include/segtrace.h declares them: NULL with length 0 for every run of bytes, list and place, and the stack that the
+ * calls use, measured on a painted stack with the largest sheet. Fails with status 1 where an answer is another, or where more stack is
+ * used than the header says.
+ *
+ *     cc -Iinclude tests/calls.c target/staticlib/libexports.a -lpthread -o calls
+ */
+#include "segtrace.h"
+
+#include <pthread.h>
+#include <stdio.h>
+#include <stdlib.h>
+#include <string.h>
+
+static uint8_t sheet[SEGTRACE_SHEET_BYTES];
+static size_t sheet_length;
+static uint8_t listing[SEGTRACE_LISTING_BYTES], schedule[SEGTRACE_SCHEDULE_BYTES], again[SEGTRACE_SHEET_BYTES];
+static uint64_t all[SEGTRACE_ROWS * SEGTRACE_FIGURES];
+static uint16_t segments[SEGTRACE_REFERENCES];
+
+static void expect(const char *call, uint64_t got, uint64_t wanted)
+{
+    if (got == wanted)
+        return;
+    fprintf(stderr, "FAILED: %s gives %d and not %d\n", call, (int)got, (int)wanted);
+    exit(1);
+}
+
+/* NULL with length 0: a sheet without bytes is refused with 2, a place without bytes with 11 unless the result has none. */
+static void without_pointers(void)
+{
+    static const char text[] = "kind=time\na=0\nsegs=1\nsize=1\nrows=1\nrow=1/1\nrefs=0\n";
+    static const char once[] = "kind=time\na=0\nsegs=1\nsize=1\nrows=1\nrow=1/1\nrefs=1\nref=0\n";
+    const uint8_t *none = (const uint8_t *)text, *one = (const uint8_t *)once;
+    size_t none_length = sizeof text - 1, one_length = sizeof once - 1;
+    uint64_t figures[SEGTRACE_FIGURES], price[SEGTRACE_PRICE], written = 7, row;
+    int64_t margin;
+    segtrace_recorder r;
+    expect("check", segtrace_check(NULL, 0), 2);
+    expect("rewrite", segtrace_rewrite(NULL, 0, NULL, 0, &written), 2);
+    expect("figures", segtrace_figures(NULL, 0, 0, figures), 2);
+    expect("all_figures", segtrace_all_figures(NULL, 0, NULL, 0, &written), 2);
+    expect("listing", segtrace_listing(NULL, 0, NULL, 0, &written), 2);
+    expect("optimal_schedule", segtrace_optimal_schedule(NULL, 0, 0, NULL, 0, &written), 2);
+    expect("price", segtrace_price(NULL, 0, 0, NULL, 0, price), 2);
+    expect("margin", segtrace_margin(NULL, 0, 0, 1, &margin), 2);
+    expect("size", segtrace_size(NULL, 0, 0, &row), 2);
+    expect("start", segtrace_start(NULL, 0, &r), 2);
+    expect("rewrite, no place", segtrace_rewrite(one, one_length, NULL, 0, &written), 11);
+    expect("all_figures, no place", segtrace_all_figures(one, one_length, NULL, 0, &written), 11);
+    expect("listing, no place", segtrace_listing(one, one_length, NULL, 0, &written), 11);
+    expect("optimal_schedule, no place", segtrace_optimal_schedule(one, one_length, 0, NULL, 0, &written), 11);
+    expect("price, no schedule", segtrace_price(one, one_length, 0, NULL, 0, price), 8);
+    expect("written", written, 7);
+    expect("optimal_schedule of no references", segtrace_optimal_schedule(none, none_length, 0, NULL, 0, &written), 0);
+    expect("its length", written, 0);
+    expect("price of no references", segtrace_price(none, none_length, 0, NULL, 0, price), 0);
+    expect("start", segtrace_start(one, one_length, &r), 0);
+    written = 7;
+    expect("touch_all of no references", segtrace_touch_all(&r, NULL, 0, &written), 0);
+}
+
+/* The largest sheet: every number has as many digits as it may have, and the references go round the segments from 100 on. */
+static void make_sheet(void)
+{
+    char *at = (char *)sheet;
+    int i;
+    at += sprintf(at, "kind=space\na=255\nsegs=256\n");
+    for (i = 0; i < 256; i++)
+        at += sprintf(at, "size=4095\n");
+    at += sprintf(at, "rows=64\n");
+    for (i = 0; i < 64; i++)
+        at += sprintf(at, "row=%d/%d\n", 10000 + 800 * i, 65535 - i);
+    at += sprintf(at, "refs=2048\n");
+    for (i = 0; i < 2048; i++) {
+        segments[i] = (uint16_t)(100 + i * 7 % 156);
+        at += sprintf(at, i < 2047 ? "ref=%d\n" : "ref=%d", segments[i]);
+    }
+    sheet_length = sizeof sheet;
+    expect("bytes of the largest sheet", (uint64_t)(at - (char *)sheet) + 1, sheet_length);
+    sheet[sheet_length - 1] = '\n';
+}
+
+/* Every call on the largest sheet. */
+static void *every_call(void *unused)
+{
+    uint64_t figures[SEGTRACE_FIGURES], price[SEGTRACE_PRICE], written, row;
+    int64_t margin;
+    static segtrace_recorder r;
+    expect("check", segtrace_check(sheet, sheet_length), 0);
+    expect("rewrite", segtrace_rewrite(sheet, sheet_length, again, sizeof again, &written), 0);
+    expect("figures", segtrace_figures(sheet, sheet_length, 63, figures), 0);
+    expect("all_figures", segtrace_all_figures(sheet, sheet_length, all, sizeof all / sizeof *all, &written), 0);
+    expect("listing", segtrace_listing(sheet, sheet_length, listing, sizeof listing, &written), 0);
+    expect("optimal_schedule", segtrace_optimal_schedule(sheet, sheet_length, 63, schedule, sizeof schedule, &written), 0);
+    expect("price", segtrace_price(sheet, sheet_length, 63, schedule, sizeof schedule, price), 0);
+    expect("margin", segtrace_margin(sheet, sheet_length, 63, 2048, &margin), 0);
+    expect("size", segtrace_size(sheet, sheet_length, UINT64_MAX, &row), 0);
+    expect("start", segtrace_start(sheet, sheet_length, &r), 0);
+    expect("touch", segtrace_touch(&r, 0), 0);
+    expect("touch_all", segtrace_touch_all(&r, segments, 2047, &written), 0);
+    expect("figures_now", segtrace_figures_now(&r, 63, figures), 0);
+    return unused;
+}
+
+/* The bytes of a stack of 1 MB that are used by a function: those beyond the deepest byte that is still painted. */
+static size_t stack_of(void *(*run)(void *))
+{
+    size_t size = 1 << 20, unused = 0;
+    uint8_t *stack = aligned_alloc(4096, size);
+    pthread_attr_t attributes;
+    pthread_t thread;
+    memset(stack, 0xa5, size);
+    pthread_attr_init(&attributes);
+    pthread_attr_setstack(&attributes, stack, size);
+    expect("a thread", (uint64_t)pthread_create(&thread, &attributes, run, NULL), 0);
+    pthread_join(thread, NULL);
+    while (unused < size && stack[unused] == 0xa5)
+        unused++;
+    free(stack);
+    return size - unused;
+}
+
+static void *no_call(void *unused) { return unused; }
+
+int main(void)
+{
+    size_t used;
+    without_pointers();
+    make_sheet();
+    used = stack_of(every_call) - stack_of(no_call);
+    if (used > SEGTRACE_STACK_BYTES) {
+        fprintf(stderr, "FAILED: the calls use %zu bytes of stack and not at most %d\n", used, SEGTRACE_STACK_BYTES);
+        return 1;
+    }
+    printf("calls from C: NULL with length 0 taken; at most %zu bytes of stack used\n", used);
+    return 0;
+}
