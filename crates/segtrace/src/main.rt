@@ -51,10 +51,8 @@ fn read_input(buf: &mut [u8]) -> Input
 fn print(bytes: &[u8], out: &mut [u8]) {
     let answer = analyser::printed(bytes, out);
     let length = answer.length;
-    if length <= out.len() {
-        if !io::write_all(STDOUT_FILENO, &out[..length]) {
-            os::fail(b"segtrace: standard output");
-        }
+    if !io::write_all(STDOUT_FILENO, &out[..length]) {
+        os::fail(b"segtrace: standard output");
     }
 }
 
