@@ -32,7 +32,8 @@ unfolding printedText
 returns c =
     let r = c .before .before .before .before .before .before .before .before in
     let a = r .before .before .before .args in
-    text-refused (a .bytes .now) (r .read .result) (r .read .ensures) refusedText listingOf (text-left (c .before .before .write-refusal .ensures)) (cc)
+    text-refused (a .bytes .now) (r .read .result) (r .read .ensures) refusedText listingOf (text-left (c .before .before .write-refusal .ensures))
+    (c .before .before .before .before .before .verdict .given .1)
 
 same-length-2 : tie.Need-same-length-2
 same-length-2 c = search needs
