@@ -48,6 +48,8 @@ pub enum Way {
     RowZero,
     /// A recorder starts with one reference.
     OneReference,
+    /// A recorder of kind space starts with 7 for its kind.
+    OtherKind,
     /// Only the first reference is filed.
     FirstFiled,
     /// A refused call changes the last steps of a recorder.
@@ -79,7 +81,7 @@ const LIST_CALLS: [Call; 5] = [Call::Figures, Call::Price, Call::Margin, Call::S
 const LIST_WAYS: [Way; 5] = [Way::OtherNumber, Way::Refused(7), Way::Idle, Way::LastItem, Way::ItemRefused];
 
 /// Wrong ways of single calls.
-const OTHERS: [(Call, Way); 28] = [
+const OTHERS: [(Call, Way); 29] = [
     (Call::Check, Way::OtherNumber),
     (Call::Check, Way::NotRefused(5)),
     (Call::Check, Way::Refused(6)),
@@ -92,6 +94,7 @@ const OTHERS: [(Call, Way); 28] = [
     (Call::Start, Way::OtherNumber),
     (Call::Start, Way::Idle),
     (Call::Start, Way::OneReference),
+    (Call::Start, Way::OtherKind),
     (Call::Start, Way::LastRefused),
     (Call::Touch, Way::OtherNumber),
     (Call::Touch, Way::NotRefused(13)),
@@ -201,6 +204,7 @@ pub fn start(recorder: &mut Recorder, real: impl FnOnce(&mut Recorder) -> u64) -
     match (way, returned) {
         (Way::Idle, 0) => *recorder = old,
         (Way::OneReference, 0) => recorder.counts[0] = 1,
+        (Way::OtherKind, 0) if recorder.head[0] > 0 => recorder.head[0] = 7,
         (Way::LastRefused, 1..) => recorder.last[0] ^= 1,
         _ => {}
     }
