@@ -1,6 +1,7 @@
 pub mod Alone
 pub mod Demand
 pub mod Entries
+pub mod Handed
 pub mod MarginResults
 pub mod MarginSigns
 pub mod Outcomes

@@ -126,6 +126,16 @@ takable segs count (x ∷ xs) e =
     let first = accepted-first segs count x xs (ltb x segs) refl (ltb count mostRefs) refl e in
     one-more segs count x xs (first .0) (first .1) (takable segs (suc count) xs (first .2))
 
+-- and only there
+pub takable-accepted : (segs count : ℕ) (xs : List ℕ) → Takable segs count xs → refsVerdict segs count xs ≡ Accepted
+unfolding refsVerdict rest-verdict
+takable-accepted segs count [] s = refl
+takable-accepted segs count (x ∷ xs) s =
+    let first = ref-accepted segs count x (s .segments 0 (omega arith)) (omega (arith, s .room 0 (omega arith))) in
+    verdict-step segs count x xs Accepted first
+    ∙ takable-accepted segs (suc count) xs
+    (record { segments = λ t lt. s .segments (suc t) (omega arith); room = λ t lt. omega (arith, s .room (suc t) (omega arith)) })
+
 -- a sheet's value with no reference more
 pub appended-none : (v : SheetValue) → appended v [] ≡ v
 appended-none v = rw (append-nil (v .refs)) refl
@@ -162,11 +172,6 @@ verdict-of R xs v valid e =
 pub takable-of : (R : Recorder) (xs : List ℕ) → touchAllVerdict R xs ≡ Accepted
     → (v : SheetValue) → Valid v → R ≡ recorderOf v → Takable (length (v .sizes)) (length (v .refs)) xs
 takable-of R xs a v valid e = takable (length (v .sizes)) (length (v .refs)) xs (sym (verdict-of R xs v valid e) ∙ a)
-
-pub verdict-accepted : (v : SheetValue) (x : ℕ) → x < min (length (v .sizes)) mostSegs → length (v .refs) < mostRefs
-    → touchVerdict (recorderOf v) x ≡ Accepted
-unfolding recorderOf
-verdict-accepted v x lt room = ref-accepted (min (length (v .sizes)) mostSegs) (length (v .refs)) x lt room
 
 -- the touches after one, by the verdict on that one
 rest-touched : SheetValue → ℕ → List ℕ → Verdict → TouchAnswer
