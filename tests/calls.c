@@ -56,8 +56,7 @@ static void without_pointers(void)
     expect("its length", written, 0);
     expect("price of no references", segtrace_price(none, none_length, 0, NULL, 0, price), 0);
     expect("start", segtrace_start(one, one_length, &r), 0);
-    written = 7;
-    expect("touch_all of no references", segtrace_touch_all(&r, NULL, 0, &written), 0);
+    expect("touch_all of no references", segtrace_touch_all(&r, NULL, 0), 0);
 }
 
 /* The largest sheet: every number has as many digits as it may have, and the references go round the segments from 100 on. */
@@ -98,7 +97,7 @@ static void *every_call(void *unused)
     expect("size", segtrace_size(sheet, sheet_length, UINT64_MAX, &row), 0);
     expect("start", segtrace_start(sheet, sheet_length, &r), 0);
     expect("touch", segtrace_touch(&r, 0), 0);
-    expect("touch_all", segtrace_touch_all(&r, segments, 2047, &written), 0);
+    expect("touch_all", segtrace_touch_all(&r, segments, 2047), 0);
     expect("figures_now", segtrace_figures_now(&r, 63, figures), 0);
     return unused;
 }

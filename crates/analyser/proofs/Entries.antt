@@ -6,9 +6,9 @@ use lib.ListN.{length, getD}
 use lib.Seq.{getD-take}
 use Rattle.model.specs.Sheets.{traceOf, largestSize}
 use Rattle.model.specs.Traces.{entry, sizeOf}
-use Rattle.sheet.specs.Values.{valueOf}
-use Rattle.sheet.specs.declared.Sheet.{Sheet}
-use Rattle.figures.proofs.Passing.{getD-any}
+use Rattle.model.specs.Values.{valueOf}
+use Rattle.model.specs.declared.Sheet.{Sheet}
+use Rattle.model.proofs.Lists.{getD-any}
 use Rattle.analyser.specs.Answers.{Standing}
 use Rattle.analyser.proofs.Standings.{segs-counted, refs-counted}
 

@@ -5,7 +5,8 @@ use mathlib.Core.List.{List}
 use Rattle.model.specs.declared.Refusal.{Refusal}
 use Rattle.model.specs.declared.Verdict.the-variants.{Accepted, Refused}
 use Rattle.sheet.specs.Reading.{Outcome, accepted, rejected, readSheet}
-use Rattle.sheet.specs.Values.{valueOf, answerOf}
+use Rattle.model.specs.Values.{valueOf}
+use Rattle.sheet.specs.Answers.{answerOf}
 use Rattle.sheet.specs.declared.SheetAnswer.{SheetAnswer}
 use Rattle.analyser.specs.Answers.{onSheet}
 use Rattle.analyser.specs.Sizing.{noSize, SizingOf}

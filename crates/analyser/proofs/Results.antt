@@ -17,11 +17,10 @@ use Rattle.model.specs.declared.PlaceAnswer.{PlaceAnswer}
 use Rattle.model.specs.declared.Refusal.the-variants.{NoSuchRow, PlaceTooShort}
 use Rattle.model.specs.declared.RowFigures.{RowFigures}
 use Rattle.model.specs.declared.Verdict.the-variants.{Accepted}
-use Rattle.model.proofs.Sums.{length-listOf}
+use Rattle.model.proofs.Tables.{length-tabulate, getD-tabulate, list-tabulate}
 use Rattle.sheet.proofs.Placing.{place-short}
-use Rattle.figures.specs.Buckets.{tabulate}
+use Rattle.model.specs.Sums.{tabulate}
 use Rattle.figures.specs.Rows.{figuresAt, allFigures}
-use Rattle.figures.proofs.Tables.{length-tabulate, getD-tabulate, list-tabulate}
 use Rattle.report.specs.Listing.{listing, listingOf}
 use Rattle.schedule.specs.Checking.{noPrice, priceAnswer}
 use Rattle.analyser.specs.Answers.{PlaceLeft, gives, scheduleFor, priceFor}
@@ -78,7 +77,7 @@ text-fits text place e fits = let h = le-leb (length text) (length place) (omega
 pub schedule-length : (v : SheetValue) (r : ℕ) → length (rowSchedule v r) ≡ 32 * length (v .refs)
 unfolding optimalSchedule
 schedule-length v r =
-    length-listOf (32 * length (v .refs)) (optimalByte (traceOf v) (rowAt v r .h) (rowAt v r .d))
+    length-tabulate (32 * length (v .refs)) (optimalByte (traceOf v) (rowAt v r .h) (rowAt v r .d))
 
 module _ (v : SheetValue) (r : ℕ) (place : List ℕ) where
   -- what the schedule call answers, and what it leaves in the place

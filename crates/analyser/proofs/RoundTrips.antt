@@ -5,7 +5,8 @@ use mathlib.Core.List.{List}
 use lib.ListN.{length}
 use Rattle.model.specs.Sheets.{SheetValue}
 use Rattle.sheet.specs.Reading.{accepted, readSheet}
-use Rattle.sheet.specs.Values.{valueOf, sheetOf, answerOf}
+use Rattle.model.specs.Values.{valueOf, sheetOf}
+use Rattle.sheet.specs.Answers.{answerOf}
 use Rattle.sheet.specs.Writing.{sheetText}
 use Rattle.sheet.specs.declared.SheetAnswer.{SheetAnswer}
 use Rattle.sheet.proofs.Held.{held-text}

@@ -11,15 +11,16 @@ use Rattle.model.specs.declared.PlaceAnswer.{PlaceAnswer}
 use Rattle.model.specs.declared.Refusal.{Refusal}
 use Rattle.model.specs.declared.Verdict.the-variants.{Accepted, Refused}
 use Rattle.sheet.specs.Reading.{Outcome, accepted, rejected, readSheet}
-use Rattle.sheet.specs.Values.{padded, zeros, zeroRows, sheetOf, valueOf, answerOf}
-use Rattle.sheet.specs.declared.Sheet.{Sheet}
+use Rattle.model.specs.Values.{padded, zeros, zeroRows, sheetOf, valueOf}
+use Rattle.sheet.specs.Answers.{answerOf}
+use Rattle.model.specs.declared.Sheet.{Sheet}
 use Rattle.sheet.specs.declared.SheetAnswer.{SheetAnswer}
 use Rattle.sheet.proofs.Accepted.{accepted-valid}
 use Rattle.sheet.proofs.Blanks.{zeros-length, zero-rows-length}
 use Rattle.sheet.proofs.Held.{held}
 use Rattle.figures.specs.Rows.{allFigures}
 use Rattle.report.specs.Listing.{listing, listingOf}
-use Rattle.schedule.specs.Requires.{Limits}
+use Rattle.schedule.specs.Requires.{RunWithin}
 use Rattle.analyser.specs.Answers.{onSheet, Result, gives, refuses, PlaceLeft, Standing}
 use Rattle.analyser.proofs.Results.{listing-is}
 
@@ -99,7 +100,7 @@ module _ (s : List ℕ) (A : SheetAnswer) (e : A ≡ answerOf (readSheet s)) whe
   stands r = read-stands s A (readSheet s) refl e r
 
 -- a valid value's run is within the limits that the schedule calls ask for
-pub valid-limits : (v : SheetValue) → Valid v → Limits (traceOf v)
+pub valid-limits : (v : SheetValue) → Valid v → RunWithin (traceOf v)
 valid-limits v c =
     record {
       segs-within = c .segs-within;

@@ -11,8 +11,8 @@ use Rattle.model.specs.Sheets.{SheetValue, traceOf}
 use Rattle.model.specs.Traces.{Trace, segs, entry, later, unreferenced}
 use Rattle.model.proofs.LastTouches.{unreferenced-within}
 use Rattle.model.proofs.Touches.{touched-entry, unreferenced-none, unreferenced-touched, unreferenced-later}
-use Rattle.sheet.specs.Values.{valueOf}
-use Rattle.sheet.specs.declared.Sheet.{Sheet}
+use Rattle.model.specs.Values.{valueOf}
+use Rattle.model.specs.declared.Sheet.{Sheet}
 use Rattle.analyser.specs.Answers.{Standing}
 use Rattle.analyser.specs.Times.{timeOf, nextTime}
 use Rattle.analyser.specs.declared.margins.Unreferenced.{Unreferenced}

@@ -15,9 +15,9 @@ use Rattle.model.specs.declared.PriceRow.{PriceRow}
 use Rattle.model.specs.declared.Refusal.the-variants.{FirstTouch}
 use Rattle.model.specs.declared.Verdict.the-variants.{Accepted}
 use Rattle.model.proofs.Bounds.{product-within}
-use Rattle.sheet.specs.Values.{valueOf}
-use Rattle.sheet.specs.declared.Sheet.{Sheet}
-use Rattle.figures.proofs.Touches.{retention-within, swap-within}
+use Rattle.model.specs.Values.{valueOf}
+use Rattle.model.specs.declared.Sheet.{Sheet}
+use Rattle.model.proofs.Bounds.{retention-within, swap-within}
 use Rattle.analyser.specs.Answers.{Standing}
 use Rattle.analyser.specs.Margins.{noMargin, touchMargin}
 use Rattle.analyser.specs.Times.{timeOf}

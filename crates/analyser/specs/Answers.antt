@@ -12,9 +12,9 @@ use Rattle.model.specs.declared.PlaceAnswer.{PlaceAnswer}
 use Rattle.model.specs.declared.Refusal.{Refusal}
 use Rattle.model.specs.declared.Refusal.the-variants.{NoSuchRow}
 use Rattle.sheet.specs.Reading.{Outcome, accepted, rejected, readSheet}
-use Rattle.sheet.specs.Values.{valueOf}
+use Rattle.model.specs.Values.{valueOf}
 use Rattle.sheet.specs.Writing.{sheetText}
-use Rattle.sheet.specs.declared.Sheet.{Sheet}
+use Rattle.model.specs.declared.Sheet.{Sheet}
 use Rattle.figures.specs.Rows.{noFigures, figuresOf}
 use Rattle.figures.specs.declared.FiguresAnswer.{FiguresAnswer}
 use Rattle.report.specs.Listing.{listingOf, refusedText}

@@ -6,8 +6,8 @@ use mathlib.Core.List.{List, _++_}
 use lib.ListN.{length, drop}
 use Rattle.model.specs.declared.Verdict.the-variants.{Accepted}
 use Rattle.sheet.specs.Reading.{readSheet}
-use Rattle.sheet.specs.Values.{answerOf}
-use Rattle.sheet.specs.declared.Sheet.{Sheet}
+use Rattle.sheet.specs.Answers.{answerOf}
+use Rattle.model.specs.declared.Sheet.{Sheet}
 use Rattle.analyser.specs.Answers.{answerFor, placeFor, writeResult}
 
 -- the sheet that the reading call hands back

@@ -11,15 +11,17 @@ use model::MemoryUnits;
 use model::PlaceAnswer;
 use model::Refusal;
 use model::RowFigures;
+use model::Sheet;
 use model::Verdict;
 use schedule::PriceAnswer;
-use sheet::Sheet;
+use schedule::Schedule;
 use sheet::SheetAnswer;
 ghost use mathlib.Core.Path.{_≡_};
 ghost use Prim.Native.Nat.{_*_, _<_};
 ghost use Rattle.model.specs.Places.{nothingPlaced};
 ghost use Rattle.sheet.specs.Reading.{readSheet};
-ghost use Rattle.sheet.specs.Values.{answerOf, valueOf};
+ghost use Rattle.model.specs.Values.{valueOf};
+ghost use Rattle.sheet.specs.Answers.{answerOf};
 ghost use Rattle.figures.specs.Rows.{noFigures, figuresAt, figuresOf, allFigures};
 ghost use Rattle.report.specs.Listing.{listingOf};
 ghost use Rattle.schedule.specs.Checking.{noPrice};
@@ -40,7 +42,7 @@ pub fn write(sheet: Sheet, out: &mut [u8]) -> PlaceAnswer
 }
 
 // The figures of every row of an accepted sheet.
-pub(crate) fn all_figures(s: Sheet) -> [RowFigures; 64]
+pub(crate) fn all_figures(s: Sheet) -> [RowFigures; Sheet::MAX_ROWS]
     requires { ⌜ Standing s ⌝ }
     ensures { λ r. ⌜ r ≡ allFigures (valueOf s) ⌝ }
 {
@@ -75,7 +77,14 @@ fn row_alone(s: Sheet, row: usize) -> RowFigures
     let touches = s.touches;
     let prices = s.prices;
     let price = prices[row];
-    let only = figures::figures(kind, s.a, [price; 64], 1, &sizes[..segs], &touches[..refs]);
+    let only = figures::figures(
+        kind,
+        s.a,
+        [price; Sheet::MAX_ROWS],
+        1,
+        &sizes[..segs],
+        &touches[..refs],
+    );
     only[0]
 }
 
@@ -163,7 +172,7 @@ fn sheet_schedule(s: Sheet, row: usize, out: &mut [u8]) -> PlaceAnswer
     let kind = s.kind;
     let segs = s.segs;
     let refs = s.refs;
-    if out.len() / 32 < refs {
+    if out.len() / Schedule::STEP_BYTES < refs {
         return nothing(Refusal::PlaceTooShort);
     }
     let sizes = s.sizes;
@@ -179,7 +188,7 @@ fn sheet_schedule(s: Sheet, row: usize, out: &mut [u8]) -> PlaceAnswer
     );
     PlaceAnswer {
         verdict: Verdict::Accepted,
-        length: 32 * refs,
+        length: Schedule::of_steps(refs).length(),
     }
 }
 

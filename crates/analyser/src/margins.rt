@@ -1,13 +1,13 @@
 // The margin of one reference of a sheet at one of its rows.
 // What a margin is is written in specs/Margins.antt and crate `model`; nothing is assumed.
 use model::Refusal;
+use model::Sheet;
 use model::Verdict;
-use sheet::Sheet;
 ghost use mathlib.Core.Path.{_≡_};
 ghost use Prim.Native.Nat.{_<_};
 ghost use Rattle.model.specs.Sheets.{traceOf};
 ghost use Rattle.model.specs.Traces.{entry, unreferenced};
-ghost use Rattle.sheet.specs.Values.{valueOf};
+ghost use Rattle.model.specs.Values.{valueOf};
 ghost use Rattle.analyser.specs.Answers.{Standing};
 ghost use Rattle.analyser.specs.Margins.{noMargin, touchMargin, marginFor, marginAnswer};
 ghost use Rattle.analyser.specs.Times.{timeOf, nextTime};

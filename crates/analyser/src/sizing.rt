@@ -1,11 +1,11 @@
 // Sizing: the row to run at where memory has a ceiling.
 // What may be answered is written in specs/Sizing.antt; nothing is assumed.
 use model::Refusal;
+use model::Sheet;
 use model::Verdict;
-use sheet::Sheet;
 ghost use mathlib.Core.Path.{_≡_};
 ghost use Rattle.sheet.specs.Reading.{readSheet};
-ghost use Rattle.sheet.specs.Values.{valueOf};
+ghost use Rattle.model.specs.Values.{valueOf};
 ghost use Rattle.analyser.specs.Answers.{Standing};
 ghost use Rattle.analyser.specs.Sizing.{noSize, SizingFor, SizingOf};
 

@@ -14,7 +14,7 @@ use Rattle.model.specs.declared.Refusal.{Refusal}
 use Rattle.model.specs.declared.Verdict.the-variants.{Accepted, Refused}
 use Rattle.sheet.specs.Reading.{Outcome, accepted, rejected, readSheet}
 use Rattle.sheet.proofs.Accepted.{accepted-valid}
-use Rattle.figures.proofs.Tables.{length-tabulate}
+use Rattle.model.proofs.Tables.{length-tabulate}
 use Rattle.figures.specs.Rows.{figuresAt}
 use Rattle.analyser.specs.Answers.{gives, onSheet, PlaceLeft}
 use Rattle.analyser.proofs.Results.{figures-front, text-left}

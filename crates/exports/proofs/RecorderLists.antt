@@ -9,16 +9,16 @@ use Rattle.model.specs.declared.Kind.{Kind}
 use Rattle.model.specs.declared.Kind.the-variants.{Time, Space}
 use Rattle.model.specs.declared.PriceRow.{PriceRow}
 use Rattle.model.specs.declared.Verdict.the-variants.{Accepted}
-use Rattle.figures.specs.Buckets.{bucketCount, tabulate}
+use Rattle.figures.specs.Buckets.{bucketCount}
+use Rattle.model.specs.Sums.{tabulate}
 use Rattle.figures.specs.Pass.{rowsOf}
 use Rattle.figures.specs.Sweep.{noBucket}
 use Rattle.figures.specs.declared.Bucket.{Bucket}
-use Rattle.figures.proofs.Tables.{length-tabulate, list-tabulate}
+use Rattle.model.proofs.Tables.{length-tabulate, list-tabulate}
 use Rattle.recorder.specs.Recorders.{recorderOf, appended}
 use Rattle.recorder.specs.declared.Recorder.{Recorder}
 use Rattle.recorder.specs.declared.TouchAnswer.{TouchAnswer}
-use Rattle.exports.specs.Recording.{kindIn, kindNumber, bucketIn, sumsOf, lists, recorderIn, listsOf, withTaken}
-use Rattle.exports.specs.Recording.{RecorderLists, TouchCall, HeadStored, TakenStored}
+use Rattle.exports.specs.Recording.{kindIn, kindNumber, bucketIn, sumsOf, lists, recorderIn, listsOf, withTaken, RecorderLists, TouchCall, HeadStored, TakenStored}
 
 -- lists in which all of a recorder was stored are its lists
 pub all-stored : (R : Recorder) (head counts sizes h d last sums : List ℕ) → HeadStored R head sizes h d → TakenStored R counts last sums

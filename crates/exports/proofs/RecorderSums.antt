@@ -8,10 +8,11 @@ use native.Mathlib.Numerals.{add-one}
 use lib.ListN.{length, getD, take, set, length-set}
 use lib.Seq.{take-all, take-suc-set, take-suc, getD-set-same, getD-set-other}
 use Rattle.model.proofs.Sums.{last-or-below}
-use Rattle.figures.specs.Buckets.{bucketCount, tabulate}
+use Rattle.figures.specs.Buckets.{bucketCount}
+use Rattle.model.specs.Sums.{tabulate}
 use Rattle.figures.specs.Sweep.{noBucket}
 use Rattle.figures.specs.declared.Bucket.{Bucket}
-use Rattle.figures.proofs.Tables.{list-tabulate}
+use Rattle.model.proofs.Tables.{list-tabulate}
 use Rattle.exports.specs.Recording.{bucketIn, sumsOf}
 
 -- the first i entries of a list are those of the whole that it is to become, n entries long

@@ -8,7 +8,8 @@ use lib.Dec.{eqb}
 use Rattle.model.specs.Refusals.{verdictNumber}
 use Rattle.model.specs.declared.Kind.{Kind}
 use Rattle.model.specs.declared.Kind.the-variants.{Time, Space}
-use Rattle.figures.specs.Buckets.{bucketCount, tabulate}
+use Rattle.figures.specs.Buckets.{bucketCount}
+use Rattle.model.specs.Sums.{tabulate}
 use Rattle.figures.specs.Pass.{rowsOf, pricesOf}
 use Rattle.figures.specs.declared.Bucket.{Bucket}
 use Rattle.figures.specs.declared.FiguresAnswer.{FiguresAnswer}

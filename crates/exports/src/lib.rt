@@ -5,14 +5,16 @@ pub mod recording;
 
 use model::PlaceAnswer;
 use model::RowFigures;
+use model::Sheet;
 use model::Verdict;
 ghost use mathlib.Core.Path.{_≡_};
 ghost use Prim.Native.Nat.{_*_, _+_, _≤_};
 ghost use lib.ListN.{length, take};
+ghost use Rattle.model.specs.Sheets.{mostRows};
 ghost use Rattle.model.specs.Refusals.{verdictNumber};
 ghost use Rattle.sheet.specs.Parts.{Put};
 ghost use Rattle.sheet.specs.Reading.{readSheet};
-ghost use Rattle.sheet.specs.Values.{answerOf};
+ghost use Rattle.sheet.specs.Answers.{answerOf};
 ghost use Rattle.analyser.specs.Answers.{figuresAnswer, listingResult, scheduleResult, pricing};
 ghost use Rattle.analyser.specs.Margins.{marginAnswer};
 ghost use Rattle.exports.specs.Exported.{orOld, figureList, figureLists, priceList, rewriteResult, rowsResult, PlaceCall, SizeCall};
@@ -58,7 +60,11 @@ pub extern "C" fn segtrace_rewrite(sheet: &[u8], out: &mut [u8], written: &mut u
 
 // The figures of a row in the listing's order: 1 to 6, 7.
 #[no_mangle]
-pub extern "C" fn segtrace_figures(sheet: &[u8], row: u64, figures: &mut [u64; 11]) -> u64
+pub extern "C" fn segtrace_figures(
+    sheet: &[u8],
+    row: u64,
+    figures: &mut [u64; RowFigures::ITEMS],
+) -> u64
     ensures { λ r. ⌜ (r ≡ verdictNumber (figuresAnswer (now (sheet .entry)) row .verdict))
         × (now (figures .exit) ≡ orOld (figuresAnswer (now (sheet .entry)) row .verdict)
         (figureList (figuresAnswer (now (sheet .entry)) row .figures)) (now (figures .entry))) ⌝ }
@@ -75,7 +81,7 @@ pub extern "C" fn segtrace_figures(sheet: &[u8], row: u64, figures: &mut [u64; 1
 }
 
 // The figures of a row as numbers.
-pub fn numbers(f: RowFigures) -> [u64; 11]
+pub fn numbers(f: RowFigures) -> [u64; RowFigures::ITEMS]
     ensures { λ r. ⌜ r ≡ figureList f ⌝ }
 {
     [
@@ -100,16 +106,16 @@ fn put_row(f: RowFigures, out: &mut [u64], at: usize) -> usize
 {
     let row = numbers(f);
     let mut i = 0;
-    while i < 11 {
+    while i < RowFigures::ITEMS {
         out[at + i] = row[i];
         i += 1;
     }
-    at + 11
+    at + RowFigures::ITEMS
 }
 
 // Puts the numbers of the first `n` rows at the front, and gives how many they are.
-fn put_rows(figures: [RowFigures; 64], n: usize, out: &mut [u64]) -> usize
-    requires { ⌜ (n ≤ 64) × (11 * n ≤ length (now out)) ⌝ }
+fn put_rows(figures: [RowFigures; Sheet::MAX_ROWS], n: usize, out: &mut [u64]) -> usize
+    requires { ⌜ (n ≤ mostRows) × (11 * n ≤ length (now out)) ⌝ }
     ensures { λ r. ⌜ Put (figureLists (take n figures)) 0 (now (out .entry)) r (now (out .exit)) ⌝ }
 {
     let mut next = 0;
@@ -128,7 +134,7 @@ pub extern "C" fn segtrace_all_figures(sheet: &[u8], out: &mut [u64], written: &
     ensures { λ r. ⌜ PlaceCall (rowsResult (now (sheet .entry))) (now (out .entry)) (now (out .exit))
         (now (written .entry)) (now (written .exit)) r ⌝ }
 {
-    let all = records::all_records(sheet, out.len() / 11);
+    let all = records::all_records(sheet, out.len() / RowFigures::ITEMS);
     let answer = all.answer;
     let verdict = answer.verdict;
     match verdict {

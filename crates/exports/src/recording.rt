@@ -2,14 +2,19 @@
 // What each returns and leaves is written in specs/Recording.antt; nothing is assumed.
 use crate::numbers;
 use figures::Bucket;
+use figures::Tally;
 use model::Kind;
 use model::PriceRow;
+use model::RowFigures;
+use model::Sheet;
 use model::Verdict;
 use recorder::Recorder;
 ghost use mathlib.Core.Path.{_≡_};
 ghost use Prim.Native.Nat.{min};
 ghost use lib.ListN.{length};
-ghost use Rattle.figures.specs.Buckets.{bucketCount, tabulate};
+ghost use Rattle.model.specs.Sheets.{mostRows};
+ghost use Rattle.figures.specs.Buckets.{bucketCount};
+ghost use Rattle.model.specs.Sums.{tabulate};
 ghost use Rattle.figures.specs.Pass.{rowsOf};
 ghost use Rattle.recorder.specs.Recorders.{Touched, TouchedAll};
 ghost use Rattle.exports.specs.Recording.{StartCall, TouchCall, FiguresCall, HeadStored, TakenStored};
@@ -46,13 +51,13 @@ fn cut(n: u64) -> u8
 }
 
 // The rows of prices that stand apart.
-fn rows_of(h: &[u16], d: &[u16]) -> [PriceRow; 64]
-    requires { ⌜ (length (now h) ≡ 64) × (length (now d) ≡ 64) ⌝ }
+fn rows_of(h: &[u16], d: &[u16]) -> [PriceRow; Sheet::MAX_ROWS]
+    requires { ⌜ (length (now h) ≡ mostRows) × (length (now d) ≡ mostRows) ⌝ }
     ensures { λ r. ⌜ r ≡ rowsOf (now (h .entry)) (now (d .entry)) ⌝ }
 {
-    let mut rows = [PriceRow { h: 0, d: 0 }; 64];
+    let mut rows = [PriceRow { h: 0, d: 0 }; Sheet::MAX_ROWS];
     let mut i = 0;
-    while i < 64 {
+    while i < Sheet::MAX_ROWS {
         rows[i] = PriceRow { h: h[i], d: d[i] };
         i += 1;
     }
@@ -60,13 +65,13 @@ fn rows_of(h: &[u16], d: &[u16]) -> [PriceRow; 64]
 }
 
 // The buckets that the sums hold.
-fn buckets_of(sums: &[u64; 390]) -> [Bucket; 65]
+fn buckets_of(sums: &[u64; Bucket::SUMS * Tally::BUCKETS]) -> [Bucket; Tally::BUCKETS]
     ensures { λ r. ⌜ r ≡ tabulate bucketCount (bucketIn (now (sums .entry))) ⌝ }
 {
     let mut buckets = figures::pass::empty_buckets();
     let mut k = 0;
-    while k < 65 {
-        let at = 6 * k;
+    while k < Tally::BUCKETS {
+        let at = Bucket::SUMS * k;
         buckets[k] = Bucket {
             count: sums[at],
             volume: sums[at + 1],
@@ -81,14 +86,14 @@ fn buckets_of(sums: &[u64; 390]) -> [Bucket; 65]
 }
 
 // Stores the buckets in the sums.
-fn store_buckets(buckets: [Bucket; 65], sums: &mut [u64])
+fn store_buckets(buckets: [Bucket; Tally::BUCKETS], sums: &mut [u64])
     requires { ⌜ length (now sums) ≡ 390 ⌝ }
     ensures { λ u. ⌜ now (sums .exit) ≡ sumsOf buckets ⌝ }
 {
     let mut k = 0;
-    while k < 65 {
+    while k < Tally::BUCKETS {
         let b = buckets[k];
-        let at = 6 * k;
+        let at = Bucket::SUMS * k;
         sums[at] = b.count;
         sums[at + 1] = b.volume;
         sums[at + 2] = b.retention;
@@ -103,11 +108,11 @@ fn store_buckets(buckets: [Bucket; 65], sums: &mut [u64])
 fn recorder_of(
     head: &[u64; 4],
     counts: &[u64; 3],
-    sizes: &[u16; 256],
-    h: &[u16; 64],
-    d: &[u16; 64],
-    last: &[u16; 256],
-    sums: &[u64; 390],
+    sizes: &[u16; Sheet::MAX_SEGS],
+    h: &[u16; Sheet::MAX_ROWS],
+    d: &[u16; Sheet::MAX_ROWS],
+    last: &[u16; Sheet::MAX_SEGS],
+    sums: &[u64; Bucket::SUMS * Tally::BUCKETS],
 ) -> Recorder
     ensures { λ r. ⌜ r ≡ recorderIn (lists (now (head .entry)) (now (counts .entry)) (now (sizes .entry)) (now (h .entry))
         (now (d .entry)) (now (last .entry)) (now (sums .entry))) ⌝ }
@@ -136,9 +141,9 @@ fn recorder_of(
 fn store_head(
     r: Recorder,
     head: &mut [u64; 4],
-    sizes: &mut [u16; 256],
-    h: &mut [u16; 64],
-    d: &mut [u16; 64],
+    sizes: &mut [u16; Sheet::MAX_SEGS],
+    h: &mut [u16; Sheet::MAX_ROWS],
+    d: &mut [u16; Sheet::MAX_ROWS],
 )
     ensures { λ u. ⌜ HeadStored r (now (head .exit)) (now (sizes .exit)) (now (h .exit)) (now (d .exit)) ⌝ }
 {
@@ -155,7 +160,12 @@ fn store_head(
 }
 
 // Stores the references taken, Q and V, the table of last touches and the buckets.
-fn store_taken(r: Recorder, counts: &mut [u64; 3], last: &mut [u16; 256], sums: &mut [u64; 390])
+fn store_taken(
+    r: Recorder,
+    counts: &mut [u64; 3],
+    last: &mut [u16; Sheet::MAX_SEGS],
+    sums: &mut [u64; Bucket::SUMS * Tally::BUCKETS],
+)
     ensures { λ u. ⌜ TakenStored r (now (counts .exit)) (now (last .exit)) (now (sums .exit)) ⌝ }
 {
     let table = r.last;
@@ -171,11 +181,11 @@ pub extern "C" fn segtrace_recorder_start(
     sheet: &[u8],
     head: &mut [u64; 4],
     counts: &mut [u64; 3],
-    sizes: &mut [u16; 256],
-    h: &mut [u16; 64],
-    d: &mut [u16; 64],
-    last: &mut [u16; 256],
-    sums: &mut [u64; 390],
+    sizes: &mut [u16; Sheet::MAX_SEGS],
+    h: &mut [u16; Sheet::MAX_ROWS],
+    d: &mut [u16; Sheet::MAX_ROWS],
+    last: &mut [u16; Sheet::MAX_SEGS],
+    sums: &mut [u64; Bucket::SUMS * Tally::BUCKETS],
 ) -> u64
     ensures { λ r. ⌜ StartCall (now (sheet .entry))
         (lists (now (head .entry)) (now (counts .entry)) (now (sizes .entry)) (now (h .entry))
@@ -201,11 +211,11 @@ pub extern "C" fn segtrace_recorder_start(
 pub extern "C" fn segtrace_recorder_touch(
     head: &[u64; 4],
     counts: &mut [u64; 3],
-    sizes: &[u16; 256],
-    h: &[u16; 64],
-    d: &[u16; 64],
-    last: &mut [u16; 256],
-    sums: &mut [u64; 390],
+    sizes: &[u16; Sheet::MAX_SEGS],
+    h: &[u16; Sheet::MAX_ROWS],
+    d: &[u16; Sheet::MAX_ROWS],
+    last: &mut [u16; Sheet::MAX_SEGS],
+    sums: &mut [u64; Bucket::SUMS * Tally::BUCKETS],
     segment: u64,
 ) -> u64
     ensures { λ r. ⌜ TouchCall (λ R a. Touched R segment a)
@@ -232,11 +242,11 @@ pub extern "C" fn segtrace_recorder_touch(
 pub extern "C" fn segtrace_recorder_touch_all(
     head: &[u64; 4],
     counts: &mut [u64; 3],
-    sizes: &[u16; 256],
-    h: &[u16; 64],
-    d: &[u16; 64],
-    last: &mut [u16; 256],
-    sums: &mut [u64; 390],
+    sizes: &[u16; Sheet::MAX_SEGS],
+    h: &[u16; Sheet::MAX_ROWS],
+    d: &[u16; Sheet::MAX_ROWS],
+    last: &mut [u16; Sheet::MAX_SEGS],
+    sums: &mut [u64; Bucket::SUMS * Tally::BUCKETS],
     segments: &[u16],
 ) -> u64
     ensures { λ r. ⌜ TouchCall (λ R a. TouchedAll R (now (segments .entry)) a)
@@ -263,13 +273,13 @@ pub extern "C" fn segtrace_recorder_touch_all(
 pub extern "C" fn segtrace_recorder_figures(
     head: &[u64; 4],
     counts: &[u64; 3],
-    sizes: &[u16; 256],
-    h: &[u16; 64],
-    d: &[u16; 64],
-    last: &[u16; 256],
-    sums: &[u64; 390],
+    sizes: &[u16; Sheet::MAX_SEGS],
+    h: &[u16; Sheet::MAX_ROWS],
+    d: &[u16; Sheet::MAX_ROWS],
+    last: &[u16; Sheet::MAX_SEGS],
+    sums: &[u64; Bucket::SUMS * Tally::BUCKETS],
     row: u64,
-    figures: &mut [u64; 11],
+    figures: &mut [u64; RowFigures::ITEMS],
 ) -> u64
     ensures { λ r. ⌜ FiguresCall
         (lists (now (head .entry)) (now (counts .entry)) (now (sizes .entry)) (now (h .entry))

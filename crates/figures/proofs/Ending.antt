@@ -16,7 +16,7 @@ use Rattle.figures.specs.Pass.{Limited, withEnd, bucketOver, allEmpty, p
 use Rattle.figures.specs.declared.Bucket.{Bucket}
 use Rattle.figures.specs.declared.pass.Touch.{Touch}
 use Rattle.figures.specs.declared.pass.Passed.{Passed}
-use Rattle.figures.proofs.Tables.{tabulate-eq}
+use Rattle.model.proofs.Tables.{tabulate-eq}
 use Rattle.figures.proofs.Filling.{Filling, filling-start, filling-step, bucket-eq}
 use Rattle.figures.proofs.Touches.{touchAt, endBucket-over}
 use Rattle.figures.proofs.Marks.{last-time}

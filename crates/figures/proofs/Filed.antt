@@ -9,16 +9,16 @@ use lib.Dec.{eqb, ltb}
 use lib.ListN.{length, getD}
 use borrow.Author.Tests.{le-ltb, lt-ltb}
 use Rattle.model.specs.Costs.{keeps}
-use Rattle.model.specs.Sums.{sum}
+use Rattle.model.specs.Sums.{sum, tabulate}
 use Rattle.model.specs.Traces.{Trace, segs, steps, entry, swapOf, touching, overTouches, overSegments, unreferenced}
 use Rattle.model.specs.Figures.{isReuse, retentionOf, kept}
 use Rattle.model.specs.Sheets.{SheetValue, Valid, traceOf, rowAt}
 use Rattle.model.specs.declared.PriceRow.{PriceRow}
 use Rattle.model.proofs.Sums.{sum-none, sum-suc, sum-eq, sum-add, sum-zero, sum-at}
 use Rattle.model.proofs.Loads.{overTouches-eq}
-use Rattle.figures.specs.Buckets.{bucketCount, bucketOf, filed, ended, tabulate, tallyOf, bucketAfter}
+use Rattle.figures.specs.Buckets.{bucketCount, bucketOf, filed, ended, tallyOf, bucketAfter}
 use Rattle.figures.specs.Sweep.{noBucket}
-use Rattle.figures.proofs.Tables.{getD-tabulate}
+use Rattle.model.proofs.Tables.{getD-tabulate}
 use Rattle.figures.proofs.BucketRows.{bucket-kept, bucket-within}
 
 -- what is at most k is below k or is k

@@ -11,22 +11,16 @@ use native.Mathlib.Numerals.{add-one}
 use lib.Dec.{eqb}
 use lib.ListN.{getD, set}
 use borrow.Author.Tests.{eq-eqb, ne-eqb}
-use Rattle.model.specs.Sums.{sum}
+use Rattle.model.specs.Sums.{sum, tabulate}
 use Rattle.model.specs.Sheets.{mostRefs}
 use Rattle.model.proofs.Bounds.{product-within}
-use Rattle.model.proofs.Sums.{sum-eq, last-or-below}
-use Rattle.figures.specs.Buckets.{lastBucket, bucketCount, tabulate}
+use Rattle.model.proofs.Sums.{sum-eq, last-or-below, sum-within}
+use Rattle.figures.specs.Buckets.{lastBucket, bucketCount}
 use Rattle.figures.specs.Pass.{Limited, withTouch, Within, gathered, bucketOver, allEmpty}
 use Rattle.figures.specs.Sweep.{noBucket}
 use Rattle.figures.specs.declared.Bucket.{Bucket}
 use Rattle.figures.specs.declared.pass.Touch.{Touch}
-use Rattle.figures.proofs.Tables.{getD-tabulate, tabulate-eq, tabulate-const, tabulate-set}
-
--- a sum of n terms within b
-pub sum-within : (n b : ℕ) (f : ℕ → ℕ) → ((t : ℕ) → t < n → f t ≤ b) → sum n f ≤ n * b
-unfolding sum
-sum-within zero b f le = omega arith
-sum-within (suc n) b f le = omega (arith, sum-within n b f (λ t l. le t (omega arith)), le n (omega arith))
+use Rattle.model.proofs.Tables.{getD-tabulate, tabulate-eq, tabulate-const, tabulate-set}
 
 module _ (counts : ℕ → Bool) (x : ℕ → Touch) where
   -- what touch n adds to bucket k where it adds v to its own

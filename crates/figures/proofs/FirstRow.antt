@@ -14,7 +14,8 @@ use Rattle.model.specs.declared.PriceRow.{PriceRow}
 use Rattle.model.proofs.Sums.{last-or-below}
 use Rattle.model.proofs.Ascent.{cross-trans}
 use Rattle.figures.specs.Buckets.{firstRow, lastBucket}
-use Rattle.figures.specs.Pass.{rowsOf, rowIn, Ascending}
+use Rattle.figures.specs.Pass.{rowsOf, Ascending}
+use Rattle.model.specs.Sheets.{rowIn}
 use Rattle.figures.proofs.Halving.{Bracket, bracket-start, bracket-halved, halved-within}
 use Rattle.figures.proofs.PriceRows.{length-rowsOf, getD-rowsOf}
 

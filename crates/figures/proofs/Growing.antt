@@ -15,10 +15,11 @@ use Rattle.model.proofs.LastTouches.{length-lastTable, lastTable-at}
 use Rattle.figures.specs.Buckets.{bucketCount}
 use Rattle.figures.specs.Pass.{bucketOver}
 use Rattle.figures.specs.declared.Bucket.{Bucket}
-use Rattle.figures.proofs.Tables.{tabulate-eq}
+use Rattle.model.proofs.Tables.{tabulate-eq}
 use Rattle.figures.proofs.Filling.{bucket-eq}
 use Rattle.figures.proofs.Touches.{touchAt, touches}
-use Rattle.figures.proofs.Passing.{Run, Passing, getD-any}
+use Rattle.figures.proofs.Passing.{Run, Passing}
+use Rattle.model.proofs.Lists.{getD-any}
 
 module _ (rows : List PriceRow) (T : Trace) (x : ℕ) where
   -- the touch in each old step stays

@@ -15,6 +15,5 @@ pub mod Rates
 pub mod Sweeps
 pub mod SweptRows
 pub mod SweptSheets
-pub mod Tables
 pub mod Touches
 pub mod WorkingSets

@@ -7,7 +7,6 @@ use native.Mathlib.Omega.{arith}
 use native.Mathlib.Nat.{mul-le-mul-left}
 use lib.Dec.{ltb}
 use borrow.Author.Tests.{ltb-true}
-use Rattle.model.specs.Costs.{unitCost}
 use Rattle.model.specs.Sums.{sum}
 use Rattle.model.specs.Traces.{Trace, segs, steps, entry, sizeOf, swapOf, unitOf, touching, overTouches, overSegments, unreferenced}
 use Rattle.model.specs.Figures.{refCost, refVolume, isReuse, ofTime, retentionOf, spaceOf, smaller, wsmem, wsspace, wsocc}
@@ -15,18 +14,13 @@ use Rattle.model.specs.Sheets.{SheetValue, Valid, traceOf}
 use Rattle.model.specs.Sheets.{largestA, mostSegs, largestSize, largestPrice, mostRefs}
 use Rattle.model.specs.declared.Kind.{Kind}
 use Rattle.model.specs.declared.Kind.the-variants.{Time, Space}
-use Rattle.model.proofs.Bounds.{product-within}
+use Rattle.model.proofs.Sums.{sum-within}
+use Rattle.model.proofs.Bounds.{product-within, unit-within}
 use Rattle.model.proofs.LastTouches.{unreferenced-within}
 use Rattle.figures.specs.Buckets.{bucketCount, bucketOf, filed, ended, tallyOf}
 use Rattle.figures.specs.Sweep.{summed, byKind, largestSwap, retentionBound, Holds}
 use Rattle.figures.proofs.Filed.{filed-below, ended-below}
 use Rattle.figures.proofs.Sweeps.{bucketBy, space-of, summed-buckets, summed-ends}
-
--- a sum of n terms within m
-sum-within : (n m : ℕ) (f : ℕ → ℕ) → ((t : ℕ) → t < n → f t ≤ m) → sum n f ≤ n * m
-unfolding sum
-sum-within zero m f le = omega arith
-sum-within (suc n) m f le = omega (arith, sum-within n m f (λ t lt. le t (omega arith)), le n (omega arith))
 
 -- a number that may be left out
 left-out : (b : Bool) (x m : ℕ) → x ≤ m → cond b x 0 ≤ m
@@ -43,12 +37,8 @@ touches-within T m g le = sum-within (steps T) m (touching T g) (λ t lt. go t l
     go t lt false e = rw e (omega arith)
 
 module _ (s : SheetValue) (v : Valid s) where
-  unit-within : (i : ℕ) → i < segs (traceOf s) → unitOf (traceOf s) i ≤ largestSize
-  unit-within i lt = go (s .kind) (v .size-within i lt)
-    where
-      go : (kind : Kind) {z : ℕ} → z ≤ largestSize → unitCost kind z ≤ largestSize
-      go Time le = omega arith
-      go Space le = le
+  units-within : (i : ℕ) → i < segs (traceOf s) → unitOf (traceOf s) i ≤ largestSize
+  units-within i lt = unit-within (s .kind) (sizeOf (traceOf s) i) largestSize (omega arith) (v .size-within i lt)
 
   swap-within : (i : ℕ) → i < segs (traceOf s) → swapOf (traceOf s) i ≤ largestSwap
   swap-within i lt =
@@ -63,7 +53,7 @@ module _ (s : SheetValue) (v : Valid s) where
       go (some k) below = product-within k x mostRefs largestSize (omega (arith, below k refl)) fit
 
   retention-within : (t i : ℕ) → t ≤ mostRefs → i < segs (traceOf s) → retentionOf (traceOf s) t i ≤ retentionBound
-  retention-within t i le lt = times-within t i (unitOf (traceOf s) i) le (unit-within i lt)
+  retention-within t i le lt = times-within t i (unitOf (traceOf s) i) le (units-within i lt)
 
   -- a bucket whose sums are within n times any bound of the items
   bucket-holds : (n : ℕ) (S : (ℕ → ℕ → ℕ) → ℕ)
@@ -125,7 +115,7 @@ module _ (s : SheetValue) (v : Valid s) where
       let T = traceOf s in
       omega (
         arith,
-        touches-within T largestSize (λ t i. unitOf T i) (λ t i lt l. unit-within i l),
+        touches-within T largestSize (λ t i. unitOf T i) (λ t i lt l. units-within i l),
         product-within (steps T) largestSize mostRefs largestSize (v .refs-within) (omega arith),
       )
 

@@ -8,18 +8,18 @@ use lib.ListN.{getD}
 use borrow.Author.Tests.{le-leb, lt-leb}
 use Rattle.model.specs.Traces.{Trace, unreferenced}
 use Rattle.model.specs.Sheets.{mostSegs}
-use Rattle.model.specs.LastTouches.{untouchedMark, lastFrom, lastTable}
+use Rattle.model.specs.LastTouches.{untouchedMark, lastFrom, lastTable, allUntouched}
 use Rattle.model.proofs.LastTouches.{lastTable-at, lastTable-start, unreferenced-within}
-use Rattle.figures.specs.Pass.{timeOf, allUntouched}
+use Rattle.figures.specs.Pass.{timeSince}
 
 pub last-start : (T : Trace) → ((i : ℕ) → T .start i ≡ false) → allUntouched ≡ lastTable T 0
 unfolding allUntouched
 last-start T fresh = sym (lastTable-start T fresh)
 
-pub last-time : (T : Trace) (n i d : ℕ) → i < mostSegs → n < untouchedMark → timeOf n (getD (lastTable T n) i d) ≡ unreferenced T n i
+pub last-time : (T : Trace) (n i d : ℕ) → i < mostSegs → n < untouchedMark → timeSince n (getD (lastTable T n) i d) ≡ unreferenced T n i
 last-time T n i d l lt = rw (lastTable-at T n i d l) (go (unreferenced T n i) (unreferenced-within T n i))
   where
-    go : (o : Option ℕ) → ((k : ℕ) → o ≡ some k → k ≤ n) → timeOf n (lastFrom n o) ≡ o
+    go : (o : Option ℕ) → ((k : ℕ) → o ≡ some k → k ≤ n) → timeSince n (lastFrom n o) ≡ o
     go none below = rw (lt-leb untouchedMark n lt) refl
     go (some k) below =
         let before = below k refl in

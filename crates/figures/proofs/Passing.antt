@@ -1,5 +1,5 @@
 -- The loop over the references: what holds after n steps, at the start and at the end. Assumes nothing.
-use Prim.Native.Nat.{ℕ, zero, suc, _+_, _*_, _^_, _≤_, _<_}
+use Prim.Native.Nat.{ℕ, zero, suc, _+_, _-_, _*_, _^_, _≤_, _<_}
 use mathlib.Core.Path.{_≡_, refl, sym, _∙_}
 use mathlib.Core.List.{List, [], _∷_}
 use native.Mathlib.Omega.{arith}
@@ -16,19 +16,15 @@ use Rattle.model.proofs.Sums.{sum-suc, sum-none}
 use Rattle.model.specs.LastTouches.{lastTable}
 use Rattle.model.proofs.LastTouches.{lastTable-step, lastTable-idle}
 use Rattle.figures.specs.Buckets.{bucketCount, bucketAfter}
-use Rattle.figures.specs.Pass.{Ascending, touchOf, Limited, withTouch, bucketOver, timeOf, allEmpty, passedOf}
+use Rattle.figures.specs.Pass.{Ascending, touchOf, Limited, withTouch, bucketOver, timeSince, allEmpty, passedOf}
 use Rattle.figures.specs.declared.Bucket.{Bucket}
 use Rattle.figures.specs.declared.pass.Touch.{Touch}
-use Rattle.figures.proofs.Tables.{tabulate-eq}
+use Rattle.model.proofs.Tables.{tabulate-eq}
 use Rattle.figures.proofs.Filling.{Filling, filling-start, filling-step, filling-skip}
-use Rattle.figures.proofs.Touches.{unit-within, touchAt, touches, bucketAfter-over}
+use Rattle.model.proofs.Bounds.{unit-within}
+use Rattle.model.proofs.Lists.{getD-any}
+use Rattle.figures.proofs.Touches.{touchAt, touches, bucketAfter-over}
 use Rattle.figures.proofs.Marks.{last-time}
-
--- an entry of a list, whatever stands for those beyond it
-pub getD-any : (l : List ℕ) (i d e : ℕ) → i < length l → getD l i d ≡ getD l i e
-getD-any [] i d e lt = absurd (omega arith)
-getD-any (x ∷ l) zero d e lt = refl
-getD-any (x ∷ l) (suc i) d e lt = getD-any l i d e (omega arith)
 
 -- a run within the limits
 pub record Run (T : Trace) : Type 0 where
@@ -108,7 +104,7 @@ module _ (rows : List PriceRow) (T : Trace) (run : Run T) where
     entry-within = omega (arith, segment, run .few-segs)
 
     -- the touch that the table of last touches tells is that of the step
-    passing-touch : (y : Touch) → y ≡ touchOf (T .kind) (T .a) rows (sizeOf T (entry T n)) (timeOf n (getD last (entry T n) 0))
+    passing-touch : (y : Touch) → y ≡ touchOf (T .kind) (T .a) rows (sizeOf T (entry T n)) (timeSince n (getD last (entry T n) 0))
         → y ≡ touchAt rows T n (entry T n)
     passing-touch y is =
         rw (s .last-are, last-time T n (entry T n) 0 entry-within (omega (arith, run .few-steps))) at is
@@ -120,14 +116,14 @@ module _ (rows : List PriceRow) (T : Trace) (run : Run T) where
     -- there is room for its cost in Q and for its size in V
     pub cost-room : (u : ℕ) → u ≡ unitOf T (getD (T .refs) n 0) → cost + u < 2 ^ 64
     cost-room u unit =
-        omega (arith, s .cost-within, run .few-steps, unit-within (T .kind) (sizeOf T (getD (T .refs) n 0)) size-here)
+        omega (arith, s .cost-within, run .few-steps, unit-within (T .kind) (sizeOf T (getD (T .refs) n 0)) (2 ^ 16 - 1) (omega arith) (omega (arith, size-here)))
 
     pub volume-room : volume + sizeOf T (getD (T .refs) n 0) < 2 ^ 64
     volume-room = omega (arith, s .volume-within, run .few-steps, size-here)
 
     -- one more step, as the code makes it
     pub passing-step : (y : Touch) → Limited y
-        → y ≡ touchOf (T .kind) (T .a) rows (sizeOf T (getD (T .refs) n 0)) (timeOf n (getD last (getD (T .refs) n 0) 0))
+        → y ≡ touchOf (T .kind) (T .a) rows (sizeOf T (getD (T .refs) n 0)) (timeSince n (getD last (getD (T .refs) n 0) 0))
         → (b d : Bucket) → b ≡ withTouch (getD buckets (y .bucket) d) y → (u : ℕ) → u ≡ unitOf T (getD (T .refs) n 0)
         → Passing rows T (n + 1) (set buckets (y .bucket) b) (set last (getD (T .refs) n 0) (n + 1)) (cost + u)
         (volume + sizeOf T (getD (T .refs) n 0))
@@ -135,7 +131,7 @@ module _ (rows : List PriceRow) (T : Trace) (run : Run T) where
         let same = run .is-entry n lt in
         rw same (go (rw same at is) (rw same at unit) (rw same at size-here))
       where
-        go : y ≡ touchOf (T .kind) (T .a) rows (sizeOf T (entry T n)) (timeOf n (getD last (entry T n) 0))
+        go : y ≡ touchOf (T .kind) (T .a) rows (sizeOf T (entry T n)) (timeSince n (getD last (entry T n) 0))
             → u ≡ unitOf T (entry T n) → sizeOf T (entry T n) < 2 ^ 16
             → Passing rows T (n + 1) (set buckets (y .bucket) b) (set last (entry T n) (n + 1)) (cost + u)
             (volume + sizeOf T (entry T n))
@@ -147,7 +143,7 @@ module _ (rows : List PriceRow) (T : Trace) (run : Run T) where
                   (omega (arith, run .few-steps)) y lim (passing-touch y is) b d (rw (lt-ltb (entry T n) (segs T) segment) added);
               last-are = rw (s .last-are, add-one n) (lastTable-step T n segment (run .few-segs));
               cost-is = rw (add-one n) (omega (arith, touching-here n segment (λ t i. unitOf T i), s .cost-is));
-              cost-within = omega (arith, s .cost-within, unit-within (T .kind) (sizeOf T (entry T n)) small);
+              cost-within = omega (arith, s .cost-within, unit-within (T .kind) (sizeOf T (entry T n)) (2 ^ 16 - 1) (omega arith) (omega (arith, small)));
               volume-is = rw (add-one n) (omega (arith, touching-here n segment (λ t i. sizeOf T i), s .volume-is));
               volume-within = omega (arith, s .volume-within);
             }

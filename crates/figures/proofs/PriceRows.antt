@@ -7,7 +7,8 @@ use native.Mathlib.Numerals.{add-one}
 use lib.ListN.{length, getD, take, set, length-set, length-map, List·getD-map}
 use lib.Seq.{take-all, take-suc-set, take-suc}
 use Rattle.model.specs.declared.PriceRow.{PriceRow}
-use Rattle.figures.specs.Pass.{rowsOf, pricesOf, rowIn}
+use Rattle.figures.specs.Pass.{rowsOf, pricesOf}
+use Rattle.model.specs.Sheets.{rowIn}
 use Rattle.figures.specs.declared.pass.Prices.{Prices}
 
 pub length-rowsOf : (hs ds : List ℕ) → length hs ≡ length ds → length (rowsOf hs ds) ≡ length hs

@@ -15,14 +15,14 @@ use Rattle.model.specs.Sheets.{mostSegs, mostRefs, largestA, largestSize}
 use Rattle.model.specs.declared.Kind.{Kind}
 use Rattle.model.specs.declared.Kind.the-variants.{Time, Space}
 use Rattle.model.specs.Figures.{ofTime, isReuse}
-use Rattle.model.proofs.Bounds.{product-within}
+use Rattle.model.proofs.Bounds.{product-within, unit-within}
 use Rattle.model.proofs.Sums.{last-or-below}
 use Rattle.figures.specs.Buckets.{firstRow, lastBucket}
-use Rattle.figures.specs.Pass.{rowsOf, timeOf, unplaced, touchOf, Ascending, IsBucket, Paired}
+use Rattle.figures.specs.Pass.{rowsOf, timeSince, unplaced, touchOf, Ascending, IsBucket, Paired}
 use Rattle.figures.specs.Quotients.{unitsFor, quotientOf, rateOf, Quoted, Rated, IsPlace}
 use Rattle.figures.proofs.Quotients.{quotient-low, quoted-rises, placed-row}
 use Rattle.figures.specs.declared.pass.Touch.{Touch}
-use Rattle.figures.proofs.Touches.{unit-within, placed}
+use Rattle.figures.proofs.Touches.{placed}
 
 -- the units, without a weight of volume and with one
 pub units-none : unitsFor 0 ≡ 2 ^ 27
@@ -52,7 +52,7 @@ fine-units (suc a) z t la lz lt =
 pub rate-within : (kind : Kind) (a z : ℕ) → z < 2 ^ 16 → rateOf kind a z ≤ 2 ^ 47
 unfolding rateOf quotientOf
 rate-within kind zero z lz =
-    rw units-none (omega (arith, unit-within kind z lz, div-le-self (unitCost kind z * 2 ^ 27) (swapCost 0 z)))
+    rw units-none (omega (arith, unit-within kind z (2 ^ 16 - 1) (omega arith) (omega arith), div-le-self (unitCost kind z * 2 ^ 27) (swapCost 0 z)))
 rate-within Time (suc a) z lz = rw (units-some (suc a) (omega arith)) (div-le-self (1 * 2 ^ 47) (swapCost (suc a) z))
 rate-within Space (suc a) z lz = rw (units-some (suc a) (omega arith)) (go (leb q (2 ^ 47)) refl)
   where
@@ -70,12 +70,12 @@ rate-within Space (suc a) z lz = rw (units-some (suc a) (omega arith)) (go (leb 
 module _ (kind : Kind) (a : ℕ) (hs ds qs : List ℕ) (paired : Paired hs ds) (quoted : Quoted (unitsFor a) hs ds qs) where
   place-bucket : (z rate mark n k : ℕ) → a ≤ largestA → z ≤ largestSize → n ≤ mostRefs → rate ≡ rateOf kind a z
       → IsPlace qs (length hs) rate mark n k
-      → IsBucket hs ds (isReuse (timeOf n mark)) (ofTime (retention kind z) (timeOf n mark)) (swapCost a z) k
+      → IsBucket hs ds (isReuse (timeSince n mark)) (ofTime (retention kind z) (timeSince n mark)) (swapCost a z) k
   unfolding rateOf
   place-bucket z rate mark n k la lz ln is place up = go (leb mark n) refl
     where
       go : (b : Bool) → leb mark n ≡ b
-          → k ≡ cond (isReuse (timeOf n mark)) (firstRow (rowsOf hs ds) 0 (ofTime (retention kind z) (timeOf n mark)) (swapCost a z)) lastBucket
+          → k ≡ cond (isReuse (timeSince n mark)) (firstRow (rowsOf hs ds) 0 (ofTime (retention kind z) (timeSince n mark)) (swapCost a z)) lastBucket
       go true e =
           rw e
           (placed-row (unitsFor a) hs ds qs (paired .equal) quoted up (n - mark) (unitCost kind z) (swapCost a z) k (omega arith)
@@ -85,8 +85,8 @@ module _ (kind : Kind) (a : ℕ) (hs ds qs : List ℕ) (paired : Paired hs ds) (
 
   -- so the touch with that bucket is that of the definitions
   pub touch-placed : (z rate mark n : ℕ) (x : Touch) (k : ℕ) → a ≤ largestA → z ≤ largestSize → n ≤ mostRefs
-      → rate ≡ rateOf kind a z → x ≡ unplaced kind a z (timeOf n mark) → IsPlace qs (length hs) rate mark n k → Ascending (rowsOf hs ds)
-      → placed x k ≡ touchOf kind a (rowsOf hs ds) z (timeOf n mark)
+      → rate ≡ rateOf kind a z → x ≡ unplaced kind a z (timeSince n mark) → IsPlace qs (length hs) rate mark n k → Ascending (rowsOf hs ds)
+      → placed x k ≡ touchOf kind a (rowsOf hs ds) z (timeSince n mark)
   unfolding touchOf unplaced
   touch-placed z rate mark n x k la lz ln is touch place up =
       rw (place-bucket z rate mark n k la lz ln is place up, touch) refl

@@ -7,7 +7,7 @@ use mathlib.Core.Option.{Option, none, some}
 use native.Mathlib.Omega.{arith}
 use lib.ListN.{length, getD}
 use Rattle.model.specs.Costs.{retention}
-use Rattle.model.specs.Sums.{sum}
+use Rattle.model.specs.Sums.{sum, tabulate}
 use Rattle.model.specs.Traces.{Trace, segs, steps, sizeOf, swapOf, overTouches, overSegments}
 use Rattle.model.specs.Figures.{ofTime, retentionOf, kept}
 use Rattle.model.specs.Sheets.{SheetValue, Valid, traceOf, rowAt, mostSegs, mostRefs}
@@ -15,10 +15,10 @@ use Rattle.model.specs.declared.Kind.{Kind}
 use Rattle.model.specs.declared.Kind.the-variants.{Time, Space}
 use Rattle.model.specs.declared.PriceRow.{PriceRow}
 use Rattle.model.proofs.Sums.{sum-eq}
-use Rattle.figures.specs.Buckets.{bucketCount, filed, ended, bucketAfter, endBucket, tabulate, tallyOf}
+use Rattle.figures.specs.Buckets.{bucketCount, filed, ended, bucketAfter, endBucket, tallyOf}
 use Rattle.figures.specs.Sweep.{noBucket, added, summed, byKind, Holds}
 use Rattle.figures.specs.declared.Bucket.{Bucket}
-use Rattle.figures.proofs.Tables.{getD-tabulate}
+use Rattle.model.proofs.Tables.{getD-tabulate}
 use Rattle.figures.proofs.Filed.{filed-all, filed-kept, ended-kept}
 
 pub summed-none : (bs : List Bucket) → summed bs 0 ≡ noBucket

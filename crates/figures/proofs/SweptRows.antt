@@ -5,15 +5,14 @@ use mathlib.Core.Path.{_≡_, refl, ap, _∙_}
 use mathlib.Core.Bool.{Bool, false, cond}
 use native.Mathlib.Omega.{arith}
 use Rattle.model.specs.Traces.{Trace, steps, sizeOf, swapOf, overTouches, overSegments, unreferenced}
-use Rattle.model.specs.Figures.{refCost, refVolume, retentionOf, spaceOf, kept, smaller}
-use Rattle.model.specs.Figures.{misses, volume, load, optmem, opttotal, optocc, wsmem, wsspace, wsocc, mean}
+use Rattle.model.specs.Figures.{refCost, refVolume, retentionOf, spaceOf, kept, smaller, misses, volume, load, optmem, opttotal, optocc, wsmem, wsspace, wsocc, mean}
 use Rattle.model.specs.Rows.{rowFigures}
 use Rattle.model.specs.declared.Kind.{Kind}
 use Rattle.model.specs.declared.Kind.the-variants.{Time, Space}
 use Rattle.model.specs.declared.PriceRow.{PriceRow}
 use Rattle.model.proofs.FirstTouches.{started}
 use Rattle.model.proofs.Loads.{overTouches-eq}
-use Rattle.figures.specs.Sweep.{withStart, byKind, loadFrom, wsmemFrom, wsspaceFrom, wsoccFrom, rowFrom, Parts}
+use Rattle.figures.specs.Sweep.{withStart, byKind, loadFrom, wsmemFrom, wsspaceFrom, wsoccFrom, rowFrom, KeptWithin}
 use Rattle.figures.specs.declared.Bucket.{Bucket}
 use Rattle.figures.proofs.Sweeps.{bucketBy, space-of}
 use Rattle.figures.proofs.WorkingSets.{touches-split, kept-swaps-within, working-set, smaller-priced, sized-priced}
@@ -77,7 +76,7 @@ module _ (T : Trace) (row : PriceRow) where
       sums Space f g = refl
 
   -- what is kept is within the whole
-  pub sweep-parts : Parts allSums keptSums endSums
+  pub sweep-parts : KeptWithin allSums keptSums endSums
   sweep-parts =
       let h = row .h in
       let d = row .d in

@@ -16,15 +16,16 @@ use Rattle.model.specs.Sheets.{SheetValue, Valid, traceOf, rowAt, mostSegs, mos
 use Rattle.model.specs.Rows.{zeroFigures}
 use Rattle.model.specs.declared.PriceRow.{PriceRow}
 use Rattle.model.specs.declared.RowFigures.{RowFigures}
-use Rattle.figures.specs.Buckets.{bucketCount, tabulate, tallyOf}
+use Rattle.figures.specs.Buckets.{bucketCount, tallyOf}
+use Rattle.model.specs.Sums.{tabulate}
 use Rattle.figures.specs.Rows.{figuresAt, allFigures}
-use Rattle.figures.specs.Sweep.{summed, rowFrom, noFigures, Holds, RowFits, Tallied}
+use Rattle.figures.specs.Sweep.{summed, rowFrom, noRowFigures, Holds, RowFits, Tallied}
 use Rattle.figures.specs.declared.Bucket.{Bucket}
 use Rattle.figures.specs.declared.Tally.{Tally}
 use Rattle.figures.proofs.Limits.{buckets-hold, ends-hold, cost-within, volume-within, wsocc-within}
 use Rattle.figures.proofs.Sweeps.{bucketBy, all-sums, kept-sums, ends-sums}
 use Rattle.figures.proofs.SweptRows.{allSums, sweep-parts, wsocc-swept, row-swept}
-use Rattle.figures.proofs.Tables.{tabulate-eq, tabulate-set}
+use Rattle.model.proofs.Tables.{tabulate-eq, tabulate-set}
 
 -- with an empty start set all sums are those of the touches
 none-more : (s : SheetValue) (row : PriceRow) → allSums (traceOf s) row ≡ bucketBy (traceOf s) (λ g. overTouches (traceOf s) g)
@@ -65,8 +66,8 @@ module _ (s : SheetValue) (v : Valid s) (r : ℕ) (lt : r < length (s .rows)) wh
 abbrev pub figuresUpTo : SheetValue → ℕ → List RowFigures
 figuresUpTo s n = tabulate mostRows (λ r. cond (ltb r n) (figuresAt s r) zeroFigures)
 
-pub figures-none : (s : SheetValue) → noFigures ≡ figuresUpTo s 0
-unfolding noFigures
+pub figures-none : (s : SheetValue) → noRowFigures ≡ figuresUpTo s 0
+unfolding noRowFigures
 figures-none s =
     tabulate-eq mostRows (λ r. zeroFigures) (λ r. cond (ltb r 0) (figuresAt s r) zeroFigures) (λ r lt. rw (le-ltb r 0 (omega arith)))
 

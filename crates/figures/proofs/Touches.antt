@@ -5,43 +5,27 @@ use mathlib.Core.Path.{_≡_, refl}
 use mathlib.Core.Bool.{Bool, true, false}
 use mathlib.Core.List.{List}
 use mathlib.Core.Option.{Option}
-use native.Mathlib.Omega.{arith}
 use lib.Dec.{ltb}
 use borrow.Author.Tests.{le-leb, lt-leb}
-use Rattle.model.specs.Costs.{unitCost, retention, swapCost}
+use Rattle.model.specs.Costs.{retention, swapCost}
 use Rattle.model.specs.Traces.{Trace, segs, steps, entry, sizeOf, touching, unreferenced}
 use Rattle.model.specs.declared.Kind.{Kind}
 use Rattle.model.specs.declared.Kind.the-variants.{Time, Space}
 use Rattle.model.specs.declared.PriceRow.{PriceRow}
-use Rattle.model.proofs.Bounds.{product-within}
 use Rattle.figures.specs.Buckets.{lastBucket, bucketOf, filed, bucketAfter, ended, endBucket}
-use Rattle.figures.specs.Pass.{touchOf, unplaced, gathered, bucketOver, timeOf, IsBucket, Ascending, Limited, rowsOf}
+use Rattle.figures.specs.Pass.{touchOf, unplaced, gathered, bucketOver, timeSince, IsBucket, Ascending, Limited, rowsOf}
 use Rattle.figures.specs.declared.pass.Touch.{Touch}
-
--- a step costs less than 2 ^ 16 memory units
-pub unit-within : (kind : Kind) (z : ℕ) → z < 2 ^ 16 → unitCost kind z < 2 ^ 16
-unit-within Time z lt = omega arith
-unit-within Space z lt = lt
-
--- retention and swap cost of a segment whose size is a 16-bit number
-pub retention-within : (kind : Kind) (z k : ℕ) → z < 2 ^ 16 → k < 2 ^ 16 → retention kind z k < 2 ^ 32
-retention-within kind z k lz lk =
-    let unit = unit-within kind z lz in
-    omega (arith, product-within k (unitCost kind z) (2 ^ 16 - 1) (2 ^ 16) (omega arith) (omega arith))
-
-pub swap-within : (a z : ℕ) → a < 2 ^ 8 → z < 2 ^ 16 → swapCost a z < 2 ^ 32
-swap-within a z la lz = omega (arith, product-within a z (2 ^ 8) (2 ^ 16) (omega arith) (omega arith))
 
 module _ (kind : Kind) (a z n mark w : ℕ) (swap : w ≡ swapCost a z) where
   -- a segment with a mark up to step n was touched
   pub reuse-is : mark ≤ n → (R : ℕ) → R ≡ retention kind z (n - mark)
-      → record { reuse = true; size = z; retention = R; swap = w; bucket = lastBucket } ≡ unplaced kind a z (timeOf n mark)
+      → record { reuse = true; size = z; retention = R; swap = w; bucket = lastBucket } ≡ unplaced kind a z (timeSince n mark)
   unfolding unplaced
   reuse-is le R retained = rw (le-leb mark n le, retained, swap) refl
 
   -- with a later one it was not
   pub first-is : n < mark
-      → record { reuse = false; size = z; retention = 0; swap = w; bucket = lastBucket } ≡ unplaced kind a z (timeOf n mark)
+      → record { reuse = false; size = z; retention = 0; swap = w; bucket = lastBucket } ≡ unplaced kind a z (timeSince n mark)
   unfolding unplaced
   first-is lt = rw (lt-leb mark n lt, swap) refl
 

@@ -1,11 +1,11 @@
 -- The 65 buckets: one per row and the last, which the single pass fills. Each reuse goes to the first row that keeps it; a reuse that
 -- no row keeps, and each first touch (with retention 0), goes to the last bucket. End intervals are counted apart. Assumes nothing.
-use Prim.Native.Nat.{ℕ, zero, suc, _*_}
+use Prim.Native.Nat.{ℕ, suc, _*_}
 use mathlib.Core.Bool.{cond}
-use mathlib.Core.List.{List, [], _∷_, _++_}
+use mathlib.Core.List.{List, [], _∷_}
 use lib.Dec.{eqb}
 use Rattle.model.specs.Costs.{keeps}
-use Rattle.model.specs.Sums.{sum}
+use Rattle.model.specs.Sums.{sum, tabulate}
 use Rattle.model.specs.Traces.{Trace, steps, sizeOf, swapOf, touching, unreferenced}
 use Rattle.model.specs.Figures.{retentionOf, isReuse, refCost, refVolume}
 use Rattle.model.specs.declared.PriceRow.{PriceRow}
@@ -60,11 +60,6 @@ endBucket rows T m k =
       retentionz = ended rows T m k (λ i. retentionOf T (steps T) i * sizeOf T i);
       swapz = ended rows T m k (λ i. swapOf T i * sizeOf T i);
     }
-
--- f 0, f 1, .., f (n - 1)
-unfoldable pub tabulate : {A : Type 0} → ℕ → (ℕ → A) → List A
-tabulate zero f = []
-tabulate (suc n) f = tabulate n f ++ (f n ∷ [])
 
 -- what the single pass hands over: the buckets of the touches and of the end intervals, Q and V
 unfoldable pub tallyOf : List PriceRow → Trace → Tally

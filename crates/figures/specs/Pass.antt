@@ -8,15 +8,14 @@ use mathlib.Core.Option.{Option, none, some}
 use lib.Dec.{eqb, leb}
 use lib.ListN.{length, getD, replicate}
 use Rattle.model.specs.Costs.{swapCost, retention}
-use Rattle.model.specs.Sums.{sum}
+use Rattle.model.specs.Sums.{sum, tabulate}
 use Rattle.model.specs.Traces.{Trace, steps}
 use Rattle.model.specs.Figures.{ofTime, isReuse, refCost, refVolume}
-use Rattle.model.specs.Sheets.{SheetValue, traceOf, mostSegs, mostRows, mostRefs, largestSize, Exceeds}
+use Rattle.model.specs.Sheets.{SheetValue, traceOf, mostSegs, mostRows, mostRefs, largestSize, rowIn, Exceeds, sheetWith}
 use Rattle.model.specs.declared.Kind.{Kind}
 use Rattle.model.specs.declared.PriceRow.{PriceRow}
-use Rattle.model.specs.LastTouches.{untouchedMark, lastTable}
-use Rattle.figures.specs.Buckets.{lastBucket, bucketCount, firstRow, bucketAfter, tabulate, tallyOf}
-use Rattle.figures.specs.Rows.{partsOf}
+use Rattle.model.specs.LastTouches.{lastTable}
+use Rattle.figures.specs.Buckets.{lastBucket, bucketCount, firstRow, bucketAfter, tallyOf}
 use Rattle.figures.specs.Sweep.{noBucket}
 use Rattle.figures.specs.declared.Bucket.{Bucket}
 use Rattle.figures.specs.declared.Tally.{Tally}
@@ -34,10 +33,6 @@ rowsOf (h ∷ hs) (d ∷ ds) = record { h = h; d = d } ∷ rowsOf hs ds
 abbrev pub pricesOf : List PriceRow → Prices
 pricesOf rows = record { h = map (λ q. q .h) rows; d = map (λ q. q .d) rows }
 
--- row r of the rows
-abbrev pub rowIn : List PriceRow → ℕ → PriceRow
-rowIn rows r = getD rows r (record { h = 0; d = 0 })
-
 -- each row has a price of memory, and the thresholds ascend
 pub record Ascending (rows : List PriceRow) : Type 0 where
   pub some-d : (r : ℕ) → r < length rows → 1 ≤ rowIn rows r .d
@@ -50,7 +45,7 @@ pub record Paired (hs ds : List ℕ) : Type 0 where
 
 -- a sheet's value whose prices stand apart
 abbrev pub sheetApart : Kind → ℕ → List ℕ → List ℕ → List ℕ → List ℕ → SheetValue
-sheetApart kind a sizes hs ds refs = partsOf kind a sizes (rowsOf hs ds) refs
+sheetApart kind a sizes hs ds refs = sheetWith kind a sizes (rowsOf hs ds) refs
 
 -- r is the first row that keeps a reuse, where the thresholds ascend
 abbrev pub IsFirstRow : List ℕ → List ℕ → ℕ → ℕ → ℕ → Type 0
@@ -131,17 +126,14 @@ bucketOver counts x n k =
     }
 
 -- the unreferenced time after n steps of a segment whose entry in the table of last touches is `mark`; untouched is past every step
-abbrev pub timeOf : ℕ → ℕ → Option ℕ
-timeOf n mark = cond (leb mark n) (some (n - mark)) none
+abbrev pub timeSince : ℕ → ℕ → Option ℕ
+timeSince n mark = cond (leb mark n) (some (n - mark)) none
 
 -- x is the touch, after n steps, of a segment of size z with a mark, where the thresholds ascend and z is at most a sheet's largest size
 abbrev pub IsTouch : Kind → ℕ → List ℕ → List ℕ → ℕ → ℕ → ℕ → Touch → Type 0
-IsTouch kind a hs ds z mark n x = Ascending (rowsOf hs ds) → z ≤ largestSize → x ≡ touchOf kind a (rowsOf hs ds) z (timeOf n mark)
+IsTouch kind a hs ds z mark n x = Ascending (rowsOf hs ds) → z ≤ largestSize → x ≡ touchOf kind a (rowsOf hs ds) z (timeSince n mark)
 
--- the table before step 1, and buckets that hold nothing
-unfoldable pub allUntouched : List ℕ
-allUntouched = replicate mostSegs untouchedMark
-
+-- buckets that hold nothing
 unfoldable pub allEmpty : List Bucket
 allEmpty = replicate bucketCount noBucket
 
@@ -164,10 +156,10 @@ sheetTally s = tallyOf (s .rows) (traceOf s)
 
 -- the end interval of segment i after n steps, from the sizes and the table of last touches
 abbrev pub endTouch : Kind → ℕ → List PriceRow → List ℕ → List ℕ → ℕ → ℕ → Touch
-endTouch kind a rows sizes last n i = touchOf kind a rows (getD sizes i 0) (timeOf n (getD last i 0))
+endTouch kind a rows sizes last n i = touchOf kind a rows (getD sizes i 0) (timeSince n (getD last i 0))
 
 -- sizes and steps as a sheet has them
-pub record Sized (sizes : List ℕ) (n : ℕ) : Type 0 where
+pub record SizesWithin (sizes : List ℕ) (n : ℕ) : Type 0 where
   pub few-segs : length sizes ≤ mostSegs
   pub size-within : (i : ℕ) → i < length sizes → getD sizes i 0 ≤ largestSize
   pub few-steps : n ≤ mostRefs

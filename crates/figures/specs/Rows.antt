@@ -13,11 +13,7 @@ use Rattle.model.specs.declared.Refusal.{Refusal}
 use Rattle.model.specs.declared.Refusal.the-variants.{NoSuchRow}
 use Rattle.model.specs.declared.Verdict.the-variants.{Accepted, Refused}
 use Rattle.figures.specs.declared.FiguresAnswer.{FiguresAnswer}
-use Rattle.figures.specs.Buckets.{tabulate}
-
--- a sheet's value from its parts
-abbrev pub partsOf : Kind → ℕ → List ℕ → List PriceRow → List ℕ → SheetValue
-partsOf kind a sizes rows refs = record { kind = kind; a = a; sizes = sizes; rows = rows; refs = refs }
+use Rattle.model.specs.Sums.{tabulate}
 
 -- the figures of row r of a sheet
 abbrev pub figuresAt : SheetValue → ℕ → RowFigures

@@ -8,14 +8,14 @@ use mathlib.Core.List.{List}
 use lib.ListN.{getD}
 use lib.Dec.{eqb}
 use Rattle.model.specs.Costs.{totalCost}
-use Rattle.model.specs.Sums.{sum}
+use Rattle.model.specs.Sums.{sum, tabulate}
 use Rattle.model.specs.Rows.{zeroFigures}
 use Rattle.model.specs.Sheets.{SheetValue, Valid, traceOf, largestA, mostSegs, largestSize, mostRows, mostRefs}
 use Rattle.model.specs.declared.Kind.{Kind}
 use Rattle.model.specs.declared.Kind.the-variants.{Time, Space}
 use Rattle.model.specs.declared.PriceRow.{PriceRow}
 use Rattle.model.specs.declared.RowFigures.{RowFigures}
-use Rattle.figures.specs.Buckets.{tabulate, tallyOf}
+use Rattle.figures.specs.Buckets.{tallyOf}
 use Rattle.figures.specs.declared.Bucket.{Bucket}
 use Rattle.figures.specs.declared.Tally.{Tally}
 
@@ -120,18 +120,27 @@ pub record Holds (n : ℕ) (b : Bucket) : Type 0 where
   pub swapzs : b .swapz ≤ n * (largestSwap * largestSize)
 
 -- what is kept is within the whole: of the swap costs, also together with the end intervals that are kept
-pub record Parts (all kept ends : Bucket) : Type 0 where
+pub record KeptWithin (all kept ends : Bucket) : Type 0 where
   pub counts : kept .count ≤ all .count
   pub volumes : kept .volume ≤ all .volume
   pub swaps : kept .swap + ends .swap ≤ all .swap
   pub swapzs : kept .swapz + ends .swapz ≤ all .swapz
+
+-- sums of which a working set can be made
+pub record Summable (cost volume : ℕ) (all kept ends : Bucket) : Type 0 where
+  pub cost-fits : cost ≤ mostRefs * largestSize
+  pub volume-fits : volume ≤ mostRefs * largestSize
+  pub all-holds : Holds mostRefs all
+  pub kept-holds : Holds mostRefs kept
+  pub ends-holds : Holds mostSegs ends
+  pub parts : KeptWithin all kept ends
 
 -- sums from which no figure of the row exceeds 64 bits
 pub record RowFits (kind : Kind) (row : PriceRow) (refs cost volume : ℕ) (all kept ends : Bucket) : Type 0 where
   pub all-holds : Holds mostRefs all
   pub kept-holds : Holds mostRefs kept
   pub ends-holds : Holds mostSegs ends
-  pub parts : Parts all kept ends
+  pub parts : KeptWithin all kept ends
   pub cost-fits : cost ≤ mostRefs * largestSize
   pub volume-fits : volume ≤ mostRefs * largestSize
   pub wsocc-fits : wsoccFrom kind row cost volume all kept ends < 2 ^ 53
@@ -139,8 +148,8 @@ pub record RowFits (kind : Kind) (row : PriceRow) (refs cost volume : ℕ) (all 
   pub refs-fit : refs ≤ mostRefs
 
 -- no row has figures yet
-unfoldable pub noFigures : List RowFigures
-noFigures = tabulate mostRows (λ r. zeroFigures)
+unfoldable pub noRowFigures : List RowFigures
+noRowFigures = tabulate mostRows (λ r. zeroFigures)
 
 -- a tally that belongs to a sheet's value within the limits
 pub record Tallied (s : SheetValue) (tally : Tally) : Type 0 where

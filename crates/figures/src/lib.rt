@@ -7,12 +7,14 @@ pub mod search;
 use model::Kind;
 use model::PriceRow;
 use model::RowFigures;
+use model::Sheet;
 use model::Verdict;
 ghost use mathlib.Core.Path.{_≡_};
 ghost use Prim.Native.Nat.{_≤_};
 ghost use lib.ListN.{take};
-ghost use Rattle.model.specs.Sheets.{Valid};
-ghost use Rattle.figures.specs.Rows.{partsOf, allFigures};
+ghost use Rattle.model.specs.Sheets.{Valid, mostRows};
+ghost use Rattle.figures.specs.Rows.{allFigures};
+ghost use Rattle.model.specs.Sheets.{sheetWith};
 
 // A bucket: how many touches it holds, their sizes, retentions and swap costs added, the last two also with each item multiplied by
 // its size.
@@ -25,12 +27,24 @@ pub struct Bucket {
     pub swapz: u64,
 }
 
+impl Bucket {
+    // How many sums.
+    pub const SUMS: usize = 6;
+}
+
 // What the pass hands over: a bucket per row and the last, for touches and for end intervals; Q and V.
 pub struct Tally {
-    pub buckets: [Bucket; 65],
-    pub ends: [Bucket; 65],
+    pub buckets: [Bucket; Tally::BUCKETS],
+    pub ends: [Bucket; Tally::BUCKETS],
     pub cost: u64,
     pub volume: u64,
+}
+
+impl Tally {
+    // How many buckets: one per row, and the last.
+    pub const BUCKETS: usize = Sheet::MAX_ROWS + 1;
+    // The last bucket: first touches, and reuses that no row keeps.
+    pub const LAST: usize = Sheet::MAX_ROWS;
 }
 
 // The figures of a row, all zero where a call is refused.
@@ -43,13 +57,13 @@ pub struct FiguresAnswer {
 pub fn figures(
     kind: Kind,
     a: u8,
-    prices: [PriceRow; 64],
+    prices: [PriceRow; Sheet::MAX_ROWS],
     rows: usize,
     sizes: &[u16],
     refs: &[u16],
-) -> [RowFigures; 64]
-    requires { ⌜ (rows ≤ 64) × Valid (partsOf kind a (now sizes) (take rows prices) (now refs)) ⌝ }
-    ensures { λ r. ⌜ r ≡ allFigures (partsOf kind a (now (sizes .entry)) (take rows prices) (now (refs .entry))) ⌝ }
+) -> [RowFigures; Sheet::MAX_ROWS]
+    requires { ⌜ (rows ≤ mostRows) × Valid (sheetWith kind a (now sizes) (take rows prices) (now refs)) ⌝ }
+    ensures { λ r. ⌜ r ≡ allFigures (sheetWith kind a (now (sizes .entry)) (take rows prices) (now (refs .entry))) ⌝ }
 {
     let tally = pass::tally(kind, a, prices, rows, sizes, refs);
     rows::all_rows(kind, a, prices, rows, sizes, refs, tally)

@@ -5,24 +5,20 @@ use crate::Tally;
 use crate::search;
 use model::Kind;
 use model::PriceRow;
+use model::Sheet;
 ghost use mathlib.Core.Path.{_≡_};
 ghost use Prim.Native.Nat.{_+_, _*_, _≤_, _<_, _^_};
 ghost use lib.ListN.{length, take};
-ghost use Rattle.model.specs.Costs.{unitCost};
-ghost use Rattle.model.specs.Sheets.{Valid, traceOf};
-ghost use Rattle.figures.specs.Buckets.{tallyOf};
-ghost use Rattle.figures.specs.Rows.{partsOf};
-ghost use Rattle.figures.specs.Pass.{rowsOf, pricesOf, sheetApart, Ascending, Paired, unplaced, timeOf, Limited, Sized};
+ghost use Rattle.model.specs.Sheets.{Valid, mostRows};
+ghost use Rattle.model.specs.Sheets.{sheetWith};
+ghost use Rattle.figures.specs.Pass.{rowsOf, pricesOf, sheetApart, Ascending, Paired, unplaced, timeSince, Limited, SizesWithin};
 ghost use Rattle.figures.specs.Quotients.{unitsFor, Quoted, Rated};
-ghost use Rattle.figures.specs.Pass.{withTouch, withEnd, Within, allUntouched, allEmpty, sheetPassed, sheetTally, endsOf};
-
-// The mark of a segment that was not touched yet. It is past every step.
-pub const UNTOUCHED: u16 = 65535;
+ghost use Rattle.figures.specs.Pass.{withTouch, withEnd, Within, allEmpty, sheetPassed, sheetTally, endsOf};
 
 // The prices of rows, apart: of one load unit and of one memory unit.
 pub struct Prices {
-    pub h: [u16; 64],
-    pub d: [u16; 64],
+    pub h: [u16; Sheet::MAX_ROWS],
+    pub d: [u16; Sheet::MAX_ROWS],
 }
 
 // A touch: whether it is a reuse, the segment's size, retention, swap cost, and the bucket that it goes to.
@@ -36,21 +32,14 @@ pub struct Touch {
 
 // What the pass over the references gives: the buckets, the table of last touches, Q and V.
 pub struct Passed {
-    pub buckets: [Bucket; 65],
-    pub last: [u16; 256],
+    pub buckets: [Bucket; Tally::BUCKETS],
+    pub last: [u16; Sheet::MAX_SEGS],
     pub cost: u64,
     pub volume: u64,
 }
 
-// The table of last touches before step 1.
-pub fn untouched() -> [u16; 256]
-    ensures { λ r. ⌜ r ≡ allUntouched ⌝ }
-{
-    [UNTOUCHED; 256]
-}
-
 // 65 buckets without a touch.
-pub fn empty_buckets() -> [Bucket; 65]
+pub fn empty_buckets() -> [Bucket; Tally::BUCKETS]
     ensures { λ r. ⌜ r ≡ allEmpty ⌝ }
 {
     [Bucket {
@@ -60,17 +49,17 @@ pub fn empty_buckets() -> [Bucket; 65]
         swap: 0,
         retentionz: 0,
         swapz: 0,
-    }; 65]
+    }; Tally::BUCKETS]
 }
 
 // The prices of the rows, apart.
-pub fn split(rows: [PriceRow; 64]) -> Prices
+pub fn split(rows: [PriceRow; Sheet::MAX_ROWS]) -> Prices
     ensures { λ r. ⌜ r ≡ pricesOf rows ⌝ }
 {
-    let mut h = [0u16; 64];
-    let mut d = [0u16; 64];
+    let mut h = [0u16; Sheet::MAX_ROWS];
+    let mut d = [0u16; Sheet::MAX_ROWS];
     let mut i = 0;
-    while i < 64 {
+    while i < Sheet::MAX_ROWS {
         let row = rows[i];
         h[i] = row.h;
         d[i] = row.d;
@@ -79,20 +68,10 @@ pub fn split(rows: [PriceRow; 64]) -> Prices
     Prices { h: h, d: d }
 }
 
-// What one step of a segment of size z costs in memory units.
-pub fn unit_cost(kind: Kind, z: u16) -> u64
-    ensures { λ r. ⌜ r ≡ unitCost kind z ⌝ }
-{
-    match kind {
-        Kind::Time => 1,
-        Kind::Space => z as u64,
-    }
-}
-
 // A touch, after so many steps, of a segment of size z with that mark; or its end interval. Its bucket is still to be looked for.
 pub fn touch_of(kind: Kind, a: u8, z: u16, mark: u16, steps: u16) -> Touch
     ensures within { λ r. ⌜ Limited r ⌝ }
-    ensures exact { λ r. ⌜ r ≡ unplaced kind a z (timeOf steps mark) ⌝ }
+    ensures exact { λ r. ⌜ r ≡ unplaced kind a z (timeSince steps mark) ⌝ }
 {
     let w = model::swap_cost(a, z).0;
     if mark <= steps {
@@ -102,7 +81,7 @@ pub fn touch_of(kind: Kind, a: u8, z: u16, mark: u16, steps: u16) -> Touch
             size: z,
             retention: r,
             swap: w,
-            bucket: 64,
+            bucket: Tally::LAST,
         }
     } else {
         Touch {
@@ -110,7 +89,7 @@ pub fn touch_of(kind: Kind, a: u8, z: u16, mark: u16, steps: u16) -> Touch
             size: z,
             retention: 0,
             swap: w,
-            bucket: 64,
+            bucket: Tally::LAST,
         }
     }
 }
@@ -159,7 +138,7 @@ pub fn references(
     ensures { λ r. ⌜ r ≡ sheetPassed (sheetApart kind a (now (sizes .entry)) (now (hs .entry)) (now (ds .entry)) (now (refs .entry))) ⌝ }
 {
     let mut buckets = empty_buckets();
-    let mut last = untouched();
+    let mut last = model::untouched();
     let mut cost: u64 = 0;
     let mut volume: u64 = 0;
     let mut t: usize = 0;
@@ -176,7 +155,7 @@ pub fn references(
             buckets[k] = b;
             t += 1;
             last[i] = t as u16;
-            cost += unit_cost(kind, z);
+            cost += model::unit_cost(kind, z);
             volume += z as u64;
         } else {
             t += 1;
@@ -201,12 +180,12 @@ pub fn ends(
     sizes: &[u16],
     last: &[u16],
     steps: u16,
-) -> [Bucket; 65]
+) -> [Bucket; Tally::BUCKETS]
     requires { ⌜ Paired (now hs) (now ds) ⌝ }
     requires { ⌜ Quoted (unitsFor a) (now hs) (now ds) (now qs) ⌝ }
     requires { ⌜ Rated kind a (now sizes) (now rates) ⌝ }
     requires { ⌜ Ascending (rowsOf (now hs) (now ds)) ⌝ }
-    requires { ⌜ (length (now sizes) ≤ length (now last)) × Sized (now sizes) steps ⌝ }
+    requires { ⌜ (length (now sizes) ≤ length (now last)) × SizesWithin (now sizes) steps ⌝ }
     ensures { λ r. ⌜ r ≡ endsOf kind a (rowsOf (now (hs .entry)) (now (ds .entry))) (now (sizes .entry)) (now (last .entry)) steps ⌝ }
 {
     let mut buckets = empty_buckets();
@@ -257,13 +236,13 @@ fn tally_apart(
 pub fn tally(
     kind: Kind,
     a: u8,
-    prices: [PriceRow; 64],
+    prices: [PriceRow; Sheet::MAX_ROWS],
     rows: usize,
     sizes: &[u16],
     refs: &[u16],
 ) -> Tally
-    requires { ⌜ (rows ≤ 64) × Valid (partsOf kind a (now sizes) (take rows prices) (now refs)) ⌝ }
-    ensures { λ r. ⌜ r ≡ tallyOf (take rows prices) (traceOf (partsOf kind a (now (sizes .entry)) (take rows prices) (now (refs .entry)))) ⌝ }
+    requires { ⌜ (rows ≤ mostRows) × Valid (sheetWith kind a (now sizes) (take rows prices) (now refs)) ⌝ }
+    ensures { λ r. ⌜ r ≡ sheetTally (sheetWith kind a (now (sizes .entry)) (take rows prices) (now (refs .entry))) ⌝ }
 {
     let apart = split(prices);
     let h = apart.h;

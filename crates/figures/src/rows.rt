@@ -7,15 +7,16 @@ use model::LoadUnits;
 use model::MemoryUnits;
 use model::PriceRow;
 use model::RowFigures;
+use model::Sheet;
 ghost use mathlib.Core.Path.{_≡_};
 ghost use Prim.Native.Nat.{ℕ, _+_, _*_, _-_, _≤_, _<_, _^_};
 ghost use lib.ListN.{take};
-ghost use Rattle.model.specs.Costs.{totalCost};
-ghost use Rattle.model.specs.Sheets.{mostRefs, largestSize};
+ghost use Rattle.model.specs.Sheets.{mostRefs, mostSegs, largestSize, mostRows};
 ghost use Rattle.figures.specs.Buckets.{bucketCount};
-ghost use Rattle.figures.specs.Rows.{partsOf, allFigures};
-ghost use Rattle.figures.specs.Sweep.{noBucket, added, summed, byKind, meanFrom, rowFrom, noFigures};
-ghost use Rattle.figures.specs.Sweep.{Holds, RowFits, Tallied};
+ghost use Rattle.figures.specs.Rows.{allFigures};
+ghost use Rattle.model.specs.Sheets.{sheetWith};
+ghost use Rattle.figures.specs.Sweep.{noBucket, added, summed, byKind, wsmemFrom, wsspaceFrom, meanFrom, rowFrom, noRowFigures};
+ghost use Rattle.figures.specs.Sweep.{Holds, KeptWithin, Summable, RowFits, Tallied};
 
 // A bucket that holds nothing.
 fn none() -> Bucket
@@ -47,12 +48,12 @@ fn add(x: Bucket, y: Bucket) -> Bucket
 }
 
 // All 65 buckets added.
-fn add_up(buckets: [Bucket; 65]) -> Bucket
+fn add_up(buckets: [Bucket; Tally::BUCKETS]) -> Bucket
     requires { ⌜ ((n : ℕ) → n ≤ bucketCount → Holds mostRefs (summed buckets n)) ⌝ }
     ensures { λ r. ⌜ r ≡ summed buckets bucketCount ⌝ }
 {
     let mut all = none();
-    for k in 0..65 {
+    for k in 0..Tally::BUCKETS {
         let b = buckets[k];
         all = add(all, b);
     }
@@ -60,11 +61,11 @@ fn add_up(buckets: [Bucket; 65]) -> Bucket
 }
 
 // No figures: what the rows beyond the sheet's have.
-fn no_figures() -> [RowFigures; 64]
-    ensures { λ r. ⌜ r ≡ noFigures ⌝ }
+fn no_figures() -> [RowFigures; Sheet::MAX_ROWS]
+    ensures { λ r. ⌜ r ≡ noRowFigures ⌝ }
 {
     let zero = RowFigures::zero();
-    [zero; 64]
+    [zero; Sheet::MAX_ROWS]
 }
 
 // The load of some misses and their sizes.
@@ -75,20 +76,63 @@ fn load_of(a: u8, misses: u64, missed: u64) -> LoadUnits
     LoadUnits(misses + (a as u64) * missed)
 }
 
-// What a working set costs: the references and the kept retentions at the price d, the other swap costs at the price h.
+// The working set of a row: wsmem, and the same with each item multiplied by its size.
+pub struct WorkingSet {
+    pub memory: u64,
+    pub space: u64,
+}
+
+// The memory of a working set: Q, and the retentions that the row keeps.
+fn retained(cost: u64, kept: Bucket, ends: Bucket) -> MemoryUnits
+    requires { ⌜ (cost ≤ mostRefs * largestSize) × Holds mostRefs kept × Holds mostSegs ends ⌝ }
+    ensures { λ r. ⌜ (r .0 ≡ cost + kept .retention + ends .retention) × (r .0 < 2 ^ 47) ⌝ }
+{
+    MemoryUnits(cost + kept.retention + ends.retention)
+}
+
+// The same with each item multiplied by its size: V, and the retentions.
+fn retained_space(volume: u64, kept: Bucket, ends: Bucket) -> MemoryUnits
+    requires { ⌜ (volume ≤ mostRefs * largestSize) × Holds mostRefs kept × Holds mostSegs ends ⌝ }
+    ensures { λ r. ⌜ (r .0 ≡ volume + kept .retentionz + ends .retentionz) × (r .0 < 2 ^ 47) ⌝ }
+{
+    MemoryUnits(volume + kept.retentionz + ends.retentionz)
+}
+
+// The swap costs that the row does not keep. The first touches and the end intervals have the same ones.
+fn removed(all: Bucket, kept: Bucket, ends: Bucket) -> LoadUnits
+    requires { ⌜ Holds mostRefs all × KeptWithin all kept ends ⌝ }
+    ensures { λ r. ⌜ (r .0 ≡ all .swap - kept .swap - ends .swap) × (r .0 < 2 ^ 47) ⌝ }
+{
+    LoadUnits(all.swap - kept.swap - ends.swap)
+}
+
+// The same with each item multiplied by its size.
+fn removed_space(all: Bucket, kept: Bucket, ends: Bucket) -> LoadUnits
+    requires { ⌜ Holds mostRefs all × KeptWithin all kept ends ⌝ }
+    ensures { λ r. ⌜ (r .0 ≡ all .swapz - kept .swapz - ends .swapz) × (r .0 < 2 ^ 47) ⌝ }
+{
+    LoadUnits(all.swapz - kept.swapz - ends.swapz)
+}
+
+// The working set of a row from Q and V, the sums over all buckets and those over what the row keeps.
 pub fn working_set(
     row: PriceRow,
-    base: u64,
-    kept: u64,
-    ends: u64,
-    swaps: u64,
-    keptswaps: u64,
-    endswaps: u64,
-) -> u64
-    requires { ⌜ (base + kept + ends < 2 ^ 47) × (keptswaps + endswaps ≤ swaps) × (swaps < 2 ^ 43) ⌝ }
-    ensures { λ r. ⌜ r ≡ totalCost (row .h) (row .d) (base + kept + ends) (swaps - keptswaps - endswaps) ⌝ }
+    cost: u64,
+    volume: u64,
+    all: Bucket,
+    kept: Bucket,
+    ends: Bucket,
+) -> WorkingSet
+    requires { ⌜ Summable cost volume all kept ends ⌝ }
+    ensures { λ r. ⌜ r ≡ record { memory = wsmemFrom row cost all kept ends; space = wsspaceFrom row volume all kept ends } ⌝ }
 {
-    (row.d as u64) * (base + kept + ends) + (row.h as u64) * (swaps - keptswaps - endswaps)
+    let memory = model::total(row, retained(cost, kept, ends), removed(all, kept, ends));
+    let space = model::total(
+        row,
+        retained_space(volume, kept, ends),
+        removed_space(all, kept, ends),
+    );
+    WorkingSet { memory, space }
 }
 
 // One of two numbers, by the kind.
@@ -132,25 +176,8 @@ pub fn row_figures(
     let missed = all.volume - kept.volume;
     let load = load_of(a, misses, missed);
     let optmem = MemoryUnits(cost + kept.retention);
-    let wsmem = working_set(
-        row,
-        cost,
-        kept.retention,
-        ends.retention,
-        all.swap,
-        kept.swap,
-        ends.swap,
-    );
-    let wsspace = working_set(
-        row,
-        volume,
-        kept.retentionz,
-        ends.retentionz,
-        all.swapz,
-        kept.swapz,
-        ends.swapz,
-    );
-    let wsocc = by_kind(kind, wsspace, wsmem);
+    let set = working_set(row, cost, volume, all, kept, ends);
+    let wsocc = by_kind(kind, set.space, set.memory);
     let mean = mean(refs, row.d, wsocc);
     RowFigures {
         h: row.h as u64,
@@ -161,7 +188,7 @@ pub fn row_figures(
         optmem,
         opttotal: model::total(row, optmem, load),
         optocc: volume + by_kind(kind, kept.retentionz, kept.retention),
-        wsmem,
+        wsmem: set.memory,
         wsocc,
         mean,
     }
@@ -171,14 +198,14 @@ pub fn row_figures(
 pub fn all_rows(
     kind: Kind,
     a: u8,
-    prices: [PriceRow; 64],
+    prices: [PriceRow; Sheet::MAX_ROWS],
     rows: usize,
     sizes: &[u16],
     refs: &[u16],
     tally: Tally,
-) -> [RowFigures; 64]
-    requires { ⌜ (rows ≤ 64) × Tallied (partsOf kind a (now sizes) (take rows prices) (now refs)) tally ⌝ }
-    ensures { λ r. ⌜ r ≡ allFigures (partsOf kind a (now (sizes .entry)) (take rows prices) (now (refs .entry))) ⌝ }
+) -> [RowFigures; Sheet::MAX_ROWS]
+    requires { ⌜ (rows ≤ mostRows) × Tallied (sheetWith kind a (now sizes) (take rows prices) (now refs)) tally ⌝ }
+    ensures { λ r. ⌜ r ≡ allFigures (sheetWith kind a (now (sizes .entry)) (take rows prices) (now (refs .entry))) ⌝ }
 {
     let steps = refs.len();
     let buckets = tally.buckets;

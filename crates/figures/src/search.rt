@@ -1,7 +1,8 @@
 // The first row that keeps a reuse: for loops among the quotients of the thresholds, and for a single touch by halving the rows.
 // What each function gives is written in specs/; nothing is assumed.
-use crate::pass;
+use crate::Tally;
 use model::Kind;
+use model::Sheet;
 ghost use mathlib.Core.Path.{_≡_};
 ghost use mathlib.Core.Bool.{cond};
 ghost use Prim.Native.Nat.{_+_, _-_, _*_, _≤_, _<_, _^_};
@@ -58,7 +59,7 @@ fn halved(hs: &[u16], ds: &[u16], retention: u64, swap: u64) -> usize
         lo = narrowed(hs[m], ds[m], retention, swap, lo, half);
         n = rest;
     }
-    if lo < hs.len() { lo } else { 64 }
+    if lo < hs.len() { lo } else { Tally::LAST }
 }
 
 // How many units a quotient of 1 has, where a is the weight of volume.
@@ -86,18 +87,18 @@ fn rate(kind: Kind, a: u8, z: u16) -> u64
     ensures { λ r. ⌜ (r ≡ rateOf kind a z) × (r ≤ 2 ^ 47) ⌝ }
 {
     let swap = model::swap_cost(a, z).0;
-    pass::unit_cost(kind, z) * units(a) / swap
+    model::unit_cost(kind, z) * units(a) / swap
 }
 
 // 64 quotients without a row.
-fn all_past() -> [u64; 64]
+fn all_past() -> [u64; Sheet::MAX_ROWS]
     ensures { λ r. ⌜ r ≡ allPast ⌝ }
 {
-    [BELOW_TOP; 64]
+    [BELOW_TOP; Sheet::MAX_ROWS]
 }
 
 // The quotients of the thresholds, where a is the weight of volume; past every reuse's beyond the rows.
-pub fn quotients(a: u8, hs: &[u16], ds: &[u16]) -> [u64; 64]
+pub fn quotients(a: u8, hs: &[u16], ds: &[u16]) -> [u64; Sheet::MAX_ROWS]
     requires { ⌜ Paired (now hs) (now ds) ⌝ }
     ensures { λ r. ⌜ Quoted (unitsFor a) (now (hs .entry)) (now (ds .entry)) r ⌝ }
 {
@@ -112,11 +113,11 @@ pub fn quotients(a: u8, hs: &[u16], ds: &[u16]) -> [u64; 64]
 }
 
 // The rates of segments of these sizes.
-pub fn rates(kind: Kind, a: u8, sizes: &[u16]) -> [u64; 256]
+pub fn rates(kind: Kind, a: u8, sizes: &[u16]) -> [u64; Sheet::MAX_SEGS]
     requires { ⌜ length (now sizes) ≤ mostSegs ⌝ }
     ensures { λ r. ⌜ Rated kind a (now (sizes .entry)) r ⌝ }
 {
-    let mut out = [0u64; 256];
+    let mut out = [0u64; Sheet::MAX_SEGS];
     let mut i = 0;
     while i < sizes.len() {
         out[i] = rate(kind, a, sizes[i]);
@@ -183,12 +184,13 @@ pub fn bucket(hs: &[u16], ds: &[u16], reuse: bool, retention: u64, swap: u64) ->
     if reuse {
         halved(hs, ds, retention, swap)
     } else {
-        64
+        Tally::LAST
     }
 }
 
-// The bucket, after so many steps, of a touch or an end interval of a segment with a rate and a mark, from the quotients of the rows: at most
-// seven looks at them, four where there are no more than 8 rows, one for one row. It is small enough for the compiler to put it into a loop.
+// The bucket, after so many steps, of a touch or an end interval of a segment with a rate and a mark, from the quotients of the rows:
+// at most seven looks at them, four where there are no more than 8 rows, one for one row. It is small enough for the compiler to put it
+// into a loop.
 pub fn bucket_of(rows: usize, qs: &[u64], rate: u64, mark: u16, steps: u16) -> usize
     requires { ⌜ Listed (now qs) rows ⌝ }
     requires { ⌜ rate ≤ 2 ^ 47 ⌝ }
@@ -196,8 +198,8 @@ pub fn bucket_of(rows: usize, qs: &[u64], rate: u64, mark: u16, steps: u16) -> u
     ensures exact { λ r. ⌜ IsPlace (now (qs .entry)) rows rate mark steps r ⌝ }
 {
     if steps < mark {
-        return 64;
+        return Tally::LAST;
     }
     let lo = first_at_least(qs, ((steps - mark) as u64) * rate, rows);
-    if lo < rows { lo } else { 64 }
+    if lo < rows { lo } else { Tally::LAST }
 }

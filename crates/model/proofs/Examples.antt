@@ -7,7 +7,7 @@ use mathlib.Core.List.{List, [], _∷_, _++_}
 use lib.ListN.{getD, replicate}
 use lib.Dec.{eqb, lit<}
 use lib.IntN.{ℤ, pos, negsuc}
-use Rattle.model.specs.Sums.{sum, listOf}
+use Rattle.model.specs.Sums.{sum, tabulate}
 use Rattle.model.specs.Traces.{Trace, entry, touching, later, unreferenced}
 use Rattle.model.specs.Figures.{misses, volume, load, optmem, opttotal, optocc, wsmem, wsocc, mean, kept, marginAt, refCost, refVolume, smaller, wsspace}
 use Rattle.model.specs.Schedules.{Permitted, held, scheduleMemory, scheduleLoad, scheduleTotal, optimalSchedule, nextKept, optimalHeld, optimalByte}
@@ -149,7 +149,7 @@ table =
     ∷ []
 
 pub table-holds : allHold table ≡ true
-unfolding allHold claims valueOf bytesOf above below _is_ table runOf listing paper untouched weighted rounded between timed distant held scheduleMemory scheduleLoad scheduleTotal misses volume load optmem opttotal optocc wsmem wsocc mean optimalSchedule sum listOf touching later unreferenced kept refCost refVolume smaller wsspace nextKept optimalHeld optimalByte
+unfolding allHold claims valueOf bytesOf above below _is_ table runOf listing paper untouched weighted rounded between timed distant held scheduleMemory scheduleLoad scheduleTotal misses volume load optmem opttotal optocc wsmem wsocc mean optimalSchedule sum tabulate touching later unreferenced kept refCost refVolume smaller wsspace nextKept optimalHeld optimalByte
 table-holds = refl
 
 -- the last schedule of the table drops segment 0 in step 2 and lets it enter again, untouched, in step 3. It would cost less than the

@@ -10,16 +10,16 @@ use lib.Seq.{ext-getD, getD-set-same, getD-set-other}
 use borrow.Author.Tests.{eqb-true, eqb-false, ne-eqb, ltb-true}
 use Rattle.model.specs.LastTouches.{untouchedMark, lastFrom, lastTable}
 use Rattle.model.specs.Traces.{Trace, segs, entry, touched, later, unreferenced}
-use Rattle.model.proofs.Sums.{length-listOf, getD-listOf}
+use Rattle.model.proofs.Tables.{length-tabulate, getD-tabulate}
 use Rattle.model.proofs.Touches.{touched-at, unreferenced-none, unreferenced-touched, unreferenced-later}
 
 pub length-lastTable : (T : Trace) (n : ℕ) → length (lastTable T n) ≡ 256
 unfolding lastTable
-length-lastTable T n = length-listOf 256 (λ i. lastFrom n (unreferenced T n i))
+length-lastTable T n = length-tabulate 256 (λ i. lastFrom n (unreferenced T n i))
 
 pub lastTable-at : (T : Trace) (n i d : ℕ) → i < 256 → getD (lastTable T n) i d ≡ lastFrom n (unreferenced T n i)
 unfolding lastTable
-lastTable-at T n i d lt = getD-listOf 256 (λ i. lastFrom n (unreferenced T n i)) i d lt
+lastTable-at T n i d lt = getD-tabulate 256 (λ i. lastFrom n (unreferenced T n i)) i d lt
 
 -- one more step changes what the table holds for no other segment
 last-later : (n : ℕ) (o : Option ℕ) → lastFrom (suc n) (later o) ≡ lastFrom n o

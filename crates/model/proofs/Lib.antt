@@ -9,10 +9,12 @@ pub mod FirstTouches
 pub mod Growth
 pub mod LastTouches
 pub mod LeastLoad
+pub mod Lists
 pub mod Loads
 pub mod LowerBound
 pub mod Margins
 pub mod Optimal
 pub mod Relation
 pub mod Sums
+pub mod Tables
 pub mod Touches

@@ -10,7 +10,8 @@ use borrow.Author.Tests.{le-leb, ltb-true}
 use Rattle.model.specs.Traces.{Trace, segs, steps, entry, touched, swapOf, unitOf, later, unreferenced}
 use Rattle.model.specs.Figures.{ofTime, retentionOf, isReuse, kept, load, optmem, opttotal}
 use Rattle.model.specs.Schedules.{held, Permitted, scheduleMemory, scheduleLoad, scheduleTotal, nextKept, optimalHeld, optimalByte, optimalSchedule}
-use Rattle.model.proofs.Sums.{sum-zero, length-listOf, getD-listOf}
+use Rattle.model.proofs.Sums.{sum-zero}
+use Rattle.model.proofs.Tables.{length-tabulate, getD-tabulate}
 use Rattle.model.proofs.Touches.{touched-beyond, unreferenced-none, unreferenced-touched, unreferenced-later}
 use Rattle.model.proofs.Loads.{overTouches-eq, load-swaps}
 use Rattle.model.proofs.DoubleSums.{overTouches-double, potential-eq}
@@ -99,7 +100,7 @@ module _ (T : Trace) (h d : ℕ) where
       let byte : (32 * t + i / 8) % 32 ≡ i / 8 = omega arith in
       let whole : 8 * (i / 8) + i % 8 ≡ i = omega arith in
       rw (
-        getD-listOf (32 * steps T) (optimalByte T h d) (32 * t + i / 8) 0 (omega arith),
+        getD-tabulate (32 * steps T) (optimalByte T h d) (32 * t + i / 8) 0 (omega arith),
         bit-ofBits 8 (λ k. optimalHeld T h d ((32 * t + i / 8) / 32) (8 * ((32 * t + i / 8) % 32) + k)) (i % 8) (omega arith),
         place,
         byte,
@@ -125,7 +126,7 @@ module _ (T : Trace) (h d : ℕ) where
   unfolding optimalHeld optimalSchedule
   optimal-permitted few =
       record {
-        whole = length-listOf (32 * steps T) (optimalByte T h d);
+        whole = length-tabulate (32 * steps T) (optimalByte T h d);
         touched-held = λ t i lt m. held-optimal t i lt (omega (arith, touched-below T t i m)) ∙ rw m;
         others-stay = λ t i lt l m e.
             next-held t i (omega arith) l (next-step t i lt ∙ rw m (sym (held-optimal t i lt l ∙ rw m) ∙ e));

@@ -1,4 +1,4 @@
--- Laws of `sum` and `listOf`: pointwise order and equality, sums of sums, and the sum with one nonzero term.
+-- Laws of `sum` and `tabulate`: pointwise order and equality, sums of sums, and the sum with one nonzero term.
 -- Assumes nothing.
 use Prim.Native.Nat.{ℕ, zero, suc, _+_, _*_, _≤_, _<_}
 use mathlib.Core.Path.{_≡_, refl, _∙_}
@@ -10,7 +10,7 @@ use lib.Dec.{eqb, ltb}
 use lib.ListN.{length, getD, length-append, List·getD-append}
 use lib.Seq.{getD-at}
 use borrow.Author.Tests.{eqb-true, eqb-false, lt-ltb, le-ltb, ltb-true, ltb-false}
-use Rattle.model.specs.Sums.{sum, listOf}
+use Rattle.model.specs.Sums.{sum, tabulate}
 
 pub sum-suc : (n : ℕ) (f : ℕ → ℕ) → sum (suc n) f ≡ sum n f + f n
 unfolding sum
@@ -76,16 +76,8 @@ sum-at (suc n) x f = rw (sum-at n x f) (go (eqb x n) refl (ltb x n) refl)
         let ne = eqb-false x n e in
         rw (e, l, le-ltb x (suc n) (omega (arith, ltb-false x n l))) refl
 
-pub length-listOf : (n : ℕ) (f : ℕ → ℕ) → length (listOf n f) ≡ n
-unfolding listOf
-length-listOf zero f = refl
-length-listOf (suc n) f = omega (arith, length-append (listOf n f) (f n ∷ []), length-listOf n f)
-
-pub getD-listOf : (n : ℕ) (f : ℕ → ℕ) (j d : ℕ) → j < n → getD (listOf n f) j d ≡ f j
-unfolding listOf
-getD-listOf zero f j d lt = absurd (omega arith)
-getD-listOf (suc n) f j d lt =
-    ⊎-elim
-    (λ e. rw e (getD-at (listOf n f) (f n) [] d n (length-listOf n f)))
-    (λ l. List·getD-append (listOf n f) (f n ∷ []) d j (omega (arith, length-listOf n f)) ∙ getD-listOf n f j d l)
-    (last-or-below n j lt)
+-- a sum of n terms within b
+pub sum-within : (n b : ℕ) (f : ℕ → ℕ) → ((t : ℕ) → t < n → f t ≤ b) → sum n f ≤ n * b
+unfolding sum
+sum-within zero b f le = omega arith
+sum-within (suc n) b f le = omega (arith, sum-within n b f (λ t l. le t (omega arith)), le n (omega arith))

@@ -2,12 +2,18 @@
 use Prim.Native.Nat.{ℕ, _-_}
 use mathlib.Core.List.{List}
 use mathlib.Core.Option.{Option, none, some}
-use Rattle.model.specs.Sums.{listOf}
+use lib.ListN.{replicate}
+use Rattle.model.specs.Sheets.{mostSegs}
+use Rattle.model.specs.Sums.{tabulate}
 use Rattle.model.specs.Traces.{Trace, unreferenced}
 
 -- the mark of an untouched segment
 abbrev pub untouchedMark : ℕ
 untouchedMark = 65535
+
+-- the table before step 1, where no segment counts as touched
+unfoldable pub allUntouched : List ℕ
+allUntouched = replicate mostSegs untouchedMark
 
 -- what the table holds after n steps for a segment with this unreferenced time
 abbrev pub lastFrom : ℕ → Option ℕ → ℕ
@@ -16,4 +22,4 @@ lastFrom n (some k) = n - k
 
 -- the table after n steps
 unfoldable pub lastTable : Trace → ℕ → List ℕ
-lastTable T n = listOf 256 (λ i. lastFrom n (unreferenced T n i))
+lastTable T n = tabulate mostSegs (λ i. lastFrom n (unreferenced T n i))

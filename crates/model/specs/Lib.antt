@@ -9,3 +9,4 @@ pub mod Schedules
 pub mod Sheets
 pub mod Sums
 pub mod Traces
+pub mod Values

@@ -6,7 +6,7 @@ use mathlib.Core.List.{List}
 use lib.ListN.{length, getD}
 use lib.Dec.{eqb}
 use Rattle.model.specs.Costs.{totalCost}
-use Rattle.model.specs.Sums.{sum, listOf}
+use Rattle.model.specs.Sums.{sum, tabulate}
 use Rattle.model.specs.Traces.{Trace, steps, touched, swapOf, unitOf, overTouches, overSegments}
 use Rattle.model.specs.Figures.{refCost, kept}
 
@@ -54,4 +54,4 @@ optimalByte T h d j = sum 8 (λ k. cond (optimalHeld T h d (j / 32) (8 * (j % 32
 
 -- the bytes of the optimal schedule
 unfoldable pub optimalSchedule : Trace → ℕ → ℕ → List ℕ
-optimalSchedule T h d = listOf (32 * steps T) (optimalByte T h d)
+optimalSchedule T h d = tabulate (32 * steps T) (optimalByte T h d)

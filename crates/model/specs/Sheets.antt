@@ -16,7 +16,14 @@ pub record SheetValue : Type 0 where
   pub rows : List PriceRow
   pub refs : List ℕ
 
--- the limits: the largest a, the most segments, the largest size, the most rows, the largest price, the most references
+-- a sheet's value from its parts
+abbrev pub sheetWith : Kind → ℕ → List ℕ → List PriceRow → List ℕ → SheetValue
+sheetWith kind a sizes rows refs = record { kind = kind; a = a; sizes = sizes; rows = rows; refs = refs }
+
+-- the limits: the most bytes, the largest a, the most segments, the largest size, the most rows, the largest price, the most references
+abbrev pub mostBytes : ℕ
+mostBytes = 20012
+
 abbrev pub largestA : ℕ
 largestA = 255
 
@@ -43,9 +50,12 @@ nothing i = false
 abbrev pub traceOf : SheetValue → Trace
 traceOf s = record { kind = s .kind; a = s .a; sizes = s .sizes; start = nothing; refs = s .refs }
 
--- row r
+-- row r of a list of rows, and of a sheet
+abbrev pub rowIn : List PriceRow → ℕ → PriceRow
+rowIn rows r = getD rows r (record { h = 0; d = 0 })
+
 abbrev pub rowAt : SheetValue → ℕ → PriceRow
-rowAt s r = getD (s .rows) r (record { h = 0; d = 0 })
+rowAt s r = rowIn (s .rows) r
 
 -- the threshold of the second row exceeds that of the first, by cross products
 abbrev pub Exceeds : PriceRow → PriceRow → Type 0

@@ -8,6 +8,6 @@ sum zero f = 0
 sum (suc n) f = sum n f + f n
 
 -- f 0, f 1, .., f (n - 1)
-unfoldable pub listOf : ℕ → (ℕ → ℕ) → List ℕ
-listOf zero f = []
-listOf (suc n) f = listOf n f ++ (f n ∷ [])
+unfoldable pub tabulate : {A : Type 0} → ℕ → (ℕ → A) → List A
+tabulate zero f = []
+tabulate (suc n) f = tabulate n f ++ (f n ∷ [])

@@ -1,10 +1,12 @@
-// The cost rules of the segment trace analyser as functions on numbers, and the numbers of its refusals.
+// A sheet by value with its limits, the cost rules of the segment trace analyser as functions on numbers, and the numbers of its refusals.
 // What each means is written in specs/; nothing is assumed.
 ghost use mathlib.Core.Path.{_≡_};
 ghost use Prim.Native.Nat.{_+_, _*_, _<_, _^_};
-ghost use Rattle.model.specs.Costs.{swapCost, retention, keeps, totalCost, marginOf};
+ghost use Rattle.model.specs.Costs.{swapCost, unitCost, retention, keeps, totalCost, marginOf};
+ghost use Rattle.model.specs.LastTouches.{allUntouched};
 ghost use Rattle.model.specs.Rows.{zeroFigures};
 ghost use Rattle.model.specs.Refusals.{numberOf, verdictNumber};
+ghost use Rattle.model.specs.Values.{sheetLimits, emptySheet};
 
 // What a memory unit is: a reference by itself (time), or the size of the segment (space).
 pub enum Kind {
@@ -24,6 +26,78 @@ pub struct PriceRow {
     pub d: u16,
 }
 
+// A sheet by value: kind, a, the first `segs` sizes, the first `rows` price rows and the first `refs` references, one per step.
+// In a sheet that was read, what stands beyond the counts is 0.
+pub struct Sheet {
+    pub kind: Kind,
+    pub a: u8,
+    pub segs: usize,
+    pub sizes: [u16; Sheet::MAX_SEGS],
+    pub rows: usize,
+    pub prices: [PriceRow; Sheet::MAX_ROWS],
+    pub refs: usize,
+    pub touches: [u16; Sheet::MAX_REFS],
+}
+
+// The limits of a sheet, as `Sheet::limits` hands them out.
+pub struct SheetLimits {
+    pub bytes: usize,
+    pub a: u32,
+    pub segs: usize,
+    pub size: u32,
+    pub rows: usize,
+    pub price: u32,
+    pub refs: usize,
+}
+
+impl Sheet {
+    // The most bytes.
+    pub const MAX_BYTES: usize = 20_012;
+    // The largest weight of volume a.
+    pub const MAX_A: u32 = 255;
+    // The most segments.
+    pub const MAX_SEGS: usize = 256;
+    // The largest size of a segment.
+    pub const MAX_SIZE: u32 = 4_095;
+    // The most rows.
+    pub const MAX_ROWS: usize = 64;
+    // The largest price.
+    pub const MAX_PRICE: u32 = 65_535;
+    // The most references.
+    pub const MAX_REFS: usize = 2_048;
+
+    // The limits: each is the number that the definitions use.
+    pub fn limits() -> SheetLimits
+        ensures { λ r. ⌜ r ≡ sheetLimits ⌝ }
+    {
+        SheetLimits {
+            bytes: Sheet::MAX_BYTES,
+            a: Sheet::MAX_A,
+            segs: Sheet::MAX_SEGS,
+            size: Sheet::MAX_SIZE,
+            rows: Sheet::MAX_ROWS,
+            price: Sheet::MAX_PRICE,
+            refs: Sheet::MAX_REFS,
+        }
+    }
+
+    // The sheet that a refusal hands back: no segments, no rows, no references.
+    pub fn empty() -> Sheet
+        ensures { λ r. ⌜ r ≡ emptySheet ⌝ }
+    {
+        Sheet {
+            kind: Kind::Time,
+            a: 0,
+            segs: 0,
+            sizes: [0u16; Sheet::MAX_SEGS],
+            rows: 0,
+            prices: [PriceRow { h: 0, d: 0 }; Sheet::MAX_ROWS],
+            refs: 0,
+            touches: [0u16; Sheet::MAX_REFS],
+        }
+    }
+}
+
 // The figures of a row, the eleven items that the listing prints. wsmem and wsocc carry the factor d.
 pub struct RowFigures {
     pub h: u64,
@@ -40,6 +114,9 @@ pub struct RowFigures {
 }
 
 impl RowFigures {
+    // How many items.
+    pub const ITEMS: usize = 11;
+
     // All figures zero: what a refused call hands back.
     pub fn zero() -> RowFigures
         ensures { λ r. ⌜ r ≡ zeroFigures ⌝ }
@@ -131,6 +208,26 @@ pub fn swap_cost(a: u8, z: u16) -> LoadUnits
     LoadUnits(1 + (a as u64) * (z as u64))
 }
 
+// The mark of a segment that was not touched yet, in a table of last touches. It is past every step.
+pub const UNTOUCHED: u16 = 65_535;
+
+// The table of last touches before step 1: every segment is untouched.
+pub fn untouched() -> [u16; Sheet::MAX_SEGS]
+    ensures { λ r. ⌜ r ≡ allUntouched ⌝ }
+{
+    [UNTOUCHED; Sheet::MAX_SEGS]
+}
+
+// What one step of a segment of size z in memory costs, in memory units.
+pub fn unit_cost(kind: Kind, z: u16) -> u64
+    ensures { λ r. ⌜ r ≡ unitCost kind z ⌝ }
+{
+    match kind {
+        Kind::Time => 1,
+        Kind::Space => z as u64,
+    }
+}
+
 // R: what holding a segment of size z through so many unreferenced steps costs.
 pub fn retention_cost(kind: Kind, z: u16, unreferenced: u16) -> MemoryUnits
     ensures { λ r. ⌜ r .0 ≡ retention kind z unreferenced ⌝ }
@@ -144,7 +241,7 @@ pub fn retention_cost(kind: Kind, z: u16, unreferenced: u16) -> MemoryUnits
 impl MemoryUnits {
     // Memory at the price d of one memory unit.
     pub fn priced(self, d: u16) -> u64
-        requires { ⌜ self .0 < 2 ^ 40 ⌝ }
+        requires { ⌜ self .0 < 2 ^ 47 ⌝ }
         ensures { λ r. ⌜ r ≡ d * self .0 ⌝ }
     {
         (d as u64) * self.0
@@ -154,7 +251,7 @@ impl MemoryUnits {
 impl LoadUnits {
     // Load at the price h of one load unit.
     pub fn priced(self, h: u16) -> u64
-        requires { ⌜ self .0 < 2 ^ 40 ⌝ }
+        requires { ⌜ self .0 < 2 ^ 47 ⌝ }
         ensures { λ r. ⌜ r ≡ h * self .0 ⌝ }
     {
         (h as u64) * self.0
@@ -178,7 +275,7 @@ pub fn margin(priced_retention: u64, priced_swap: u64) -> i64
 
 // The total of an amount of memory and an amount of load at a row's prices: the one place where the two units meet.
 pub fn total(row: PriceRow, memory: MemoryUnits, load: LoadUnits) -> u64
-    requires { ⌜ (memory .0 < 2 ^ 40) × (load .0 < 2 ^ 40) ⌝ }
+    requires { ⌜ (memory .0 < 2 ^ 47) × (load .0 < 2 ^ 47) ⌝ }
     ensures { λ r. ⌜ r ≡ totalCost (row .h) (row .d) (memory .0) (load .0) ⌝ }
 {
     memory.priced(row.d) + load.priced(row.h)

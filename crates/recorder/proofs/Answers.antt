@@ -12,9 +12,10 @@ use Rattle.model.specs.declared.Refusal.{Refusal}
 use Rattle.model.specs.declared.Refusal.the-variants.{OutOfRange, NoSuchRow, RecorderFull}
 use Rattle.model.specs.declared.Verdict.{Verdict}
 use Rattle.model.specs.declared.Verdict.the-variants.{Accepted, Refused}
-use Rattle.sheet.specs.Values.{sheetOf}
-use Rattle.sheet.specs.declared.Sheet.{Sheet}
-use Rattle.figures.specs.Pass.{allUntouched, allEmpty}
+use Rattle.model.specs.Values.{sheetOf}
+use Rattle.model.specs.declared.Sheet.{Sheet}
+use Rattle.figures.specs.Pass.{allEmpty}
+use Rattle.model.specs.LastTouches.{allUntouched}
 use Rattle.figures.specs.Rows.{figuresAt, figuresOf}
 use Rattle.figures.specs.declared.Bucket.{Bucket}
 use Rattle.figures.proofs.Marks.{last-start}

@@ -10,11 +10,11 @@ use Rattle.model.specs.Sheets.{SheetValue, Valid, traceOf, mostSegs, mostRows, 
 use Rattle.model.specs.declared.Kind.{Kind}
 use Rattle.model.specs.declared.PriceRow.{PriceRow}
 use Rattle.model.specs.declared.RowFigures.{RowFigures}
-use Rattle.sheet.specs.Values.{zeroRows}
+use Rattle.model.specs.Values.{zeroRows}
 use Rattle.figures.specs.Buckets.{bucketCount, tallyOf}
 use Rattle.figures.specs.Pass.{rowsOf, Ascending, passedOf, endsOf}
 use Rattle.figures.specs.Rows.{figuresAt}
-use Rattle.figures.specs.Sweep.{summed, Holds, RowFits, rowFrom, Tallied}
+use Rattle.figures.specs.Sweep.{summed, Holds, Summable, RowFits, rowFrom, Tallied}
 use Rattle.figures.specs.declared.Bucket.{Bucket}
 use Rattle.figures.specs.declared.Tally.{Tally}
 use Rattle.figures.proofs.Ending.{tally-is}
@@ -22,11 +22,10 @@ use Rattle.figures.proofs.Passing.{valid-run, valid-ascending}
 use Rattle.figures.proofs.Sweeps.{holds-more}
 use Rattle.figures.proofs.SweptSheets.{SweptTo, tallied-buckets, tallied-ends, tallied-fits, tallied-row}
 use Rattle.recorder.specs.Recorders.{recorderOf}
-use Rattle.recorder.specs.Guards.{Summable}
 use Rattle.recorder.specs.declared.Recorder.{Recorder}
 use Rattle.recorder.proofs.Stepping.{rows-front, sizes-front, padded-at}
 
--- sums from which no figure exceeds 64 bits are such that an occupancy can be made of them
+-- sums from which no figure exceeds 64 bits are such that a working set can be made of them
 pub summable-of : {kind : Kind} {row : PriceRow} {refs cost volume : ℕ} {all kept ends : Bucket}
     → RowFits kind row refs cost volume all kept ends → Summable cost volume all kept ends
 summable-of fits =

@@ -12,23 +12,23 @@ use lib.ListN.{length, getD, length-append, List·getD-append}
 use lib.Seq.{getD-append-add}
 use borrow.Author.Tests.{ltb-true, ltb-false}
 use Rattle.model.specs.Costs.{retention}
-use Rattle.model.specs.Sums.{sum}
+use Rattle.model.specs.Sums.{sum, tabulate}
 use Rattle.model.specs.Traces.{segs, entry, sizeOf, unitOf, touching, unreferenced}
 use Rattle.model.specs.Figures.{ofTime, refCost, refVolume}
-use Rattle.model.specs.Sheets.{SheetValue, Valid, traceOf, mostSegs, mostRows, mostRefs}
+use Rattle.model.specs.Sheets.{SheetValue, Valid, traceOf, mostSegs, mostRows, mostRefs, sheetWith}
 use Rattle.model.specs.LastTouches.{lastTable}
 use Rattle.model.proofs.LastTouches.{unreferenced-within}
-use Rattle.figures.specs.Buckets.{bucketCount, bucketOf, bucketAfter, tabulate}
+use Rattle.figures.specs.Buckets.{bucketCount, bucketOf, bucketAfter}
 use Rattle.figures.specs.Pass.{touchOf, Limited, bucketOver, passedOf}
-use Rattle.figures.specs.Rows.{partsOf}
-use Rattle.figures.proofs.Tables.{tabulate-eq}
+use Rattle.model.proofs.Tables.{tabulate-eq}
 use Rattle.figures.proofs.BucketRows.{bucket-within}
-use Rattle.figures.proofs.Filling.{sum-within}
-use Rattle.figures.proofs.Touches.{unit-within, retention-within, swap-within, touchAt, touches, bucketAfter-over}
+use Rattle.model.proofs.Sums.{sum-within}
+use Rattle.figures.proofs.Touches.{touchAt, touches, bucketAfter-over}
+use Rattle.model.proofs.Bounds.{unit-within, retention-within, swap-within}
 use Rattle.figures.proofs.Passing.{Passing, valid-run, passing-end}
 use Rattle.figures.specs.declared.Bucket.{Bucket}
 use Rattle.figures.specs.declared.pass.Passed.{Passed}
-use Rattle.sheet.specs.Values.{padded, zeros, zeroRows}
+use Rattle.model.specs.Values.{padded, zeros, zeroRows}
 use Rattle.recorder.specs.Recorders.{recorderOf, headOf, appended, taken}
 
 module _ (v : SheetValue) (valid : Valid v) where
@@ -86,14 +86,14 @@ module _ (v : SheetValue) (valid : Valid v) where
             };
         last-are = refl;
         cost-is = refl;
-        cost-within = references-within (unitOf T) (λ i lt. unit-within (v .kind) (sizeOf T i) (run .size-within i lt));
+        cost-within = references-within (unitOf T) (λ i lt. omega (arith, unit-within (v .kind) (sizeOf T i) (2 ^ 16 - 1) (omega arith) (omega (arith, run .size-within i lt))));
         volume-is = refl;
         volume-within = references-within (sizeOf T) (run .size-within);
       }
 
 -- other references, to segments and not too many, leave a sheet within the limits
 refs-valid : (v : SheetValue) → Valid v → (refs : List ℕ) → length refs ≤ mostRefs
-    → ((t : ℕ) → t < length refs → getD refs t 0 < length (v .sizes)) → Valid (partsOf (v .kind) (v .a) (v .sizes) (v .rows) refs)
+    → ((t : ℕ) → t < length refs → getD refs t 0 < length (v .sizes)) → Valid (sheetWith (v .kind) (v .a) (v .sizes) (v .rows) refs)
 refs-valid v valid refs few segments =
     record {
       a-within = valid .a-within;

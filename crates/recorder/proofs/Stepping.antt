@@ -1,6 +1,6 @@
 -- One more reference, as the code takes it: a recorder that stands for a sheet then stands for the sheet with that reference.
 -- Assumes nothing.
-use Prim.Native.Nat.{ℕ, _+_, _^_, _≤_, _<_, min}
+use Prim.Native.Nat.{ℕ, _-_, _+_, _^_, _≤_, _<_, min}
 use mathlib.Core.Path.{_≡_, refl, ap, _∙_}
 use mathlib.Core.List.{List, [], _∷_, _++_}
 use native.Mathlib.Omega.{arith}
@@ -11,16 +11,17 @@ use Rattle.model.specs.Figures.{refCost, refVolume}
 use Rattle.model.specs.Sheets.{SheetValue, Valid, traceOf, mostSegs, mostRows, mostRefs}
 use Rattle.model.specs.LastTouches.{lastTable}
 use Rattle.model.proofs.Growth.{grown, steps-grown}
-use Rattle.sheet.specs.Values.{padded, zeros, zeroRows, sheetOf, valueOf}
+use Rattle.model.specs.Values.{padded, zeros, zeroRows, sheetOf, valueOf}
 use Rattle.sheet.proofs.Held.{held}
-use Rattle.figures.specs.Buckets.{bucketCount, bucketAfter, tabulate}
-use Rattle.figures.specs.Pass.{rowsOf, pricesOf, touchOf, timeOf, IsTouch, Limited, Within, withTouch}
+use Rattle.figures.specs.Buckets.{bucketCount, bucketAfter}
+use Rattle.model.specs.Sums.{tabulate}
+use Rattle.figures.specs.Pass.{rowsOf, pricesOf, touchOf, timeSince, IsTouch, Limited, Within, withTouch}
 use Rattle.figures.specs.declared.Bucket.{Bucket}
 use Rattle.figures.specs.declared.pass.Prices.{Prices}
 use Rattle.figures.specs.declared.pass.Touch.{Touch}
 use Rattle.figures.proofs.PriceRows.{rows-apart}
 use Rattle.figures.proofs.Filling.{filling-room}
-use Rattle.figures.proofs.Touches.{unit-within}
+use Rattle.model.proofs.Bounds.{unit-within}
 use Rattle.figures.proofs.Passing.{Passing, valid-run, valid-ascending, passing-step}
 use Rattle.figures.proofs.Growing.{passing-grown, run-grown}
 use Rattle.recorder.specs.Recorders.{recorderOf, taken}
@@ -92,7 +93,7 @@ module _ (v : SheetValue) (valid : Valid v) (x : ℕ) (lt : x < length (v .sizes
 
   -- one more step of the pass
   passing-taken : (y : Touch) → Limited y
-      → y ≡ touchOf (v .kind) (v .a) (v .rows) (getD (v .sizes) x 0) (timeOf (length (v .refs)) (getD held-last x 0))
+      → y ≡ touchOf (v .kind) (v .a) (v .rows) (getD (v .sizes) x 0) (timeSince (length (v .refs)) (getD held-last x 0))
       → (b d : Bucket) → b ≡ withTouch (getD held-buckets (y .bucket) d) y → (u : ℕ) → u ≡ unitCost (v .kind) (getD (v .sizes) x 0)
       → Passing (v .rows) (traceOf (taken v x)) (length (v .refs) + 1) (set held-buckets (y .bucket) b)
       (set held-last x (length (v .refs) + 1)) (refCost (traceOf v) + u) (refVolume (traceOf v) + getD (v .sizes) x 0)
@@ -119,7 +120,7 @@ module _ (v : SheetValue) (valid : Valid v) (x : ℕ) (lt : x < length (v .sizes
       (s .touch-is (rw (s .rows-are, rows-front v valid) (valid-ascending v valid)) (rw size (valid .size-within x lt))) in
       let unit-is = rw size at (s .unit-is) in
       let b-is = s .bucket-is (filling-room _ _ n held-buckets (pass .filling) (s .touch .bucket) (s .limited .is-bucket) (s .blank)) in
-      let cost-is = s .cost-is (omega (arith, pass .cost-within)) (omega (arith, unit-within (v .kind) (getD (v .sizes) x 0) small)) in
+      let cost-is = s .cost-is (omega (arith, pass .cost-within)) (omega (arith, unit-within (v .kind) (getD (v .sizes) x 0) (2 ^ 16 - 1) (omega arith) (omega (arith, small)))) in
       let volume-is = rw size at (s .volume-is (omega (arith, pass .volume-within)) (rw size (omega arith))) in
       s .next-is
       ∙ rw (cost-is, volume-is)

@@ -1,13 +1,10 @@
 -- What the recorder's inner functions give: tests at run time. Assumes nothing.
-use Prim.Native.Nat.{ℕ, suc, _*_, _≤_}
+use Prim.Native.Nat.{ℕ, suc, _≤_}
 use mathlib.Core.Path.{_≡_}
 use mathlib.Core.Bool.{Bool, true}
 use mathlib.Core.List.{List}
-use Rattle.model.specs.Sheets.{Exceeds, mostSegs, mostRefs, largestSize}
+use Rattle.model.specs.Sheets.{Exceeds, rowIn}
 use Rattle.model.specs.declared.PriceRow.{PriceRow}
-use Rattle.figures.specs.Pass.{rowIn}
-use Rattle.figures.specs.Sweep.{Holds, Parts}
-use Rattle.figures.specs.declared.Bucket.{Bucket}
 
 -- a test that is true exactly where P holds
 pub record Tells (b : Bool) (P : Type 0) : Type 0 where
@@ -18,12 +15,3 @@ pub record Tells (b : Bool) (P : Type 0) : Type 0 where
 pub record InOrder (rows : List PriceRow) (i : ℕ) : Type 0 where
   pub some-d : 1 ≤ rowIn rows i .d
   pub exceeds : (r : ℕ) → suc r ≡ i → Exceeds (rowIn rows r) (rowIn rows i)
-
--- sums of which an occupancy can be made
-pub record Summable (cost volume : ℕ) (all kept ends : Bucket) : Type 0 where
-  pub cost-fits : cost ≤ mostRefs * largestSize
-  pub volume-fits : volume ≤ mostRefs * largestSize
-  pub all-holds : Holds mostRefs all
-  pub kept-holds : Holds mostRefs kept
-  pub ends-holds : Holds mostSegs ends
-  pub parts : Parts all kept ends

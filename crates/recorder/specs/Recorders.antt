@@ -13,12 +13,13 @@ use Rattle.model.specs.declared.Refusal.the-variants.{OutOfRange, NoSuchRow, Re
 use Rattle.model.specs.declared.Verdict.{Verdict}
 use Rattle.model.specs.declared.Verdict.the-variants.{Accepted, Refused}
 use Rattle.model.specs.declared.Kind.the-variants.{Time}
-use Rattle.sheet.specs.Values.{padded, zeros, zeroRows}
-use Rattle.figures.specs.Buckets.{bucketCount, bucketAfter, tabulate}
-use Rattle.figures.specs.Pass.{allUntouched, allEmpty}
+use Rattle.model.specs.Values.{padded, zeros, zeroRows}
+use Rattle.figures.specs.Buckets.{bucketCount, bucketAfter}
+use Rattle.model.specs.Sums.{tabulate}
+use Rattle.figures.specs.Pass.{allEmpty}
+use Rattle.model.specs.LastTouches.{allUntouched, lastTable}
 use Rattle.figures.specs.Rows.{noFigures, figuresOf}
 use Rattle.figures.specs.declared.FiguresAnswer.{FiguresAnswer}
-use Rattle.model.specs.LastTouches.{lastTable}
 use Rattle.recorder.specs.declared.Recorder.{Recorder}
 use Rattle.recorder.specs.declared.TouchAnswer.{TouchAnswer}
 

@@ -1,28 +1,37 @@
 // Sums and tests with which a recorder put together by hand, with any numbers in it, makes no sum exceed 64 bits. A recorder that stands
 // for a sheet passes every test. Nothing is assumed.
 use figures::Bucket;
+use figures::Tally;
 use figures::pass::Touch;
+use model::Sheet;
 ghost use mathlib.Core.Path.{_≡_};
 ghost use Prim.Native.Nat.{ℕ, _+_, _*_, _≤_, _<_, _^_, min};
 ghost use lib.ListN.{length, getD};
+ghost use Rattle.figures.specs.Buckets.{bucketCount};
 ghost use Rattle.model.specs.Sheets.{mostRefs, mostSegs, largestSize};
 ghost use Rattle.figures.specs.Pass.{rowsOf, Ascending, Paired, Limited, Within, withTouch};
-ghost use Rattle.figures.specs.Sweep.{added, summed, Holds, Parts};
+ghost use Rattle.figures.specs.Sweep.{added, summed, Holds, KeptWithin};
 ghost use Rattle.recorder.specs.Guards.{Tells, InOrder};
 
 // What a sum holds at most before something is added to it.
 const ROOM: u64 = 1_152_921_504_606_846_976;
 
-// The largest size of a segment, a number that no retention exceeds, the largest swap cost; and the last two times the largest size.
-const SIZE: u64 = 4_095;
+// The most references and segments of a sheet.
+pub const REFS: u64 = Sheet::MAX_REFS as u64;
 
-const RETENTION: u64 = 8_386_560;
+pub const SEGS: u64 = Sheet::MAX_SEGS as u64;
 
-const SWAP: u64 = 1_044_226;
+// The largest size of a segment, a number that no retention exceeds, and neither Q nor V, and the largest swap cost; and the last two
+// times the largest size.
+const SIZE: u64 = Sheet::MAX_SIZE as u64;
 
-const RETENTIONZ: u64 = 34_342_963_200;
+pub const RETENTION: u64 = REFS * SIZE;
 
-const SWAPZ: u64 = 4_276_105_470;
+const SWAP: u64 = 1 + Sheet::MAX_A as u64 * SIZE;
+
+const RETENTIONZ: u64 = RETENTION * SIZE;
+
+const SWAPZ: u64 = SWAP * SIZE;
 
 // The smaller of two numbers.
 pub fn least(x: usize, y: usize) -> usize
@@ -102,8 +111,8 @@ fn join(x: Bucket, y: Bucket) -> Bucket
 }
 
 // The first n buckets, added.
-pub fn sum_first(buckets: [Bucket; 65], n: usize) -> Bucket
-    requires { ⌜ n ≤ 65 ⌝ }
+pub fn sum_first(buckets: [Bucket; Tally::BUCKETS], n: usize) -> Bucket
+    requires { ⌜ n ≤ bucketCount ⌝ }
     ensures { λ r. ⌜ (((m : ℕ) → m ≤ n → Holds mostRefs (summed buckets m)) → r ≡ summed buckets n) ⌝ }
 {
     let mut all = Bucket {
@@ -204,7 +213,7 @@ pub fn holds(b: Bucket, n: u64) -> bool
 // Whether what is kept is within the whole.
 pub fn within(all: Bucket, kept: Bucket, ends: Bucket) -> bool
     requires { ⌜ Holds mostRefs kept × Holds mostSegs ends ⌝ }
-    ensures { λ r. ⌜ Tells r (Parts all kept ends) ⌝ }
+    ensures { λ r. ⌜ Tells r (KeptWithin all kept ends) ⌝ }
 {
     if all.count < kept.count {
         return false;

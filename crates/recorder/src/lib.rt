@@ -6,15 +6,16 @@ pub mod taking;
 
 use figures::Bucket;
 use figures::FiguresAnswer;
+use figures::Tally;
 use model::Kind;
 use model::PriceRow;
 use model::Refusal;
 use model::RowFigures;
+use model::Sheet;
 use model::Verdict;
-use sheet::Sheet;
 ghost use mathlib.Core.Path.{_≡_};
 ghost use Rattle.model.specs.Sheets.{SheetValue, Valid};
-ghost use Rattle.sheet.specs.Values.{sheetOf};
+ghost use Rattle.model.specs.Values.{sheetOf};
 ghost use Rattle.recorder.specs.Recorders.{recorderOf, emptyRecorder, headOf, Touched, TouchedAll, Figured};
 
 // A recorder by value: kind, a, sizes and rows of its sheet, the references taken, the table of last touches, the buckets, Q and V.
@@ -22,12 +23,12 @@ pub struct Recorder {
     pub kind: Kind,
     pub a: u8,
     pub segs: usize,
-    pub sizes: [u16; 256],
+    pub sizes: [u16; Sheet::MAX_SEGS],
     pub rows: usize,
-    pub prices: [PriceRow; 64],
+    pub prices: [PriceRow; Sheet::MAX_ROWS],
     pub refs: usize,
-    pub last: [u16; 256],
-    pub buckets: [Bucket; 65],
+    pub last: [u16; Sheet::MAX_SEGS],
+    pub buckets: [Bucket; Tally::BUCKETS],
     pub cost: u64,
     pub volume: u64,
 }
@@ -39,26 +40,19 @@ pub struct TouchAnswer {
 }
 
 impl Recorder {
-    // The most segments.
-    pub const MAX_SEGS: usize = 256;
-    // The most rows.
-    pub const MAX_ROWS: usize = 64;
-    // The most references.
-    pub const MAX_REFS: usize = 2_048;
-
     // No segments and no rows: what a refused start hands back.
     pub fn empty() -> Recorder
         ensures { λ r. ⌜ r ≡ emptyRecorder ⌝ }
     {
-        let last = figures::pass::untouched();
+        let last = model::untouched();
         let buckets = figures::pass::empty_buckets();
         Recorder {
             kind: Kind::Time,
             a: 0,
             segs: 0,
-            sizes: [0u16; 256],
+            sizes: [0u16; Sheet::MAX_SEGS],
             rows: 0,
-            prices: [PriceRow { h: 0, d: 0 }; 64],
+            prices: [PriceRow { h: 0, d: 0 }; Sheet::MAX_ROWS],
             refs: 0,
             last: last,
             buckets: buckets,
@@ -74,7 +68,7 @@ impl Recorder {
         let kind = sheet.kind;
         let sizes = sheet.sizes;
         let prices = sheet.prices;
-        let last = figures::pass::untouched();
+        let last = model::untouched();
         let buckets = figures::pass::empty_buckets();
         Recorder {
             kind: kind,
@@ -95,14 +89,14 @@ impl Recorder {
     pub fn touch(self, segment: usize) -> TouchAnswer
         ensures { λ r. ⌜ Touched self segment r ⌝ }
     {
-        let segs = guards::least(self.segs, Recorder::MAX_SEGS);
+        let segs = guards::least(self.segs, Sheet::MAX_SEGS);
         if segs <= segment {
             return TouchAnswer {
                 verdict: Verdict::Refused(Refusal::OutOfRange),
                 recorder: self,
             };
         }
-        if Recorder::MAX_REFS <= self.refs {
+        if Sheet::MAX_REFS <= self.refs {
             return TouchAnswer {
                 verdict: Verdict::Refused(Refusal::RecorderFull),
                 recorder: self,
@@ -118,7 +112,7 @@ impl Recorder {
     pub fn touch_all(self, refs: &[u16]) -> TouchAnswer
         ensures { λ r. ⌜ TouchedAll self (now (refs .entry)) r ⌝ }
     {
-        let segs = guards::least(self.segs, Recorder::MAX_SEGS);
+        let segs = guards::least(self.segs, Sheet::MAX_SEGS);
         let verdict = taking::acceptable(refs, segs, self.refs);
         if let Verdict::Refused(why) = verdict {
             return TouchAnswer {
@@ -136,7 +130,7 @@ impl Recorder {
     pub fn figures(self, row: usize) -> FiguresAnswer
         ensures { λ r. ⌜ Figured self row r ⌝ }
     {
-        let rows = guards::least(self.rows, Recorder::MAX_ROWS);
+        let rows = guards::least(self.rows, Sheet::MAX_ROWS);
         if rows <= row {
             return FiguresAnswer {
                 verdict: Verdict::Refused(Refusal::NoSuchRow),

@@ -3,20 +3,19 @@
 use crate::Recorder;
 use crate::guards;
 use figures::Bucket;
+use figures::Tally;
 use model::Kind;
 use model::PriceRow;
 use model::RowFigures;
+use model::Sheet;
 ghost use mathlib.Core.Path.{_≡_};
 ghost use Prim.Native.Nat.{_+_, _<_, min};
 ghost use Rattle.model.specs.Sheets.{SheetValue, Valid, traceOf, mostRows};
 ghost use Rattle.figures.specs.Buckets.{tallyOf};
 ghost use Rattle.figures.specs.Rows.{figuresAt};
-ghost use Rattle.figures.specs.Sweep.{RowFits, wsoccFrom, rowFrom};
+ghost use Rattle.figures.specs.Sweep.{Summable, RowFits, wsoccFrom, rowFrom};
 ghost use Rattle.recorder.specs.Recorders.{recorderOf};
-ghost use Rattle.recorder.specs.Guards.{Tells, Summable};
-
-// What Q and V are at most: 2,048 references of the largest size.
-const MOST_COST: u64 = 8_386_560;
+ghost use Rattle.recorder.specs.Guards.{Tells};
 
 // Below this an occupancy can be multiplied by 1,000.
 const OCCUPANCY: u64 = 9_007_199_254_740_992;
@@ -34,44 +33,27 @@ fn occupancy(
     requires { ⌜ Summable cost volume all kept ends ⌝ }
     ensures { λ r. ⌜ r ≡ wsoccFrom kind row cost volume all kept ends ⌝ }
 {
-    let memory = figures::rows::working_set(
-        row,
-        cost,
-        kept.retention,
-        ends.retention,
-        all.swap,
-        kept.swap,
-        ends.swap,
-    );
-    let space = figures::rows::working_set(
-        row,
-        volume,
-        kept.retentionz,
-        ends.retentionz,
-        all.swapz,
-        kept.swapz,
-        ends.swapz,
-    );
-    figures::rows::by_kind(kind, space, memory)
+    let set = figures::rows::working_set(row, cost, volume, all, kept, ends);
+    figures::rows::by_kind(kind, set.space, set.memory)
 }
 
 // Whether the sums are such that an occupancy can be made of them.
 fn summable(cost: u64, volume: u64, all: Bucket, kept: Bucket, ends: Bucket) -> bool
     ensures { λ r. ⌜ Tells r (Summable cost volume all kept ends) ⌝ }
 {
-    if MOST_COST < cost {
+    if guards::RETENTION < cost {
         return false;
     }
-    if MOST_COST < volume {
+    if guards::RETENTION < volume {
         return false;
     }
-    if !guards::holds(all, 2_048) {
+    if !guards::holds(all, guards::REFS) {
         return false;
     }
-    if !guards::holds(kept, 2_048) {
+    if !guards::holds(kept, guards::REFS) {
         return false;
     }
-    if !guards::holds(ends, 256) {
+    if !guards::holds(ends, guards::SEGS) {
         return false;
     }
     guards::within(all, kept, ends)
@@ -91,7 +73,7 @@ fn row_of(
 ) -> RowFigures
     ensures { λ r. ⌜ (RowFits kind row refs cost volume all kept ends → r ≡ rowFrom kind a row refs cost volume all kept ends) ⌝ }
 {
-    if Recorder::MAX_REFS < refs {
+    if Sheet::MAX_REFS < refs {
         return RowFigures::zero();
     }
     if row.d == 0 {
@@ -107,14 +89,14 @@ fn row_of(
 }
 
 // The buckets of the end intervals at this moment; empty ones where the thresholds do not ascend or a size is larger than a sheet has.
-fn ends_now(recorder: Recorder) -> [Bucket; 65]
+fn ends_now(recorder: Recorder) -> [Bucket; Tally::BUCKETS]
     ensures { λ r. ⌜ ((v : SheetValue) → Valid v → recorder ≡ recorderOf v → r ≡ tallyOf (v .rows) (traceOf v) .ends) ⌝ }
 {
     let kind = recorder.kind;
     let a = recorder.a;
-    let rows = guards::least(recorder.rows, Recorder::MAX_ROWS);
-    let segs = guards::least(recorder.segs, Recorder::MAX_SEGS);
-    let steps = guards::least(recorder.refs, Recorder::MAX_REFS);
+    let rows = guards::least(recorder.rows, Sheet::MAX_ROWS);
+    let segs = guards::least(recorder.segs, Sheet::MAX_SEGS);
+    let steps = guards::least(recorder.refs, Sheet::MAX_REFS);
     let prices = recorder.prices;
     let apart = figures::pass::split(prices);
     let h = apart.h;
@@ -154,7 +136,7 @@ pub fn row_now(recorder: Recorder, row: usize) -> RowFigures
     let kind = recorder.kind;
     let buckets = recorder.buckets;
     let prices = recorder.prices;
-    let all = guards::sum_first(buckets, 65);
+    let all = guards::sum_first(buckets, Tally::BUCKETS);
     let kept = guards::sum_first(buckets, row + 1);
     let ends = guards::sum_first(ended, row + 1);
     row_of(

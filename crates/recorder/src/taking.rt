@@ -3,6 +3,7 @@
 use crate::Recorder;
 use crate::guards;
 use model::Refusal;
+use model::Sheet;
 use model::Verdict;
 ghost use mathlib.Core.Path.{_≡_};
 ghost use Prim.Native.Nat.{_<_, min};
@@ -16,7 +17,7 @@ pub fn take_one(mut recorder: Recorder, segment: usize) -> Recorder
     requires { ⌜ (segment < min (recorder .segs) mostSegs) × (recorder .refs < mostRefs) ⌝ }
     ensures { λ r. ⌜ ((v : SheetValue) → Valid v → recorder ≡ recorderOf v → r ≡ recorderOf (taken v segment)) ⌝ }
 {
-    let rows = guards::least(recorder.rows, Recorder::MAX_ROWS);
+    let rows = guards::least(recorder.rows, Sheet::MAX_ROWS);
     let prices = recorder.prices;
     let apart = figures::pass::split(prices);
     let h = apart.h;
@@ -31,7 +32,7 @@ pub fn take_one(mut recorder: Recorder, segment: usize) -> Recorder
     recorder.buckets[k] = guards::file(b, x);
     recorder.last[segment] = (t + 1) as u16;
     recorder.refs = t + 1;
-    recorder.cost = guards::more(recorder.cost, figures::pass::unit_cost(kind, z));
+    recorder.cost = guards::more(recorder.cost, model::unit_cost(kind, z));
     recorder.volume = guards::more(recorder.volume, guards::wide(z));
     recorder
 }
@@ -45,7 +46,7 @@ pub fn acceptable(refs: &[u16], segs: usize, count: usize) -> Verdict
         if segs <= refs[n] as usize {
             return Verdict::Refused(Refusal::OutOfRange);
         }
-        if Recorder::MAX_REFS - n <= count {
+        if Sheet::MAX_REFS - n <= count {
             return Verdict::Refused(Refusal::RecorderFull);
         }
         n += 1;
@@ -59,7 +60,7 @@ pub fn take_all(recorder: Recorder, refs: &[u16]) -> Recorder
     ensures none { λ r. ⌜ (now (refs .entry) ≡ [] → r ≡ recorder) ⌝ }
     ensures all { λ r. ⌜ ((v : SheetValue) → Valid v → recorder ≡ recorderOf v → r ≡ recorderOf (appended v (now (refs .entry)))) ⌝ }
 {
-    let rows = guards::least(recorder.rows, Recorder::MAX_ROWS);
+    let rows = guards::least(recorder.rows, Sheet::MAX_ROWS);
     let prices = recorder.prices;
     let apart = figures::pass::split(prices);
     let h = apart.h;
@@ -70,7 +71,7 @@ pub fn take_all(recorder: Recorder, refs: &[u16]) -> Recorder
     let a = recorder.a;
     let sizes = recorder.sizes;
     let quotients = figures::search::quotients(a, hs, ds);
-    let qs = &quotients[..64];
+    let qs = &quotients[..Sheet::MAX_ROWS];
     let rates = figures::search::rates(kind, a, &sizes);
     let mut last = recorder.last;
     let mut buckets = recorder.buckets;
@@ -90,7 +91,7 @@ pub fn take_all(recorder: Recorder, refs: &[u16]) -> Recorder
         buckets[k] = b;
         count += 1;
         last[i] = count as u16;
-        cost = guards::more(cost, figures::pass::unit_cost(kind, z));
+        cost = guards::more(cost, model::unit_cost(kind, z));
         volume = guards::more(volume, guards::wide(z));
         t += 1;
     }

@@ -14,7 +14,7 @@ use Rattle.model.specs.declared.RowFigures.{RowFigures}
 use Rattle.sheet.specs.Reading.{Outcome, accepted, rejected, readSheet}
 use Rattle.sheet.proofs.Accepted.{accepted-valid}
 use Rattle.figures.specs.Rows.{figuresAt}
-use Rattle.figures.proofs.Tables.{tabulate-eq}
+use Rattle.model.proofs.Tables.{tabulate-eq}
 use Rattle.analyser.specs.Answers.{onSheet}
 use Rattle.analyser.proofs.Results.{figures-at}
 use Rattle.records.specs.Listed.{sheetAnswer, sheetAfter, listAnswer, listAfter, noRecords, recordsFor, recordsFound}

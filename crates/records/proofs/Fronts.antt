@@ -6,8 +6,8 @@ use mathlib.Core.List.{List, [], _∷_, _++_, append-assoc}
 use native.Mathlib.Omega.{arith}
 use lib.ListN.{length, drop, set, length-append, length-drop}
 use lib.Seq.{drop-cons, set-at}
-use Rattle.figures.specs.Buckets.{tabulate}
-use Rattle.figures.proofs.Tables.{length-tabulate}
+use Rattle.model.specs.Sums.{tabulate}
+use Rattle.model.proofs.Tables.{length-tabulate}
 
 module _ {A : Type 0} (f : ℕ → A) (l : List A) where
   -- the first i entries are f 0, .., f (i - 1), and the others are those of l

@@ -13,7 +13,7 @@ use Rattle.model.specs.declared.Refusal.the-variants.{PlaceTooShort}
 use Rattle.model.specs.declared.RowFigures.{RowFigures}
 use Rattle.model.specs.declared.Verdict.the-variants.{Accepted}
 use Rattle.sheet.specs.Reading.{readSheet}
-use Rattle.figures.specs.Buckets.{tabulate}
+use Rattle.model.specs.Sums.{tabulate}
 use Rattle.figures.specs.Rows.{figuresAt, allFigures}
 use Rattle.analyser.specs.Answers.{onSheet}
 use Rattle.records.specs.declared.Records.{Records}

@@ -3,13 +3,14 @@
 use model::PlaceAnswer;
 use model::Refusal;
 use model::RowFigures;
+use model::Sheet;
 use model::Verdict;
-use sheet::Sheet;
 ghost use mathlib.Core.Path.{_≡_};
 ghost use Prim.Native.Nat.{_<_};
 ghost use lib.ListN.{getD};
+ghost use Rattle.model.specs.Sheets.{mostRows};
 ghost use Rattle.model.specs.Rows.{zeroFigures};
-ghost use Rattle.sheet.specs.Values.{valueOf};
+ghost use Rattle.model.specs.Values.{valueOf};
 ghost use Rattle.figures.specs.Rows.{allFigures};
 ghost use Rattle.analyser.specs.Answers.{Standing};
 ghost use Rattle.records.specs.Listed.{noRecords, recordsFor, recordsFound, listAnswer, listAfter};
@@ -17,7 +18,7 @@ ghost use Rattle.records.specs.Listed.{noRecords, recordsFor, recordsFou
 // The records to be written: the answer, whose length is how many they are, and the figures of every row, zeros where there is none.
 pub struct Records {
     pub answer: PlaceAnswer,
-    pub figures: [RowFigures; 64],
+    pub figures: [RowFigures; Sheet::MAX_ROWS],
 }
 
 // No records, and why.
@@ -29,12 +30,12 @@ fn no_records(why: Refusal) -> Records
             verdict: Verdict::Refused(why),
             length: 0,
         },
-        figures: [RowFigures::zero(); 64],
+        figures: [RowFigures::zero(); Sheet::MAX_ROWS],
     }
 }
 
 // The figures of every row of an accepted sheet.
-fn all_figures(s: Sheet) -> [RowFigures; 64]
+fn all_figures(s: Sheet) -> [RowFigures; Sheet::MAX_ROWS]
     requires { ⌜ Standing s ⌝ }
     ensures { λ r. ⌜ r ≡ allFigures (valueOf s) ⌝ }
 {
@@ -94,7 +95,7 @@ fn answer_of(r: Records) -> PlaceAnswer
 
 // The record of row i.
 fn record_at(r: Records, i: usize) -> RowFigures
-    requires { ⌜ i < 64 ⌝ }
+    requires { ⌜ i < mostRows ⌝ }
     ensures { λ f. ⌜ f ≡ getD (r .figures) i zeroFigures ⌝ }
 {
     let figures = r.figures;
@@ -104,7 +105,8 @@ fn record_at(r: Records, i: usize) -> RowFigures
 // The figures of every row into a lent list of row records, one for each row: refused with 1 to 6, then 11 where the list is shorter than
 // the rows. Records beyond the rows stay; refused, no record changes.
 pub fn row_records(bytes: &[u8], out: &mut [RowFigures]) -> PlaceAnswer
-    ensures { λ r. ⌜ (r ≡ listAnswer (now (bytes .entry)) (now (out .entry))) × (now (out .exit) ≡ listAfter (now (bytes .entry)) (now (out .entry))) ⌝ }
+    ensures { λ r. ⌜ (r ≡ listAnswer (now (bytes .entry)) (now (out .entry)))
+        × (now (out .exit) ≡ listAfter (now (bytes .entry)) (now (out .entry))) ⌝ }
 {
     let all = all_records(bytes, out.len());
     let n = count(all);

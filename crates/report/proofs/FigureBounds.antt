@@ -35,9 +35,8 @@ use Rattle.model.specs.declared.Kind.the-variants.{Time, Space}
 use Rattle.model.proofs.Bounds.{product-within}
 use Rattle.model.proofs.DoubleSums.{overTouches-double, potential-le}
 use Rattle.model.proofs.Loads.{overTouches-total, overTouches-le}
-use Rattle.model.proofs.Sums.{sum-le, sum-zero, sum-mul}
+use Rattle.model.proofs.Sums.{sum-le, sum-zero, sum-mul, sum-within}
 use Rattle.model.proofs.Touches.{unreferenced-none, unreferenced-touched, unreferenced-later}
-use Rattle.figures.proofs.Filling.{sum-within}
 use Rattle.figures.proofs.Limits.{volume-within}
 
 -- the sizes of all segments, added

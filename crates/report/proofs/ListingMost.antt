@@ -19,31 +19,11 @@ use Rattle.model.proofs.Bounds.{product-within}
 use Rattle.sheet.specs.Writing.{numberText}
 use Rattle.sheet.proofs.Lengths.{line-length}
 use Rattle.sheet.proofs.Runs.{each-of, lines-length}
-use Rattle.figures.specs.Buckets.{tabulate}
+use Rattle.model.specs.Sums.{tabulate}
 use Rattle.figures.specs.Rows.{figuresAt}
-use Rattle.figures.proofs.Tables.{length-tabulate, getD-tabulate}
-use Rattle.report.specs.Listing.{
-  refsKey,
-  segsKey,
-  rowsKey,
-  hKey,
-  dKey,
-  missesKey,
-  volumeKey,
-  loadKey,
-  optmemKey,
-  opttotalKey,
-  optoccKey,
-  wsmemKey,
-  wsoccKey,
-  meanKey,
-  refusedKey,
-  refusedText,
-  rowListing,
-  mostListing,
-  listing,
-  listingOf,
-}
+use Rattle.model.proofs.Tables.{length-tabulate, getD-tabulate}
+use Rattle.report.specs.Listing.{hKey, dKey, missesKey, volumeKey, loadKey, optmemKey, opttotalKey, optoccKey, wsmemKey, wsoccKey, meanKey, refusedKey, refusedText, rowListing, mostListing, listing, listingOf}
+use Rattle.sheet.specs.Keys.{refsKey, segsKey, rowsKey}
 use Rattle.report.proofs.FigureBounds.{
   allSizes,
   optmem-within,

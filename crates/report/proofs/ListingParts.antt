@@ -7,25 +7,8 @@ use lib.Seq.{length-take-le}
 use Rattle.model.specs.declared.RowFigures.{RowFigures}
 use Rattle.sheet.specs.Writing.{numberText}
 use Rattle.sheet.proofs.Runs.{linesText}
-use Rattle.report.specs.Listing.{
-  refsKey,
-  segsKey,
-  rowsKey,
-  hKey,
-  dKey,
-  missesKey,
-  volumeKey,
-  loadKey,
-  optmemKey,
-  opttotalKey,
-  optoccKey,
-  wsmemKey,
-  wsoccKey,
-  meanKey,
-  rowListing,
-  rowsListing,
-  listing,
-}
+use Rattle.report.specs.Listing.{hKey, dKey, missesKey, volumeKey, loadKey, optmemKey, opttotalKey, optoccKey, wsmemKey, wsoccKey, meanKey, rowListing, rowsListing, listing}
+use Rattle.sheet.specs.Keys.{refsKey, segsKey, rowsKey}
 use Rattle.report.specs.Parts.{threeText}
 
 -- three lines

@@ -6,21 +6,10 @@ use Rattle.model.specs.Refusals.{numberOf}
 use Rattle.model.specs.Sheets.{SheetValue}
 use Rattle.model.specs.declared.Refusal.{Refusal}
 use Rattle.model.specs.declared.RowFigures.{RowFigures}
+use Rattle.sheet.specs.Keys.{refsKey, segsKey, rowsKey}
 use Rattle.sheet.specs.Writing.{numberText}
-use Rattle.figures.specs.Buckets.{tabulate}
+use Rattle.model.specs.Sums.{tabulate}
 use Rattle.figures.specs.Rows.{figuresAt}
-
--- refs=
-abbrev pub refsKey : List ℕ
-refsKey = 114 ∷ 101 ∷ 102 ∷ 115 ∷ 61 ∷ []
-
--- segs=
-abbrev pub segsKey : List ℕ
-segsKey = 115 ∷ 101 ∷ 103 ∷ 115 ∷ 61 ∷ []
-
--- rows=
-abbrev pub rowsKey : List ℕ
-rowsKey = 114 ∷ 111 ∷ 119 ∷ 115 ∷ 61 ∷ []
 
 -- h=
 abbrev pub hKey : List ℕ

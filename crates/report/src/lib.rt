@@ -3,6 +3,7 @@
 use model::PlaceAnswer;
 use model::Refusal;
 use model::RowFigures;
+use model::Sheet;
 use model::Verdict;
 use sheet::writing::number_length;
 use sheet::writing::put;
@@ -12,6 +13,7 @@ ghost use mathlib.Core.Path.{_≡_};
 ghost use Prim.Native.Nat.{_+_, _≤_};
 ghost use lib.Dec.{ltb};
 ghost use lib.ListN.{length, take};
+ghost use Rattle.model.specs.Sheets.{mostRows};
 ghost use Rattle.model.specs.Places.{placed, placeAnswer};
 ghost use Rattle.sheet.specs.Parts.{Put};
 ghost use Rattle.report.specs.Listing.{rowListing, rowsListing, listing, mostListing, refusedText};
@@ -56,8 +58,8 @@ fn row_length(f: RowFigures) -> usize
 }
 
 // The length of the lines of the first `n` rows.
-fn rows_length(figures: [RowFigures; 64], n: usize) -> usize
-    requires { ⌜ n ≤ 64 ⌝ }
+fn rows_length(figures: [RowFigures; Sheet::MAX_ROWS], n: usize) -> usize
+    requires { ⌜ n ≤ mostRows ⌝ }
     ensures { λ r. ⌜ (r ≡ length (rowsListing (take n figures))) × (r ≤ 21120) ⌝ }
 {
     let mut sum: usize = 0;
@@ -71,8 +73,14 @@ fn rows_length(figures: [RowFigures; 64], n: usize) -> usize
 }
 
 // Whether a place of `size` bytes is shorter than the listing. Its length is worked out only for a place that is shorter than the longest.
-fn too_short(refs: usize, segs: usize, figures: [RowFigures; 64], rows: usize, size: usize) -> bool
-    requires { ⌜ (rows ≤ 64) × (length (listing refs segs (take rows figures)) ≤ mostListing) ⌝ }
+fn too_short(
+    refs: usize,
+    segs: usize,
+    figures: [RowFigures; Sheet::MAX_ROWS],
+    rows: usize,
+    size: usize,
+) -> bool
+    requires { ⌜ (rows ≤ mostRows) × (length (listing refs segs (take rows figures)) ≤ mostListing) ⌝ }
     ensures { λ r. ⌜ r ≡ ltb size (length (listing refs segs (take rows figures))) ⌝ }
 {
     if MAX_BYTES <= size {
@@ -151,8 +159,8 @@ fn put_row(f: RowFigures, out: &mut [u8], at: usize) -> usize
 }
 
 // Writes the lines of the first `n` rows, and gives the index after them.
-fn put_rows(figures: [RowFigures; 64], n: usize, out: &mut [u8], at: usize) -> usize
-    requires { ⌜ (n ≤ 64) × (at + length (rowsListing (take n figures)) ≤ length (now out)) ⌝ }
+fn put_rows(figures: [RowFigures; Sheet::MAX_ROWS], n: usize, out: &mut [u8], at: usize) -> usize
+    requires { ⌜ (n ≤ mostRows) × (at + length (rowsListing (take n figures)) ≤ length (now out)) ⌝ }
     ensures { λ r. ⌜ Put (rowsListing (take n figures)) at (now (out .entry)) r (now (out .exit)) ⌝ }
 {
     let mut next = at;
@@ -172,11 +180,11 @@ fn put_rows(figures: [RowFigures; 64], n: usize, out: &mut [u8], at: usize) -> u
 pub fn write(
     refs: usize,
     segs: usize,
-    figures: [RowFigures; 64],
+    figures: [RowFigures; Sheet::MAX_ROWS],
     rows: usize,
     out: &mut [u8],
 ) -> PlaceAnswer
-    requires { ⌜ (rows ≤ 64) × (length (listing refs segs (take rows figures)) ≤ mostListing) ⌝ }
+    requires { ⌜ (rows ≤ mostRows) × (length (listing refs segs (take rows figures)) ≤ mostListing) ⌝ }
     ensures { λ r. ⌜ (r ≡ placeAnswer (listing refs segs (take rows figures)) (now (out .entry)))
         × (now (out .exit) ≡ placed (listing refs segs (take rows figures)) (now (out .entry))) ⌝ }
 {
@@ -203,8 +211,8 @@ pub fn write(
     }
 }
 
-// The line for a refusal into a lent place, then its old contents; refusal 11 and no change where the place is shorter. Since `put_digits` is
-// called here too, the compiler keeps it apart and puts the small `put_number` into the writers of lines.
+// The line for a refusal into a lent place, then its old contents; refusal 11 and no change where the place is shorter. Since
+// `put_digits` is called here too, the compiler keeps it apart and puts the small `put_number` into the writers of lines.
 pub fn write_refusal(why: Refusal, out: &mut [u8]) -> PlaceAnswer
     ensures { λ r. ⌜ (r ≡ placeAnswer (refusedText why) (now (out .entry)))
         × (now (out .exit) ≡ placed (refusedText why) (now (out .entry))) ⌝ }

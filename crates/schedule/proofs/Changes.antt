@@ -16,8 +16,8 @@ use Rattle.model.specs.declared.Kind.{Kind}
 use Rattle.schedule.specs.declared.pricing.Changes.{Changes}
 use Rattle.schedule.specs.Checking.{enters, someEnters}
 use Rattle.schedule.specs.Requires.{runOf, segmentOf}
-use Rattle.schedule.specs.Pricing.{byteOf, heldOf, unitAt, leaving, Passed, Passing}
-use Rattle.schedule.proofs.Marks.{getD-within}
+use Rattle.schedule.specs.Pricing.{byteOf, heldOf, unitAt, leaving, SegmentsPassed, Passing}
+use Rattle.model.proofs.Lists.{getD-any}
 use Rattle.schedule.proofs.Words.{bit-zero}
 
 -- tests and costs of which a part is known
@@ -85,7 +85,7 @@ loads-told kind a sizes refs p t x r e = rw (held-of kind a sizes refs p t x) e
 
 -- the entry of a step is its reference
 pub entry-ref : (T : Trace) (t : ℕ) → t < steps T → entry T t ≡ getD (T .refs) t 0
-entry-ref T t lt = getD-within (T .refs) t (segs T) 0 lt
+entry-ref T t lt = getD-any (T .refs) t (segs T) 0 lt
 
 pub segment-within : (n x : ℕ) → n ≤ 256 → segmentOf n x ≤ 256
 segment-within n x few = go (ltb x n) refl
@@ -107,19 +107,19 @@ touched-ref T t i lt few = rw (entry-ref T t lt) (go (getD (T .refs) t 0) (ltb (
 
 module _ (T : Trace) (p : List ℕ) (t : ℕ) where
   -- before the first segment
-  pub passed-none : Passed T p t 0 (record { others = false; left = 0 })
+  pub passed-none : SegmentsPassed T p t 0 (record { others = false; left = 0 })
   unfolding someEnters leaving sum
   passed-none = record { entered = refl; gone = refl }
 
   -- one segment more
-  pub passed-one : (n : ℕ) (c r : Changes) → Passed T p t n c → r .others ≡ c .others || enters T p t n
-      → r .left ≡ c .left + cond (held T p t n && not (held T p (suc t) n)) (unitAt (T .kind) (T .sizes) n) 0 → Passed T p t (suc n) r
+  pub passed-one : (n : ℕ) (c r : Changes) → SegmentsPassed T p t n c → r .others ≡ c .others || enters T p t n
+      → r .left ≡ c .left + cond (held T p t n && not (held T p (suc t) n)) (unitAt (T .kind) (T .sizes) n) 0 → SegmentsPassed T p t (suc n) r
   unfolding someEnters leaving sum
   passed-one n c r ok others left = record { entered = rw (others, ok .entered); gone = rw (left, ok .gone) }
 
   -- k segments more that are held as in the step before: nothing changes
-  pub passed-run : (k n : ℕ) (c : Changes) → Passed T p t n c
-      → ((j : ℕ) → j < k → held T p (suc t) (n + j) ≡ held T p t (n + j)) → Passed T p t (n + k) c
+  pub passed-run : (k n : ℕ) (c : Changes) → SegmentsPassed T p t n c
+      → ((j : ℕ) → j < k → held T p (suc t) (n + j) ≡ held T p t (n + j)) → SegmentsPassed T p t (n + k) c
   unfolding enters
   passed-run zero n c ok same = rw (add-zero n) ok
   passed-run (suc k) n c ok same =

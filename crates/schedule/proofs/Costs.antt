@@ -18,14 +18,14 @@ use Rattle.model.specs.declared.Kind.{Kind}
 use Rattle.model.specs.declared.Kind.the-variants.{Time, Space}
 use Rattle.model.specs.declared.Refusal.the-variants.{TouchedNotHeld, HeldNotBefore}
 use Rattle.model.specs.declared.Verdict.the-variants.{Accepted, Refused}
-use Rattle.model.proofs.Bounds.{product-within}
-use Rattle.model.proofs.Sums.{sum-suc, sum-none, sum-eq, sum-add, sum-zero}
+use Rattle.model.proofs.Bounds.{product-within, unit-within}
+use Rattle.model.proofs.Sums.{sum-suc, sum-none, sum-eq, sum-add, sum-zero, sum-within}
 use Rattle.model.proofs.Touches.{touching-sum}
 use Rattle.schedule.specs.declared.pricing.Changes.{Changes}
 use Rattle.schedule.specs.declared.pricing.Costs.{Costs}
 use Rattle.schedule.specs.Checking.{missing, enters, someEnters, stepVerdict, stepsVerdict, scheduleVerdict, priceAnswer}
-use Rattle.schedule.specs.Requires.{Limits, segmentOf}
-use Rattle.schedule.specs.Pricing.{unitAt, leaving, Passed, heldCost, memoryThrough, loadThrough, Through, Moved}
+use Rattle.schedule.specs.Requires.{RunWithin, segmentOf}
+use Rattle.schedule.specs.Pricing.{unitAt, leaving, SegmentsPassed, heldCost, memoryThrough, loadThrough, Through, Moved}
 use Rattle.schedule.proofs.Changes.{entry-ref}
 use Rattle.schedule.proofs.Verdicts.{none-enters, step-accepted, one-more, held-touched, accepted-permitted, whole-verdict, accepted-answer, priced}
 
@@ -48,21 +48,11 @@ getD-beyond [] i le = refl
 getD-beyond (x ∷ l) zero le = absurd (omega arith)
 getD-beyond (x ∷ l) (suc i) le = getD-beyond l i (omega arith)
 
--- a sum of terms within m is within n × m
-sum-within : (n m : ℕ) (f : ℕ → ℕ) → ((t : ℕ) → t < n → f t ≤ m) → sum n f ≤ n * m
-sum-within zero m f le = omega (arith, sum-none f)
-sum-within (suc n) m f le = omega (arith, sum-suc n f, sum-within n m f (λ t l. le t (omega arith)), le n (omega arith))
-
 -- a sum of terms that are 0 from s on
 sum-beyond : (k s : ℕ) (f : ℕ → ℕ) → ((i : ℕ) → s ≤ i → f i ≡ 0) → sum (s + k) f ≡ sum s f
 sum-beyond zero s f beyond = rw (add-zero s)
 sum-beyond (suc k) s f beyond =
     rw (add-suc s k) (omega (arith, sum-suc (s + k) f, sum-beyond k s f beyond, beyond (s + k) (omega arith)))
-
--- one segment costs at most the largest size for one step
-unit-within : (kind : Kind) (z : ℕ) → z ≤ 4095 → unitCost kind z ≤ 4095
-unit-within Time z le = omega arith
-unit-within Space z le = le
 
 cond-within : (b : Bool) (x y m : ℕ) → x ≤ m → y ≤ m → cond b x y ≤ m
 cond-within true x y m l r = l
@@ -96,13 +86,13 @@ touching-none : (T : Trace) (f : ℕ → ℕ → ℕ) (t : ℕ) → t < steps T 
 unfolding touching
 touching-none T f t lt none = rw (entry-ref T t lt, le-ltb (getD (T .refs) t 0) (segs T) none)
 
-module _ (T : Trace) (ok : Limits T) (p : List ℕ) where
+module _ (T : Trace) (ok : RunWithin T) (p : List ℕ) where
   -- any segment costs at most 4,095 for one step, and a number that is none costs nothing
   unitAt-within : (i : ℕ) → unitAt (T .kind) (T .sizes) i ≤ 4095
   unitAt-within i = go (ltb i (segs T)) refl
     where
       go : (b : Bool) → ltb i (segs T) ≡ b → cond b (unitOf T i) 0 ≤ 4095
-      go true e = unit-within (T .kind) (sizeOf T i) (ok .size-within i (ltb-true i (segs T) e))
+      go true e = unit-within (T .kind) (sizeOf T i) 4095 (omega arith) (ok .size-within i (ltb-true i (segs T) e))
       go false e = omega arith
 
   -- what leaves, and what is held, costs at most 256 × 4,095 for one step
@@ -115,7 +105,7 @@ module _ (T : Trace) (ok : Limits T) (p : List ℕ) where
             (λ i l. cond-within (held T p t i && not (held T p (suc t) i)) _ 0 4095 (unitAt-within i) (omega arith)),
       )
 
-  pub passed-within : (t n : ℕ) (c : Changes) → Passed T p t n c → n ≤ 256 → c .left < 2 ^ 40
+  pub passed-within : (t n : ℕ) (c : Changes) → SegmentsPassed T p t n c → n ≤ 256 → c .left < 2 ^ 40
   passed-within t n c passed le = omega (arith, passed .gone, leaving-within t n le)
 
   pub held-within : (t : ℕ) → heldCost T p t ≤ 1048320
@@ -125,7 +115,7 @@ module _ (T : Trace) (ok : Limits T) (p : List ℕ) where
         arith,
         ok .segs-within,
         sum-within (segs T) 4095 (λ i. cond (held T p t i) (unitOf T i) 0)
-            (λ i l. cond-within (held T p t i) _ 0 4095 (unit-within (T .kind) (sizeOf T i) (ok .size-within i l)) (omega arith)),
+            (λ i l. cond-within (held T p t i) _ 0 4095 (unit-within (T .kind) (sizeOf T i) 4095 (omega arith) (ok .size-within i l)) (omega arith)),
       )
 
   -- what leaves, over the segments alone
@@ -212,7 +202,7 @@ module _ (T : Trace) (ok : Limits T) (p : List ℕ) where
     unfolding stepVerdict
     idle-enters e = rw (lacks-none, e)
 
-    module _ (c : Costs) (g : Changes) (done : Through T p t c) (found : Passed T p t 256 g) (still : g .others ≡ false) where
+    module _ (c : Costs) (g : Changes) (done : Through T p t c) (found : SegmentsPassed T p t 256 g) (still : g .others ≡ false) where
       idle-moves : heldCost T p (suc t) + g .left ≡ c .held
       idle-moves =
           omega (
@@ -260,7 +250,7 @@ module _ (T : Trace) (ok : Limits T) (p : List ℕ) where
     unfolding stepVerdict
     enters-wrongly h e = rw (missing-is, h, e)
 
-    module _ (c : Costs) (g : Changes) (done : Through T p t c) (found : Passed T p t 256 g)
+    module _ (c : Costs) (g : Changes) (done : Through T p t c) (found : SegmentsPassed T p t 256 g)
         (h : held T p (suc t) (getD (T .refs) t 0) ≡ true) (none : g .others ≡ false) (b : Bool)
         (before : b ≡ held T p t (getD (T .refs) t 0)) where
       -- what is held after the step and what left
@@ -300,7 +290,7 @@ module _ (T : Trace) (ok : Limits T) (p : List ℕ) where
           }
 
 -- either, where x is the segment that the step touches, 256 where it touches none
-module _ (T : Trace) (ok : Limits T) (p : List ℕ) (t : ℕ) (lt : t < steps T) (x : ℕ) (is : x ≡ segmentOf (segs T) (getD (T .refs) t 0)) where
+module _ (T : Trace) (ok : RunWithin T) (p : List ℕ) (t : ℕ) (lt : t < steps T) (x : ℕ) (is : x ≡ segmentOf (segs T) (getD (T .refs) t 0)) where
   -- a fact of what is touched, and of nothing touched
   by-entry : {A : Type 0} → (getD (T .refs) t 0 < segs T → x ≡ getD (T .refs) t 0 → ltb x 256 ≡ true → A)
       → (segs T ≤ getD (T .refs) t 0 → ltb x 256 ≡ false → sizeOf T x ≡ 0 → A) → A
@@ -329,7 +319,7 @@ module _ (T : Trace) (ok : Limits T) (p : List ℕ) (t : ℕ) (lt : t < steps T)
       (λ touch same some. enters-wrongly T ok p t lt touch (not-false _ (rw (some, same) at e)) f)
       (λ idle none z. idle-enters T ok p t lt idle f)
 
-  module _ (c : Costs) (g : Changes) (done : Through T p t c) (found : Passed T p t 256 g)
+  module _ (c : Costs) (g : Changes) (done : Through T p t c) (found : SegmentsPassed T p t 256 g)
       (e : cond (ltb x 256) (not (held T p (suc t) x)) false ≡ false) (still : g .others ≡ false) (b : Bool)
       (before : b ≡ cond (ltb x 256) (held T p t x) true) where
     pub any-within : g .left ≤ c .held + cond b 0 (unitOf T x)

@@ -12,7 +12,7 @@ use borrow.Author.Tests.{eqb-true, ne-eqb, lt-ltb, ltb-true, ltb-false}
 use Rattle.model.specs.Traces.{Trace, segs, steps, entry, touched}
 use Rattle.model.specs.Figures.{kept}
 use Rattle.model.specs.Schedules.{optimalHeld, optimalByte, optimalSchedule}
-use Rattle.model.proofs.Sums.{length-listOf, getD-listOf}
+use Rattle.model.proofs.Tables.{length-tabulate, getD-tabulate}
 use Rattle.model.proofs.Optimal.{next as nextAt, next-step, next-end}
 use Rattle.schedule.specs.Requires.{segmentOf}
 use Rattle.schedule.specs.Writing.{noSegments, stepWith}
@@ -103,7 +103,7 @@ module _ (T : Trace) (h d : ℕ) where
       whole = optimalSchedule T h d ++ rest
 
       all : length (optimalSchedule T h d) ≡ 32 * steps T
-      all = length-listOf (32 * steps T) (optimalByte T h d)
+      all = length-tabulate (32 * steps T) (optimalByte T h d)
 
       long : length (take 32 (drop (32 * t) whole)) ≡ 32
       long =
@@ -119,7 +119,7 @@ module _ (T : Trace) (h d : ℕ) where
           getD-take 32 (drop (32 * t) whole) j 0 lj
           ∙ getD-drop (32 * t) whole j 0
           ∙ List·getD-append (optimalSchedule T h d) rest 0 (32 * t + j) (omega (arith, all))
-          ∙ getD-listOf (32 * steps T) (optimalByte T h d) (32 * t + j) 0 (omega arith)
+          ∙ getD-tabulate (32 * steps T) (optimalByte T h d) (32 * t + j) 0 (omega arith)
           ∙ rw (place, byte, bytesOf-at (optimalHeld T h d t) j lj)
 
 -- all steps from place t on are written: `next` has the segments whose next touch from there on is kept, `out` is the place
@@ -134,7 +134,7 @@ module _ (T : Trace) (h d : ℕ) (old : List ℕ) (room : 32 * steps T ≤ lengt
       record {
         next-is = sym (bytesOf-none (nextAt T h d (steps T)) (λ i l. next-end T h d i));
         out-is =
-            sym (rw (drop-at (optimalSchedule T h d) (drop (32 * steps T) old) (32 * steps T) (length-listOf (32 * steps T) (optimalByte T h d)))
+            sym (rw (drop-at (optimalSchedule T h d) (drop (32 * steps T) old) (32 * steps T) (length-tabulate (32 * steps T) (optimalByte T h d)))
             (take-append-drop (32 * steps T) old));
       }
 
@@ -207,6 +207,6 @@ module _ (T : Trace) (h d : ℕ) (old : List ℕ) (room : 32 * steps T ≤ lengt
         length-take-le (32 * t) old (omega arith),
         length-drop (32 * t) whole,
         length-append (optimalSchedule T h d) (drop (32 * steps T) old),
-        length-listOf (32 * steps T) (optimalByte T h d),
+        length-tabulate (32 * steps T) (optimalByte T h d),
         length-drop (32 * steps T) old,
       )

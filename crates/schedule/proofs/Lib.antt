@@ -2,7 +2,6 @@ pub mod Changes
 pub mod Copying
 pub mod Costs
 pub mod Filling
-pub mod Lists
 pub mod Marks
 pub mod Masks
 pub mod Runs

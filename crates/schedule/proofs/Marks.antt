@@ -10,31 +10,15 @@ use lib.ListN.{length, getD, set, length-set, length-replicate}
 use lib.Seq.{getD-set-same, getD-set-other}
 use borrow.Author.Count.{below-more}
 use borrow.Author.Tests.{le-leb, lt-leb}
-use Rattle.model.specs.Costs.{retention, unitCost}
 use Rattle.model.specs.Traces.{Trace, segs, steps, entry, sizeOf, unreferenced}
 use Rattle.model.specs.Figures.{kept}
 use Rattle.model.specs.declared.Kind.{Kind}
 use Rattle.model.specs.declared.PriceRow.{PriceRow}
-use Rattle.model.specs.declared.Kind.the-variants.{Time, Space}
-use Rattle.model.proofs.Bounds.{product-within}
-use Rattle.model.specs.LastTouches.{lastFrom, lastTable}
+use Rattle.model.specs.LastTouches.{lastFrom, lastTable, allUntouched}
+use Rattle.model.proofs.Lists.{getD-any}
 use Rattle.model.proofs.LastTouches.{lastTable-at, lastTable-start, lastTable-step, lastTable-idle, unreferenced-within}
-use Rattle.schedule.specs.Requires.{runOf, Limits}
-use Rattle.schedule.specs.Writing.{allUntouched, noMarks, keptBy}
-
--- within a list it is of no account what stands beyond it
-pub getD-within : (l : List ℕ) (n d e : ℕ) → n < length l → getD l n d ≡ getD l n e
-getD-within [] n d e lt = absurd (omega arith)
-getD-within (x ∷ xs) zero d e lt = refl
-getD-within (x ∷ xs) (suc n) d e lt = getD-within xs n d e (omega arith)
-
--- the retention of a 16-bit size over a 16-bit time
-pub retention-within : (kind : Kind) (z k : ℕ) → z < 65536 → k < 65536 → retention kind z k < 2 ^ 40
-retention-within kind z k lz lk = omega (arith, product-within k (unitCost kind z) 65536 65536 (omega arith) (within kind))
-  where
-    within : (q : Kind) → unitCost q z ≤ 65536
-    within Time = omega arith
-    within Space = omega arith
+use Rattle.schedule.specs.Requires.{runOf, RunWithin}
+use Rattle.schedule.specs.Writing.{noMarks, keptBy}
 
 module _ (T : Trace) (row : PriceRow) where
   -- the mark in the table tells whether a touch is kept
@@ -58,7 +42,7 @@ pub record Marked (T : Trace) (row : PriceRow) (marks : List Bool) (last : List 
   pub marked : (k : ℕ) → k < t → entry T k < segs T → getD marks k false ≡ kept T (row .h) (row .d) k (entry T k)
   pub last-is : last ≡ lastTable T t
 
-module _ (kind : Kind) (a : ℕ) (row : PriceRow) (sizes refs : List ℕ) (ok : Limits (runOf kind a sizes refs)) where
+module _ (kind : Kind) (a : ℕ) (row : PriceRow) (sizes refs : List ℕ) (ok : RunWithin (runOf kind a sizes refs)) where
   abbrev run : Trace
   run = runOf kind a sizes refs
 
@@ -76,7 +60,7 @@ module _ (kind : Kind) (a : ℕ) (row : PriceRow) (sizes refs : List ℕ) (ok : 
       → i ≡ getD refs t 0 → i < length sizes → x ≡ keptBy kind a row (getD sizes i 0) (getD last i 0) t
       → Marked run row (set marks t x) (set last i (t + 1)) (t + 1)
   marked-step marks last t i x v lt ei is-segment ex =
-      let e : entry run t ≡ i = getD-within refs t (length sizes) 0 lt ∙ sym ei in
+      let e : entry run t ≡ i = getD-any refs t (length sizes) 0 lt ∙ sym ei in
       let here : x ≡ kept run (row .h) (row .d) t (entry run t) =
       ex ∙ rw (v .last-is, e) (kept-mark run row t i (omega arith) (omega arith))
       in
@@ -96,7 +80,7 @@ module _ (kind : Kind) (a : ℕ) (row : PriceRow) (sizes refs : List ℕ) (ok : 
   pub marked-idle : (marks : List Bool) (last : List ℕ) (t : ℕ) → Marked run row marks last t → t < length refs
       → length sizes ≤ getD refs t 0 → Marked run row marks last (t + 1)
   marked-idle marks last t v lt idle =
-      let e : entry run t ≡ getD refs t 0 = getD-within refs t (length sizes) 0 lt in
+      let e : entry run t ≡ getD refs t 0 = getD-any refs t (length sizes) 0 lt in
       record {
         within = omega arith;
         whole = v .whole;

@@ -9,10 +9,9 @@ use lib.Dec.{eqb, ltb}
 use lib.ListN.{length, getD, set, length-replicate, getD-replicate}
 use lib.Seq.{ext-getD}
 use borrow.Author.Tests.{eqb-true, eqb-false, eq-eqb, ne-eqb, lt-ltb, le-ltb, ltb-true, ltb-false}
-use Rattle.model.specs.Sums.{listOf}
-use Rattle.model.proofs.Sums.{length-listOf, getD-listOf}
+use Rattle.model.specs.Sums.{tabulate}
+use Rattle.model.proofs.Tables.{length-tabulate, getD-tabulate, tabulate-eq, tabulate-set}
 use Rattle.schedule.specs.Writing.{noMasks, maskByte, maskTable}
-use Rattle.schedule.proofs.Lists.{listOf-eq, listOf-set}
 
 -- what the table of masks holds
 pub maskTable-at : (i j : ℕ) → i ≤ 256 → j < 32 → getD maskTable (32 * i + j) 0 ≡ maskByte i j
@@ -20,27 +19,27 @@ unfolding maskTable
 maskTable-at i j li lj =
     let row : (32 * i + j) / 32 ≡ i = omega arith in
     let column : (32 * i + j) % 32 ≡ j = omega arith in
-    getD-listOf 8224 (λ n. maskByte (n / 32) (n % 32)) (32 * i + j) 0 (omega arith) ∙ rw (row, column)
+    getD-tabulate 8224 (λ n. maskByte (n / 32) (n % 32)) (32 * i + j) 0 (omega arith) ∙ rw (row, column)
 
 -- the table once the masks of the segments below i are in it
 unfoldable pub masksBelow : ℕ → List ℕ
-masksBelow i = listOf 8224 (λ n. cond (ltb (n / 32) i) (maskByte (n / 32) (n % 32)) 0)
+masksBelow i = tabulate 8224 (λ n. cond (ltb (n / 32) i) (maskByte (n / 32) (n % 32)) 0)
 
 pub length-masksBelow : (i : ℕ) → length (masksBelow i) ≡ 8224
 unfolding masksBelow
-length-masksBelow i = length-listOf 8224 (λ n. cond (ltb (n / 32) i) (maskByte (n / 32) (n % 32)) 0)
+length-masksBelow i = length-tabulate 8224 (λ n. cond (ltb (n / 32) i) (maskByte (n / 32) (n % 32)) 0)
 
 pub masksBelow-start : masksBelow 0 ≡ noMasks
 unfolding masksBelow noMasks
 masksBelow-start =
     ext-getD 0 (masksBelow 0) noMasks (length-masksBelow 0 ∙ sym (length-replicate {A = ℕ} 8224 0))
     (λ n lt. let inside : n < 8224 = omega (arith, length-masksBelow 0) in
-    getD-listOf 8224 (λ n. cond (ltb (n / 32) 0) (maskByte (n / 32) (n % 32)) 0) n 0 inside
+    getD-tabulate 8224 (λ n. cond (ltb (n / 32) 0) (maskByte (n / 32) (n % 32)) 0) n 0 inside
     ∙ rw (le-ltb (n / 32) 0 (omega arith)) (sym (getD-replicate {A = ℕ} 8224 n 0 0 inside)))
 
 pub masksBelow-step : (i : ℕ) → i < 256 → set (masksBelow i) (32 * i + i / 8) (2 ^ (i % 8)) ≡ masksBelow (suc i)
 unfolding masksBelow maskByte
-masksBelow-step i lt = rw value at (listOf-set 8224 (32 * i + i / 8) (entry i) (entry (suc i)) (omega arith) other)
+masksBelow-step i lt = rw value at (tabulate-set 8224 (entry i) (entry (suc i)) (32 * i + i / 8) (omega arith) (λ n l ne. sym (other n l ne)))
   where
     entry : ℕ → ℕ → ℕ
     entry m n = cond (ltb (n / 32) m) (maskByte (n / 32) (n % 32)) 0
@@ -67,7 +66,7 @@ masksBelow-step i lt = rw value at (listOf-set 8224 (32 * i + i / 8) (entry i) (
 pub masksBelow-end : masksBelow 256 ≡ maskTable
 unfolding masksBelow maskTable maskByte
 masksBelow-end =
-    listOf-eq 8224 (λ n. cond (ltb (n / 32) 256) (maskByte (n / 32) (n % 32)) 0) (λ n. maskByte (n / 32) (n % 32))
+    tabulate-eq 8224 (λ n. cond (ltb (n / 32) 256) (maskByte (n / 32) (n % 32)) 0) (λ n. maskByte (n / 32) (n % 32))
     (λ n l. go n l (ltb (n / 32) 256) refl)
   where
     go : (n : ℕ) → n < 8224 → (b : Bool) → ltb (n / 32) 256 ≡ b → cond b (maskByte (n / 32) (n % 32)) 0 ≡ maskByte (n / 32) (n % 32)

@@ -15,7 +15,7 @@ use Rattle.model.specs.declared.Kind.{Kind}
 use Rattle.schedule.specs.declared.pricing.Changes.{Changes}
 use Rattle.schedule.specs.Checking.{enters}
 use Rattle.schedule.specs.Requires.{runOf, segmentOf}
-use Rattle.schedule.specs.Pricing.{heldOf, unitAt, Step, Passed, Passing}
+use Rattle.schedule.specs.Pricing.{heldOf, unitAt, Step, SegmentsPassed, Passing}
 use Rattle.schedule.proofs.Changes.{held-of, touched-ref, passed-one, passed-run}
 use Rattle.schedule.proofs.Words.{bit-shifted, same-below, lowest-below}
 
@@ -52,7 +52,7 @@ module _ (kind : Kind) (a : ℕ) (sizes refs p : List ℕ) (t : ℕ) where
     pub close : e ≤ i + 64
     pub before : Rest p t i e old
     pub after : Rest p (suc t) i e new
-    pub passed : Passed T p t i c
+    pub passed : SegmentsPassed T p t i c
 
   -- a bit that is the same in both is held as in the step before
   same-held : (e i old new k : ℕ) (c : Changes) → Passes e i old new c → i + k < e → bit old k ≡ bit new k
@@ -77,7 +77,7 @@ module _ (kind : Kind) (a : ℕ) (sizes refs p : List ℕ) (t : ℕ) where
       let lt : i + s < e = rw first (differs-below e i old new c w ne) in
       let old-held = w .before .bits s lt ∙ sym (held-of kind a sizes refs p t (i + s)) in
       let new-held = w .after .bits s lt ∙ sym (held-of kind a sizes refs p (suc t) (i + s)) in
-      let run : Passed T p t (i + s) c =
+      let run : SegmentsPassed T p t (i + s) c =
       passed-run T p t s i c (w .passed)
       (λ j l. same-held e i old new j c w (omega arith) (same-below 64 old new j (omega (arith, first)))) in
       record {
@@ -93,7 +93,7 @@ module _ (kind : Kind) (a : ℕ) (sizes refs p : List ℕ) (t : ℕ) where
       }
 
   -- where the bits are the same, the rest is one run
-  pub passes-end : (e i old new : ℕ) (c : Changes) → Passes e i old new c → bitXor old new ≡ 0 → Passed T p t e c
+  pub passes-end : (e i old new : ℕ) (c : Changes) → Passes e i old new c → bitXor old new ≡ 0 → SegmentsPassed T p t e c
   passes-end e i old new c w none =
       let all : i + (e - i) ≡ e = omega (arith, w .within) in
       rw all at (passed-run T p t (e - i) i c (w .passed)

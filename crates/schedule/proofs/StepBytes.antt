@@ -11,12 +11,12 @@ use lib.Dec.{eqb}
 use lib.ListN.{length, getD}
 use lib.Pow.{pow-lt}
 use borrow.Author.Tests.{eqb-true, eqb-false, eq-eqb, ne-eqb}
-use Rattle.model.specs.Sums.{sum, listOf}
+use Rattle.model.specs.Sums.{sum, tabulate}
 use Rattle.model.specs.Schedules.{bit}
-use Rattle.model.proofs.Sums.{sum-eq, term-le, last-or-below, length-listOf, getD-listOf}
+use Rattle.model.proofs.Sums.{sum-eq, term-le, last-or-below}
+use Rattle.model.proofs.Tables.{length-tabulate, getD-tabulate, tabulate-eq}
 use Rattle.model.proofs.Bits.{ofBits, bit-ofBits}
 use Rattle.schedule.specs.Writing.{noSegments, maskByte, masked, stepWith}
-use Rattle.schedule.proofs.Lists.{listOf-eq}
 
 -- sums whose terms differ at k only differ by these two terms
 sum-change : (n k : ℕ) (f g : ℕ → ℕ) → k < n → ((j : ℕ) → j < n → (j ≡ k → ⊥) → f j ≡ g j) → sum n f + g k ≡ sum n g + f k
@@ -52,15 +52,15 @@ and-all m false lt = and-zero-r m
 
 -- the bytes of a step in which those segments are held of which f says so
 unfoldable pub bytesOf : (ℕ → Bool) → List ℕ
-bytesOf f = listOf 32 (λ j. ofBits 8 (λ k. f (8 * j + k)))
+bytesOf f = tabulate 32 (λ j. ofBits 8 (λ k. f (8 * j + k)))
 
 pub length-bytesOf : (f : ℕ → Bool) → length (bytesOf f) ≡ 32
 unfolding bytesOf
-length-bytesOf f = length-listOf 32 (λ j. ofBits 8 (λ k. f (8 * j + k)))
+length-bytesOf f = length-tabulate 32 (λ j. ofBits 8 (λ k. f (8 * j + k)))
 
 pub bytesOf-at : (f : ℕ → Bool) (j : ℕ) → j < 32 → getD (bytesOf f) j 0 ≡ ofBits 8 (λ k. f (8 * j + k))
 unfolding bytesOf
-bytesOf-at f j lt = getD-listOf 32 (λ j. ofBits 8 (λ k. f (8 * j + k))) j 0 lt
+bytesOf-at f j lt = getD-tabulate 32 (λ j. ofBits 8 (λ k. f (8 * j + k))) j 0 lt
 
 -- f with another answer at i
 abbrev pub change : (ℕ → Bool) → ℕ → Bool → ℕ → Bool
@@ -110,27 +110,27 @@ masked-byte f i j on = go (eqb (i / 8) j) refl
 pub stepWith-bytesOf : (f : ℕ → Bool) (i : ℕ) (on : Bool) → stepWith (bytesOf f) i (cond on 255 0) ≡ bytesOf (change f i on)
 unfolding stepWith bytesOf
 stepWith-bytesOf f i on =
-    listOf-eq 32 (λ j. masked (getD (bytesOf f) j 0) (maskByte i j) (cond on 255 0)) (λ j. ofBits 8 (λ k. change f i on (8 * j + k)))
+    tabulate-eq 32 (λ j. masked (getD (bytesOf f) j 0) (maskByte i j) (cond on 255 0)) (λ j. ofBits 8 (λ k. change f i on (8 * j + k)))
     (λ j lt. rw (bytesOf-at f j lt) (masked-byte f i j on))
 
 -- steps in which the same segments are held
 pub bytesOf-eq : (f g : ℕ → Bool) → ((i : ℕ) → i < 256 → f i ≡ g i) → bytesOf f ≡ bytesOf g
 unfolding bytesOf
 bytesOf-eq f g same =
-    listOf-eq 32 (λ j. ofBits 8 (λ k. f (8 * j + k))) (λ j. ofBits 8 (λ k. g (8 * j + k)))
+    tabulate-eq 32 (λ j. ofBits 8 (λ k. f (8 * j + k))) (λ j. ofBits 8 (λ k. g (8 * j + k)))
     (λ j lt. sum-eq 8 (λ k. cond (f (8 * j + k)) (2 ^ k) 0) (λ k. cond (g (8 * j + k)) (2 ^ k) 0)
     (λ k l. rw (same (8 * j + k) (omega arith))))
 
 -- no segment is held
 pub bytesOf-none : (f : ℕ → Bool) → ((i : ℕ) → i < 256 → f i ≡ false) → bytesOf f ≡ noSegments
-unfolding bytesOf noSegments listOf sum
+unfolding bytesOf noSegments tabulate sum
 bytesOf-none f none = bytesOf-eq f (λ i. false) none
 
 -- a step with one segment changed has 32 bytes, each masked by that of the segment alone
 pub length-stepWith : (step : List ℕ) (i on : ℕ) → length (stepWith step i on) ≡ 32
 unfolding stepWith
-length-stepWith step i on = length-listOf 32 (λ j. masked (getD step j 0) (maskByte i j) on)
+length-stepWith step i on = length-tabulate 32 (λ j. masked (getD step j 0) (maskByte i j) on)
 
 pub stepWith-at : (step : List ℕ) (i on j : ℕ) → j < 32 → getD (stepWith step i on) j 0 ≡ masked (getD step j 0) (maskByte i j) on
 unfolding stepWith
-stepWith-at step i on j lt = getD-listOf 32 (λ j. masked (getD step j 0) (maskByte i j) on) j 0 lt
+stepWith-at step i on j lt = getD-tabulate 32 (λ j. masked (getD step j 0) (maskByte i j) on) j 0 lt

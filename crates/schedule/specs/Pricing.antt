@@ -17,7 +17,7 @@ use Rattle.schedule.specs.declared.pricing.Costs.{Costs}
 use Rattle.schedule.specs.declared.pricing.Stepped.{Stepped}
 use Rattle.schedule.specs.declared.pricing.Stepped.the-variants.{Faulty, Priced}
 use Rattle.schedule.specs.Checking.{someEnters, stepVerdict, stepsVerdict}
-use Rattle.schedule.specs.Requires.{Limits}
+use Rattle.schedule.specs.Requires.{RunWithin}
 
 -- byte j of step t, counted from 1, of a schedule; before step 1 nothing is held
 unfoldable pub byteOf : List ℕ → ℕ → ℕ → ℕ
@@ -38,12 +38,12 @@ leaving T p t n = sum n (λ i. cond (held T p t i && not (held T p (suc t) i)) (
 
 -- a schedule of the right length for a run that can be priced, and the place t of a step
 pub record Step (T : Trace) (p : List ℕ) (t : ℕ) : Type 0 where
-  pub limits : Limits T
+  pub limits : RunWithin T
   pub whole : length p ≡ 32 * steps T
   pub place : t < steps T
 
 -- of the segments 0 to n - 1 in the step at place t: whether an untouched one entered, and what those that left cost for one step
-pub record Passed (T : Trace) (p : List ℕ) (t n : ℕ) (c : Changes) : Type 0 where
+pub record SegmentsPassed (T : Trace) (p : List ℕ) (t n : ℕ) (c : Changes) : Type 0 where
   pub entered : c .others ≡ someEnters T p t n
   pub gone : c .left ≡ leaving T p t n
 

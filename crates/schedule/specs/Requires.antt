@@ -12,7 +12,7 @@ abbrev pub runOf : Kind → ℕ → List ℕ → List ℕ → Trace
 runOf kind a sizes refs = record { kind = kind; a = a; sizes = sizes; start = nothing; refs = refs }
 
 -- a run within the limits of a sheet
-pub record Limits (T : Trace) : Type 0 where
+pub record RunWithin (T : Trace) : Type 0 where
   pub segs-within : segs T ≤ mostSegs
   pub size-within : (i : ℕ) → i < segs T → sizeOf T i ≤ largestSize
   pub refs-within : steps T ≤ mostRefs

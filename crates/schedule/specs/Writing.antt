@@ -8,16 +8,12 @@ use lib.Bits.{bitAnd}
 use lib.Dec.{eqb, leb}
 use lib.ListN.{getD, replicate}
 use Rattle.model.specs.Costs.{swapCost, retention, keeps}
-use Rattle.model.specs.Sums.{listOf}
+use Rattle.model.specs.Sums.{tabulate}
 use Rattle.model.specs.Traces.{Trace, segs, steps, entry}
 use Rattle.model.specs.Figures.{kept}
 use Rattle.model.specs.Sheets.{mostSegs, mostRefs}
 use Rattle.model.specs.declared.Kind.{Kind}
 use Rattle.model.specs.declared.PriceRow.{PriceRow}
-
--- every segment is marked as untouched
-unfoldable pub allUntouched : List ℕ
-allUntouched = replicate mostSegs 65535
 
 -- no touch is marked as kept
 unfoldable pub noMarks : List Bool
@@ -45,7 +41,7 @@ maskByte i j = cond (eqb (i / 8) j) (2 ^ (i % 8)) 0
 
 -- for each segment the bytes of a step that holds this one alone, and then those of a step that holds none
 unfoldable pub maskTable : List ℕ
-maskTable = listOf 8224 (λ n. maskByte (n / 32) (n % 32))
+maskTable = tabulate 8224 (λ n. maskByte (n / 32) (n % 32))
 
 -- a byte with its bits in a mask replaced by those of another byte
 unfoldable pub masked : ℕ → ℕ → ℕ → ℕ
@@ -53,4 +49,4 @@ masked byte mask on = byte - bitAnd byte mask + bitAnd mask on
 
 -- the bytes of a step with segment i held, where `on` is 255, or not held, where it is 0; the other segments stay
 unfoldable pub stepWith : List ℕ → ℕ → ℕ → List ℕ
-stepWith step i on = listOf 32 (λ j. masked (getD step j 0) (maskByte i j) on)
+stepWith step i on = tabulate 32 (λ j. masked (getD step j 0) (maskByte i j) on)

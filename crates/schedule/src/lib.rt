@@ -5,9 +5,11 @@ pub mod writing;
 
 use model::LoadUnits;
 use model::MemoryUnits;
+use model::Sheet;
 use model::Verdict;
 ghost use mathlib.Core.Path.{_≡_};
 ghost use Prim.Native.Nat.{_*_, _≤_};
+ghost use Rattle.model.specs.Sheets.{mostRefs};
 
 // The shape of a schedule of so many steps: 32 bytes a step, segment i at bit i % 8 of byte i / 8.
 pub struct Schedule {
@@ -15,16 +17,16 @@ pub struct Schedule {
 }
 
 impl Schedule {
-    // The bytes of a step.
-    pub const STEP_BYTES: usize = 32;
+    // The bytes of a step, a bit for each segment.
+    pub const STEP_BYTES: usize = Sheet::MAX_SEGS / 8;
     // The most steps.
-    pub const MAX_STEPS: usize = 2_048;
+    pub const MAX_STEPS: usize = Sheet::MAX_REFS;
     // The bytes of the largest schedule.
-    pub const MAX_BYTES: usize = 65_536;
+    pub const MAX_BYTES: usize = Schedule::STEP_BYTES * Schedule::MAX_STEPS;
 
     // The schedule of a run of so many steps.
     pub fn of_steps(steps: usize) -> Schedule
-        requires { ⌜ steps ≤ 2048 ⌝ }
+        requires { ⌜ steps ≤ mostRefs ⌝ }
         ensures { λ r. ⌜ r .steps ≡ steps ⌝ }
     {
         Schedule { steps }
@@ -32,7 +34,7 @@ impl Schedule {
 
     // How many bytes it has.
     pub fn length(self) -> usize
-        requires { ⌜ self .steps ≤ 2048 ⌝ }
+        requires { ⌜ self .steps ≤ mostRefs ⌝ }
         ensures { λ r. ⌜ (r ≡ 32 * self .steps) × (r ≤ 65536) ⌝ }
     {
         Schedule::STEP_BYTES * self.steps

@@ -1,6 +1,8 @@
 // Checking and pricing a schedule handed in: one pass over its steps that keeps the cost of what is held and looks only at the segments
 // whose bits changed against the step before. What a price is is written in specs/; nothing is assumed.
 use crate::PriceAnswer;
+use crate::Schedule;
+use crate::writing::NO_SEGMENT;
 use model::Kind;
 use model::LoadUnits;
 use model::MemoryUnits;
@@ -12,11 +14,12 @@ ghost use mathlib.Core.Bool.{true, false, cond, not};
 ghost use lib.Dec.{ltb};
 ghost use Prim.Native.Nat.{ℕ, _+_, _*_, _/_, _%_, _^_, _≤_, _<_};
 ghost use lib.ListN.{length, getD};
+ghost use Rattle.model.specs.Sheets.{mostSegs};
 ghost use Rattle.model.specs.Costs.{unitCost, swapCost};
 ghost use Rattle.model.specs.Schedules.{bit};
 ghost use Rattle.schedule.specs.Checking.{noPrice, priceAnswer};
-ghost use Rattle.schedule.specs.Requires.{runOf, Limits, segmentOf};
-ghost use Rattle.schedule.specs.Pricing.{heldOf, unitAt, Step, Passed, Passing, Through, After, Moved};
+ghost use Rattle.schedule.specs.Requires.{runOf, RunWithin, segmentOf};
+ghost use Rattle.schedule.specs.Pricing.{heldOf, unitAt, Step, SegmentsPassed, Passing, Through, After, Moved};
 
 // What the segments passed so far show of a step: whether an untouched one entered, and the cost of those that left.
 struct Changes {
@@ -67,7 +70,7 @@ fn word_at(schedule: &[u8], t: usize, m: usize) -> u64
     if t == 0 {
         return 0;
     }
-    joined(schedule, 32 * (t - 1) + 8 * m)
+    joined(schedule, Schedule::STEP_BYTES * (t - 1) + 8 * m)
 }
 
 // Whether segment i is held in step t, counted from 1: nothing is before step 1.
@@ -78,17 +81,7 @@ fn holds(schedule: &[u8], t: usize, i: usize) -> bool
     if t == 0 {
         return false;
     }
-    (schedule[32 * (t - 1) + i / 8] >> (i % 8)) % 2 == 1
-}
-
-// What a segment of size z costs for one step.
-fn unit_cost(kind: Kind, z: u16) -> u64
-    ensures { λ r. ⌜ (r ≡ unitCost kind z) × (r < 65536) ⌝ }
-{
-    match kind {
-        Kind::Time => 1,
-        Kind::Space => z as u64,
-    }
+    (schedule[Schedule::STEP_BYTES * (t - 1) + i / 8] >> (i % 8)) % 2 == 1
 }
 
 // What segment i costs for one step: 0 where i is no segment.
@@ -96,7 +89,7 @@ fn unit_at(kind: Kind, sizes: &[u16], i: usize) -> u64
     ensures { λ r. ⌜ (r ≡ unitAt kind (now (sizes .entry)) i) × (r < 65536) ⌝ }
 {
     if i < sizes.len() {
-        return unit_cost(kind, sizes[i]);
+        return model::unit_cost(kind, sizes[i]);
     }
     0
 }
@@ -141,8 +134,8 @@ fn pass_word(
 ) -> Changes
     requires { ⌜ Step (runOf kind a (now sizes) (now refs)) (now schedule) t ⌝ }
     requires { ⌜ x ≡ segmentOf (length (now sizes)) (getD (now refs) t 0) ⌝ }
-    requires { ⌜ (m < 4) × Passed (runOf kind a (now sizes) (now refs)) (now schedule) t (64 * m) c ⌝ }
-    ensures { λ r. ⌜ Passed (runOf kind a (now (sizes .entry)) (now (refs .entry))) (now (schedule .entry)) t (64 * m + 64) r ⌝ }
+    requires { ⌜ (m < 4) × SegmentsPassed (runOf kind a (now sizes) (now refs)) (now schedule) t (64 * m) c ⌝ }
+    ensures { λ r. ⌜ SegmentsPassed (runOf kind a (now (sizes .entry)) (now (refs .entry))) (now (schedule .entry)) t (64 * m + 64) r ⌝ }
 {
     let mut old = word_at(schedule, t, m);
     let mut new = word_at(schedule, t + 1, m);
@@ -161,7 +154,7 @@ fn pass_word(
     c
 }
 
-// All segments of the step at place t, which touches x, or nothing where that is 256.
+// All segments of the step at place t, which touches x, or nothing where that is 256, which is none.
 fn pass_step(
     kind: Kind,
     a: u8,
@@ -173,7 +166,7 @@ fn pass_step(
 ) -> Changes
     requires { ⌜ Step (runOf kind a (now sizes) (now refs)) (now schedule) t ⌝ }
     requires { ⌜ x ≡ segmentOf (length (now sizes)) (getD (now refs) t 0) ⌝ }
-    ensures { λ r. ⌜ Passed (runOf kind a (now (sizes .entry)) (now (refs .entry))) (now (schedule .entry)) t 256 r ⌝ }
+    ensures { λ r. ⌜ SegmentsPassed (runOf kind a (now (sizes .entry)) (now (refs .entry))) (now (schedule .entry)) t 256 r ⌝ }
 {
     let mut c = Changes {
         others: false,
@@ -201,7 +194,7 @@ fn moved(kind: Kind, a: u8, z: u16, before: bool, left: u64, c: Costs) -> Costs
             load: c.load,
         };
     }
-    let held = c.held + unit_cost(kind, z) - left;
+    let held = c.held + model::unit_cost(kind, z) - left;
     Costs {
         held,
         memory: c.memory + held,
@@ -211,10 +204,10 @@ fn moved(kind: Kind, a: u8, z: u16, before: bool, left: u64, c: Costs) -> Costs
 
 // Whether the step at place t touches a segment x that it does not hold; 256 is none.
 fn lacks(schedule: &[u8], t: usize, x: usize) -> bool
-    requires { ⌜ (32 * t + 32 ≤ length (now schedule)) × (x ≤ 256) ⌝ }
-    ensures { λ r. ⌜ r ≡ cond (ltb x 256) (not (heldOf (now (schedule .entry)) (t + 1) x)) false ⌝ }
+    requires { ⌜ (32 * t + 32 ≤ length (now schedule)) × (x ≤ mostSegs) ⌝ }
+    ensures { λ r. ⌜ r ≡ cond (ltb x mostSegs) (not (heldOf (now (schedule .entry)) (t + 1) x)) false ⌝ }
 {
-    if x < 256 {
+    if x < NO_SEGMENT {
         return !holds(schedule, t + 1, x);
     }
     false
@@ -222,10 +215,10 @@ fn lacks(schedule: &[u8], t: usize, x: usize) -> bool
 
 // Whether the step at place t loads nothing: it touches a segment x that was held before, or none, where x is 256.
 fn loads_none(schedule: &[u8], t: usize, x: usize) -> bool
-    requires { ⌜ (32 * t ≤ length (now schedule)) × (x ≤ 256) ⌝ }
-    ensures { λ r. ⌜ r ≡ cond (ltb x 256) (heldOf (now (schedule .entry)) t x) true ⌝ }
+    requires { ⌜ (32 * t ≤ length (now schedule)) × (x ≤ mostSegs) ⌝ }
+    ensures { λ r. ⌜ r ≡ cond (ltb x mostSegs) (heldOf (now (schedule .entry)) t x) true ⌝ }
 {
-    if x < 256 {
+    if x < NO_SEGMENT {
         return holds(schedule, t, x);
     }
     true
@@ -264,14 +257,7 @@ fn step(
         return Stepped::Faulty(Refusal::HeldNotBefore);
     }
     let before = loads_none(schedule, t, x);
-    Stepped::Priced(moved(
-        kind,
-        a,
-        size_at(sizes, x),
-        before,
-        found.left,
-        c,
-    ))
+    Stepped::Priced(moved(kind, a, size_at(sizes, x), before, found.left, c))
 }
 
 // What a refusal answers: zeros.
@@ -295,10 +281,10 @@ pub fn price(
     refs: &[u16],
     schedule: &[u8],
 ) -> PriceAnswer
-    requires { ⌜ Limits (runOf kind a (now sizes) (now refs)) ⌝ }
+    requires { ⌜ RunWithin (runOf kind a (now sizes) (now refs)) ⌝ }
     ensures { λ r. ⌜ r ≡ priceAnswer (runOf kind a (now (sizes .entry)) (now (refs .entry))) (row .h) (row .d) (now (schedule .entry)) ⌝ }
 {
-    if schedule.len() != 32 * refs.len() {
+    if schedule.len() != Schedule::STEP_BYTES * refs.len() {
         return refused(Refusal::ScheduleLength);
     }
     let mut c = Costs {

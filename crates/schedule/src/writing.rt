@@ -1,46 +1,45 @@
 // Writing the optimal schedule of a row: a pass over the references tells which touches are kept, and the steps are then written from
 // the last to the first, with a running set of the segments whose next touch is kept. Nothing is assumed.
+use crate::Schedule;
 use model::Kind;
 use model::PriceRow;
+use model::Sheet;
 ghost use mathlib.Core.Path.{_≡_};
 ghost use mathlib.Core.Bool.{cond};
 ghost use mathlib.Core.List.{_++_};
 ghost use Prim.Native.Nat.{_+_, _*_, _≤_, _<_};
 ghost use lib.ListN.{length, drop};
 ghost use lib.Seq.{paste};
+ghost use Rattle.model.specs.Sheets.{mostSegs};
 ghost use Rattle.model.specs.Schedules.{optimalSchedule};
-ghost use Rattle.schedule.specs.Requires.{runOf, Limits, segmentOf};
-ghost use Rattle.schedule.specs.Writing.{allUntouched, noMarks, noSegments, noMasks, maskTable, masked, stepWith, keptBy, KeptMarks};
+ghost use Rattle.schedule.specs.Requires.{runOf, RunWithin, segmentOf};
+ghost use Rattle.schedule.specs.Writing.{noMarks, noSegments, noMasks, maskTable, masked, stepWith, keptBy, KeptMarks};
 
-// The mark of a segment that was not touched yet. It is past every step.
-const UNTOUCHED: u16 = 65535;
+// The number that stands for no segment.
+pub const NO_SEGMENT: usize = Sheet::MAX_SEGS;
 
-// The table of last touches before step 1.
-fn untouched() -> [u16; 256]
-    ensures { λ r. ⌜ r ≡ allUntouched ⌝ }
-{
-    [UNTOUCHED; 256]
-}
+// The bytes of the table of masks: those of a step for each segment and for none.
+const MASK_BYTES: usize = Schedule::STEP_BYTES * (Sheet::MAX_SEGS + 1);
 
 // No touch is kept.
-fn no_marks() -> [bool; 2048]
+fn no_marks() -> [bool; Sheet::MAX_REFS]
     ensures { λ r. ⌜ r ≡ noMarks ⌝ }
 {
-    [false; 2048]
+    [false; Sheet::MAX_REFS]
 }
 
 // The bytes of a step that holds no segment.
-fn no_segments() -> [u8; 32]
+fn no_segments() -> [u8; Schedule::STEP_BYTES]
     ensures { λ r. ⌜ r ≡ noSegments ⌝ }
 {
-    [0; 32]
+    [0; Schedule::STEP_BYTES]
 }
 
 // A table of masks without a bit.
-fn no_masks() -> [u8; 8224]
+fn no_masks() -> [u8; MASK_BYTES]
     ensures { λ r. ⌜ r ≡ noMasks ⌝ }
 {
-    [0; 8224]
+    [0; MASK_BYTES]
 }
 
 // Whether a touch, after so many steps, of a segment of size z with that mark in the table of last touches is kept.
@@ -56,12 +55,18 @@ fn touch_kept(kind: Kind, a: u8, row: PriceRow, z: u16, mark: u16, steps: u16) -
 }
 
 // For each step whether its touch is kept: one pass over the references.
-fn kept_marks(kind: Kind, a: u8, row: PriceRow, sizes: &[u16], refs: &[u16]) -> [bool; 2048]
-    requires { ⌜ Limits (runOf kind a (now sizes) (now refs)) ⌝ }
+fn kept_marks(
+    kind: Kind,
+    a: u8,
+    row: PriceRow,
+    sizes: &[u16],
+    refs: &[u16],
+) -> [bool; Sheet::MAX_REFS]
+    requires { ⌜ RunWithin (runOf kind a (now sizes) (now refs)) ⌝ }
     ensures { λ r. ⌜ KeptMarks (runOf kind a (now (sizes .entry)) (now (refs .entry))) row r ⌝ }
 {
     let mut marks = no_marks();
-    let mut last = untouched();
+    let mut last = model::untouched();
     let mut t: usize = 0;
     while t < refs.len() {
         let i = refs[t] as usize;
@@ -77,13 +82,13 @@ fn kept_marks(kind: Kind, a: u8, row: PriceRow, sizes: &[u16], refs: &[u16]) -> 
 }
 
 // For each segment the bytes of a step that holds this one alone.
-fn mask_table() -> [u8; 8224]
+fn mask_table() -> [u8; MASK_BYTES]
     ensures { λ r. ⌜ r ≡ maskTable ⌝ }
 {
     let mut masks = no_masks();
     let mut i = 0;
-    while i < 256 {
-        masks[32 * i + i / 8] = 1 << (i % 8);
+    while i < Sheet::MAX_SEGS {
+        masks[Schedule::STEP_BYTES * i + i / 8] = 1 << (i % 8);
         i += 1;
     }
     masks
@@ -101,7 +106,7 @@ pub fn segment_of(segs: usize, entry: u16) -> usize
     ensures { λ r. ⌜ r ≡ segmentOf segs entry ⌝ }
 {
     let i = entry as usize;
-    if i < segs { i } else { 256 }
+    if i < segs { i } else { NO_SEGMENT }
 }
 
 // All bits, or none.
@@ -112,14 +117,21 @@ fn all_bits(on: bool) -> u8
 }
 
 // One step: the bytes of `next` with segment i held go to `out` from `at` on, and in `next` i is held where `on` is 255, not where it is 0.
-fn put_step(masks: &[u8; 8224], i: usize, on: u8, at: usize, next: &mut [u8; 32], out: &mut [u8])
-    requires { ⌜ (now masks ≡ maskTable) × (i ≤ 256) × (length (now next) ≡ 32) × (at + 32 ≤ length (now out)) ⌝ }
+fn put_step(
+    masks: &[u8; MASK_BYTES],
+    i: usize,
+    on: u8,
+    at: usize,
+    next: &mut [u8; Schedule::STEP_BYTES],
+    out: &mut [u8],
+)
+    requires { ⌜ (now masks ≡ maskTable) × (i ≤ mostSegs) × (length (now next) ≡ 32) × (at + 32 ≤ length (now out)) ⌝ }
     ensures { λ _. ⌜ now (next .exit) ≡ stepWith (now (next .entry)) i on ⌝ }
     ensures { λ _. ⌜ now (out .exit) ≡ paste (now (out .entry)) at (stepWith (now (next .entry)) i 255) 32 ⌝ }
 {
     let mut j = 0;
-    while j < 32 {
-        let mask = masks[32 * i + j];
+    while j < Schedule::STEP_BYTES {
+        let mask = masks[Schedule::STEP_BYTES * i + j];
         let byte = next[j];
         out[at + j] = masked(byte, mask, 255);
         next[j] = masked(byte, mask, on);
@@ -129,7 +141,7 @@ fn put_step(masks: &[u8; 8224], i: usize, on: u8, at: usize, next: &mut [u8; 32]
 
 // The optimal schedule of a row at the head of a lent place, whatever stood there; what stands beyond it stays.
 pub fn write_optimal(kind: Kind, a: u8, row: PriceRow, sizes: &[u16], refs: &[u16], out: &mut [u8])
-    requires { ⌜ Limits (runOf kind a (now sizes) (now refs)) ⌝ }
+    requires { ⌜ RunWithin (runOf kind a (now sizes) (now refs)) ⌝ }
     requires { ⌜ 32 * length (now refs) ≤ length (now out) ⌝ }
     ensures { λ _.
         ⌜ now (out .exit) ≡ optimalSchedule (runOf kind a (now (sizes .entry)) (now (refs .entry))) (row .h) (row .d)
@@ -142,6 +154,13 @@ pub fn write_optimal(kind: Kind, a: u8, row: PriceRow, sizes: &[u16], refs: &[u1
     while 0 < t {
         t -= 1;
         let i = segment_of(sizes.len(), refs[t]);
-        put_step(&masks, i, all_bits(marks[t]), 32 * t, &mut next, out);
+        put_step(
+            &masks,
+            i,
+            all_bits(marks[t]),
+            Schedule::STEP_BYTES * t,
+            &mut next,
+            out,
+        );
     }
 }

@@ -3,6 +3,7 @@
 // error, and prints nothing where the input cannot be read. The contracts of the C library's functions are assumed.
 use libc::STDIN_FILENO;
 use libc::STDOUT_FILENO;
+use model::Sheet;
 ghost use Prim.Native.Nat.{_+_, _≤_};
 ghost use lib.ListN.{length};
 ghost use Rattle.io.specs.Counts.{Counts};
@@ -58,7 +59,7 @@ fn print(bytes: &[u8], out: &mut [u8]) {
 
 // One byte more than the largest sheet is read, so that a longer input is refused.
 fn main() {
-    let mut input = [0u8; 20013];
+    let mut input = [0u8; Sheet::MAX_BYTES + 1];
     let read = read_input(&mut input);
     let n = read.length;
     if read.failed {

@@ -14,7 +14,8 @@ use Rattle.model.specs.declared.PriceRow.{PriceRow}
 use Rattle.model.specs.declared.Refusal.{Refusal}
 use Rattle.model.specs.declared.Refusal.the-variants.{SheetTooLong}
 use Rattle.sheet.specs.Lines.{Parsed, read, refused}
-use Rattle.sheet.specs.Reading.{mostBytes, above, inPrices, sheetLines, Outcome, accepted, rejected, atEnd, readSheet}
+use Rattle.sheet.specs.Reading.{above, inPrices, sheetLines, Outcome, accepted, rejected, atEnd, readSheet}
+use Rattle.model.specs.Sheets.{mostBytes}
 use Rattle.sheet.proofs.Parsing.{by-test}
 use Rattle.sheet.proofs.Runs.{before, each-at, each-of}
 use Rattle.sheet.proofs.Words.{RowFits}

@@ -5,7 +5,7 @@ use mathlib.Core.List.{List, _++_}
 use native.Mathlib.Omega.{arith}
 use lib.ListN.{length, take, drop, set, length-append, length-set, length-drop, length-replicate, take-append-drop}
 use lib.Seq.{length-take-le, take-at, drop-at, drop-set-lt}
-use Rattle.sheet.specs.Values.{zeros, zeroRows, padded}
+use Rattle.model.specs.Values.{zeros, zeroRows, padded}
 use Rattle.sheet.specs.AtPlace.{Filled}
 
 -- n zeros, n rows 0/0

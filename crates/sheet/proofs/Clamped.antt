@@ -9,9 +9,9 @@ use borrow.Author.Tests.{leb-true, leb-false}
 use lib.Dec.{leb}
 use lib.ListN.{length, take}
 use lib.Seq.{take-all}
-use Rattle.sheet.specs.Parts.{valueWith}
-use Rattle.sheet.specs.Values.{valueOf}
-use Rattle.sheet.specs.declared.Sheet.{Sheet}
+use Rattle.model.specs.Sheets.{sheetWith}
+use Rattle.model.specs.Values.{valueOf}
+use Rattle.model.specs.declared.Sheet.{Sheet}
 
 -- the first n elements are the first of n and the length
 take-min : {A : Type 0} (xs : List A) (n m most : ℕ) → length xs ≡ most → m ≡ min n most → take m xs ≡ take n xs
@@ -26,7 +26,7 @@ take-min xs n m most l e = go (leb n most) refl
 -- so a sheet's value is the same with each count cut off at the length of its array
 pub value-clamped : (s : Sheet) (segs rows refs : ℕ) → length (s .sizes) ≡ 256 → length (s .prices) ≡ 64 → length (s .touches) ≡ 2048
     → segs ≡ min (s .segs) 256 → rows ≡ min (s .rows) 64 → refs ≡ min (s .refs) 2048
-    → valueWith (s .kind) (s .a) (take segs (s .sizes)) (take rows (s .prices)) (take refs (s .touches)) ≡ valueOf s
+    → sheetWith (s .kind) (s .a) (take segs (s .sizes)) (take rows (s .prices)) (take refs (s .touches)) ≡ valueOf s
 unfolding valueOf
 value-clamped s segs rows refs i j k d e f =
     rw (

@@ -6,7 +6,7 @@ use lib.ListN.{length, take, drop}
 use lib.Seq.{take-append-seam}
 use Rattle.model.specs.Sheets.{SheetValue, mostSegs, mostRows, mostRefs}
 use Rattle.sheet.specs.Reading.{accepted, readSheet}
-use Rattle.sheet.specs.Values.{zeros, zeroRows, padded, sheetOf, valueOf}
+use Rattle.model.specs.Values.{zeros, zeroRows, padded, sheetOf, valueOf}
 use Rattle.sheet.specs.Writing.{sheetText}
 use Rattle.sheet.proofs.RoundTrip.{read-then-written}
 

@@ -14,7 +14,8 @@ use Rattle.model.specs.declared.Kind.{Kind}
 use Rattle.model.specs.declared.Kind.the-variants.{Time, Space}
 use Rattle.model.specs.declared.PriceRow.{PriceRow}
 use Rattle.sheet.specs.Keys.{lineFeed, kindKey, aKey, segsKey, sizeKey, rowsKey, refsKey, refKey, kindWord}
-use Rattle.sheet.specs.Reading.{mostBytes, above, inPrices}
+use Rattle.sheet.specs.Reading.{above, inPrices}
+use Rattle.model.specs.Sheets.{mostBytes}
 use Rattle.sheet.specs.Writing.{lineText, numberText, numbersText, rowText, rowsText, sheetText}
 use Rattle.sheet.proofs.Runs.{Each, each-map, linesText, numbers-text, rows-text, lines-length}
 use Rattle.sheet.proofs.Words.{RowFits}

@@ -30,7 +30,7 @@ pub record Repeats {A St : Type 0} (F : ℕ → St → List ℕ → Parsed (List
       → F (suc n) st s ≡ andThen (line st s) (λ x rest. andThen (F n (after x) rest) (λ xs end. read (x ∷ xs) end))
 
 -- i of n lines of s are passed, their values stand at the front of xs, and the next line stands at `at`
-pub record Passed {A St : Type 0} (F : ℕ → St → List ℕ → Parsed (List A)) (n : ℕ) (st₀ : St) (s : List ℕ)
+pub record PassedLines {A St : Type 0} (F : ℕ → St → List ℕ → Parsed (List A)) (n : ℕ) (st₀ : St) (s : List ℕ)
     (xs : List A) (st : St) (at i : ℕ) : Type 0 where
   pub count : i ≤ n
   pub place : at ≤ length s
@@ -40,14 +40,14 @@ pub record Passed {A St : Type 0} (F : ℕ → St → List ℕ → Parsed (List 
 module _ {A St : Type 0} (F : ℕ → St → List ℕ → Parsed (List A)) (line : St → List ℕ → Parsed A) (after : A → St)
     (w : Repeats F line after) (n : ℕ) (st₀ : St) (s : List ℕ) where
   -- before the first line
-  pub pass-start : (xs : List A) → n ≤ length xs → Passed F n st₀ s xs st₀ 0 0
+  pub pass-start : (xs : List A) → n ≤ length xs → PassedLines F n st₀ s xs st₀ 0 0
   pass-start xs h = record { count = omega arith; place = omega arith; room = h; same = go (F n st₀ s) ∙ rw sub-zero }
     where
       go : (p : Parsed (List A)) → p ≡ behind [] p
       go (read ys end) = refl
       go (refused r) = refl
 
-  module _ (xs : List A) (st : St) (at i : ℕ) (c : Passed F n st₀ s xs st at i) where
+  module _ (xs : List A) (st : St) (at i : ℕ) (c : PassedLines F n st₀ s xs st at i) where
     -- what the next line gives decides
     next-line : (p : Parsed A) → i < n → line st (tail s at) ≡ p
         → F n st₀ s ≡ behind (take i xs) (andThen p (λ x rest. behind (x ∷ []) (F (n - suc i) (after x) rest)))
@@ -57,7 +57,7 @@ module _ {A St : Type 0} (F : ℕ → St → List ℕ → Parsed (List A)) (line
 
     -- after one line more
     pub pass-step : (x : A) (next : ℕ) → i < n → line st (tail s at) ≡ read x (drop next (tail s at)) → next ≤ length (tail s at)
-        → Passed F n st₀ s (set xs i x) (after x) (at + next) (i + 1)
+        → PassedLines F n st₀ s (set xs i x) (after x) (at + next) (i + 1)
     pass-step x next h e l =
         let t : take (suc i) (set xs i x) ≡ take i xs ++ (x ∷ []) = take-suc-set xs i x (omega (arith, c .room)) in
         record {

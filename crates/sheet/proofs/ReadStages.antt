@@ -12,8 +12,10 @@ use Rattle.model.specs.declared.Refusal.{Refusal}
 use Rattle.model.specs.declared.Refusal.the-variants.{SheetTooLong, BytesAfterEnd}
 use Rattle.model.specs.declared.Verdict.the-variants.{Accepted}
 use Rattle.sheet.specs.Lines.{Parsed, read, refused, andThen}
-use Rattle.sheet.specs.Reading.{accepted, rejected, atEnd, mostBytes, numberLines, sheetLines, readSheet}
-use Rattle.sheet.specs.Values.{zeros, zeroRows, sheetOf, answerOf}
+use Rattle.sheet.specs.Reading.{accepted, rejected, atEnd, numberLines, sheetLines, readSheet}
+use Rattle.model.specs.Sheets.{mostBytes}
+use Rattle.model.specs.Values.{zeros, zeroRows, sheetOf}
+use Rattle.sheet.specs.Answers.{answerOf}
 use Rattle.sheet.specs.AtPlace.{parsedLines, Filled}
 use Rattle.sheet.specs.declared.reading.LinesRead.{LinesRead}
 use Rattle.sheet.specs.declared.SheetAnswer.{SheetAnswer}

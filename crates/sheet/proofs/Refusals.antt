@@ -21,7 +21,8 @@ use Rattle.model.specs.declared.Refusal.{Refusal}
 use Rattle.model.specs.declared.Refusal.the-variants.{SheetTooLong, LineMalformed, ValueMalformed, OutOfRange, ThresholdNotAbove, BytesAfterEnd}
 use Rattle.sheet.specs.Keys.{lineFeed, slash, kindKey, aKey, segsKey, sizeKey, rowsKey, rowKey, refsKey, refKey, kindWord}
 use Rattle.sheet.specs.Lines.{Parsed, read, refused, andThen, Split, parts, none as unsplit, splitAt, sameBytes, afterKey, ofLine, valueLine, inRange, numberLine}
-use Rattle.sheet.specs.Reading.{mostBytes, kindOf, kindLine, above, inPrices, rowParts, rowLine, numberLines, rowLines, sheetLines, Outcome, accepted, rejected, atEnd, readSheet}
+use Rattle.sheet.specs.Reading.{kindOf, kindLine, above, inPrices, rowParts, rowLine, numberLines, rowLines, sheetLines, Outcome, accepted, rejected, atEnd, readSheet}
+use Rattle.model.specs.Sheets.{mostBytes}
 use Rattle.sheet.proofs.Parsing.{by-test}
 use Rattle.sheet.proofs.Runs.{lines, number-lines, row-lines}
 use Rattle.sheet.proofs.Accepted.{accepted-valid}

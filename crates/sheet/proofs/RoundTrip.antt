@@ -7,7 +7,8 @@ use borrow.Author.Tests.{le-ltb}
 use lib.ListN.{length}
 use Rattle.model.specs.Sheets.{SheetValue, Valid}
 use Rattle.sheet.specs.Lines.{read}
-use Rattle.sheet.specs.Reading.{mostBytes, sheetLines, accepted, readSheet}
+use Rattle.sheet.specs.Reading.{sheetLines, accepted, readSheet}
+use Rattle.model.specs.Sheets.{mostBytes}
 use Rattle.sheet.specs.Writing.{sheetText}
 use Rattle.sheet.proofs.SheetLines.{sheet-reads}
 use Rattle.sheet.proofs.Accepted.{valid-readable, accepted-read}

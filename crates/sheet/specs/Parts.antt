@@ -20,10 +20,6 @@ pub record Put (text : List ℕ) (at : ℕ) (place : List ℕ) (end : ℕ) (afte
   pub ends : end ≡ at + length text
   pub holds : after ≡ putAt at text place
 
--- a sheet's value from its parts
-abbrev pub valueWith : Kind → ℕ → List ℕ → List PriceRow → List ℕ → SheetValue
-valueWith kind a sizes rows refs = record { kind = kind; a = a; sizes = sizes; rows = rows; refs = refs }
-
 -- the line that counts the numbers, and the line of each
 abbrev pub countedText : List ℕ → List ℕ → List ℕ → List ℕ
 countedText count key xs = numberText count (length xs) ++ numbersText key xs

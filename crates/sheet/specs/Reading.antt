@@ -6,7 +6,7 @@ use mathlib.Core.List.{List, [], _∷_}
 use mathlib.Core.Option.{Option, none, some}
 use lib.ListN.{length}
 use lib.Dec.{leb, ltb}
-use Rattle.model.specs.Sheets.{SheetValue, largestA, mostSegs, largestSize, mostRows, largestPrice, mostRefs}
+use Rattle.model.specs.Sheets.{SheetValue, largestA, mostSegs, largestSize, mostRows, largestPrice, mostRefs, mostBytes}
 use Rattle.model.specs.declared.Kind.{Kind}
 use Rattle.model.specs.declared.Kind.the-variants.{Time, Space}
 use Rattle.model.specs.declared.PriceRow.{PriceRow}
@@ -15,10 +15,6 @@ use Rattle.model.specs.declared.Refusal.the-variants.{SheetTooLong, ValueMalfor
 use Rattle.decimal.specs.Decimal.{isNumber, value}
 use Rattle.sheet.specs.Keys.{slash, kindKey, aKey, segsKey, sizeKey, rowsKey, rowKey, refsKey, refKey, kindWord}
 use Rattle.sheet.specs.Lines.{Parsed, read, refused, andThen, Split, parts, none as unsplit, splitAt, valueLine, numberLine, sameBytes}
-
--- the most bytes of a sheet
-abbrev pub mostBytes : ℕ
-mostBytes = 20012
 
 -- the kind that a value names: refusal 3 where it is neither word
 abbrev pub kindOf : List ℕ → List ℕ → Parsed Kind

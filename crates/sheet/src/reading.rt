@@ -1,11 +1,11 @@
 // Reading a sheet: any bytes to the sheet that they stand for, or the refusal. Each function reads from the head of the bytes that it
 // is lent, and gives the place of what follows. Nothing is assumed.
-use crate::Sheet;
 use crate::SheetAnswer;
 use decimal::Reading;
 use model::Kind;
 use model::PriceRow;
 use model::Refusal;
+use model::Sheet;
 use model::Verdict;
 ghost use mathlib.Core.Path.{_≡_};
 ghost use mathlib.Core.List.{List, _++_};
@@ -17,9 +17,13 @@ ghost use Rattle.model.specs.Sheets.{mostSegs, mostRows, mostRefs, largestPrice
 ghost use Rattle.decimal.specs.Decimal.{readingOf};
 ghost use Rattle.sheet.specs.Keys.{lineFeed, slash};
 ghost use Rattle.sheet.specs.Lines.{read as parsed, andThen, splitAt, none as unsplit, sameBytes, inRange, valueLine, numberLine};
-ghost use Rattle.sheet.specs.Reading.{above, rowAfter, kindOf, kindLine, numberLines, rowParts, rowLine, rowLines, atEnd, readSheet, rejected};
-ghost use Rattle.sheet.specs.Values.{zeros, zeroRows, answerOf};
-ghost use Rattle.sheet.specs.AtPlace.{splitAtPlace, parsedValue, ValueWithin, parsedNumber, numberNext, parsedLines, linesNext, parsedKind, kindNext, before, parsedRow, rowNext, numberIn, rowOfReadings, Filled, fromA, fromSegs, fromSizes, fromRows, fromRowLines, fromRefs, fromTouches};
+ghost use Rattle.sheet.specs.Reading.{above, rowAfter, kindOf, kindLine, numberLines, rowParts, rowLine, rowLines, atEnd, readSheet};
+ghost use Rattle.sheet.specs.Reading.{rejected};
+ghost use Rattle.model.specs.Values.{zeros, zeroRows};
+ghost use Rattle.sheet.specs.Answers.{answerOf};
+ghost use Rattle.sheet.specs.AtPlace.{splitAtPlace, parsedValue, ValueWithin, parsedNumber, numberNext, parsedLines, linesNext};
+ghost use Rattle.sheet.specs.AtPlace.{parsedKind, kindNext, before, parsedRow, rowNext, numberIn, rowOfReadings, Filled, fromA};
+ghost use Rattle.sheet.specs.AtPlace.{fromSegs, fromSizes, fromRows, fromRowLines, fromRefs, fromTouches};
 
 // The place of the value of a line: its first byte, and the line feed after it. Or the line is not there.
 enum ValueAt {
@@ -72,7 +76,7 @@ enum RowAt {
 // Rows at the front of rows 0/0, and the place of what follows their lines, or the refusal.
 struct RowsRead {
     lines: LinesRead,
-    rows: [PriceRow; 64],
+    rows: [PriceRow; Sheet::MAX_ROWS],
 }
 
 // The place of the first byte `c`, or the length where there is none.
@@ -399,10 +403,10 @@ fn row_line(s: &[u8], prev: Previous) -> RowAt
 }
 
 // 64 rows 0/0.
-fn blank_rows() -> [PriceRow; 64]
+fn blank_rows() -> [PriceRow; Sheet::MAX_ROWS]
     ensures { λ r. ⌜ r ≡ zeroRows mostRows ⌝ }
 {
-    [PriceRow { h: 0, d: 0 }; 64]
+    [PriceRow { h: 0, d: 0 }; Sheet::MAX_ROWS]
 }
 
 // The rows of `n` lines row=; beyond them stand rows 0/0.
@@ -449,16 +453,16 @@ fn refused(why: Refusal) -> SheetAnswer
 }
 
 // 256 and 2,048 zeros.
-fn blank_sizes() -> [u16; 256]
+fn blank_sizes() -> [u16; Sheet::MAX_SEGS]
     ensures { λ r. ⌜ r ≡ zeros mostSegs ⌝ }
 {
-    [0u16; 256]
+    [0u16; Sheet::MAX_SEGS]
 }
 
-fn blank_touches() -> [u16; 2048]
+fn blank_touches() -> [u16; Sheet::MAX_REFS]
     ensures { λ r. ⌜ r ≡ zeros mostRefs ⌝ }
 {
-    [0u16; 2048]
+    [0u16; Sheet::MAX_REFS]
 }
 
 // Reads from the first line ref= on, to the end.
@@ -467,9 +471,9 @@ fn from_touches(
     kind: Kind,
     a: u8,
     segs: usize,
-    sizes: [u16; 256],
+    sizes: [u16; Sheet::MAX_SEGS],
     rows: usize,
-    prices: [PriceRow; 64],
+    prices: [PriceRow; Sheet::MAX_ROWS],
     refs: usize,
 ) -> SheetAnswer
     requires { ⌜ 1 ≤ segs ⌝ }
@@ -508,16 +512,16 @@ fn from_refs(
     kind: Kind,
     a: u8,
     segs: usize,
-    sizes: [u16; 256],
+    sizes: [u16; Sheet::MAX_SEGS],
     rows: usize,
-    prices: [PriceRow; 64],
+    prices: [PriceRow; Sheet::MAX_ROWS],
 ) -> SheetAnswer
     requires { ⌜ 1 ≤ segs ⌝ }
     requires { ⌜ Filled segs sizes (zeros mostSegs) ⌝ }
     requires { ⌜ Filled rows prices (zeroRows mostRows) ⌝ }
     ensures { λ r. ⌜ r ≡ answerOf (atEnd (fromRefs kind a segs (take segs sizes) (take rows prices) (now (s .entry)))) ⌝ }
 {
-    match number_line(s, b"refs=", 0, Sheet::MAX_REFS) {
+    match number_line(s, b"refs=", 0, Sheet::MAX_REFS as u32) {
         NumberAt::Refused(why) => refused(why),
         NumberAt::Number(n, next) => from_touches(
             &s[next..],
@@ -538,7 +542,7 @@ fn from_row_lines(
     kind: Kind,
     a: u8,
     segs: usize,
-    sizes: [u16; 256],
+    sizes: [u16; Sheet::MAX_SEGS],
     rows: usize,
 ) -> SheetAnswer
     requires { ⌜ 1 ≤ segs ⌝ }
@@ -556,12 +560,12 @@ fn from_row_lines(
 }
 
 // Reads from the line rows= on.
-fn from_rows(s: &[u8], kind: Kind, a: u8, segs: usize, sizes: [u16; 256]) -> SheetAnswer
+fn from_rows(s: &[u8], kind: Kind, a: u8, segs: usize, sizes: [u16; Sheet::MAX_SEGS]) -> SheetAnswer
     requires { ⌜ 1 ≤ segs ⌝ }
     requires { ⌜ Filled segs sizes (zeros mostSegs) ⌝ }
     ensures { λ r. ⌜ r ≡ answerOf (atEnd (fromRows kind a segs (take segs sizes) (now (s .entry)))) ⌝ }
 {
-    match number_line(s, b"rows=", 1, Sheet::MAX_ROWS) {
+    match number_line(s, b"rows=", 1, Sheet::MAX_ROWS as u32) {
         NumberAt::Refused(why) => refused(why),
         NumberAt::Number(n, next) => from_row_lines(&s[next..], kind, a, segs, sizes, n as usize),
     }
@@ -584,7 +588,7 @@ fn from_sizes(s: &[u8], kind: Kind, a: u8, segs: usize) -> SheetAnswer
 fn from_segs(s: &[u8], kind: Kind, a: u8) -> SheetAnswer
     ensures { λ r. ⌜ r ≡ answerOf (atEnd (fromSegs kind a (now (s .entry)))) ⌝ }
 {
-    match number_line(s, b"segs=", 1, Sheet::MAX_SEGS) {
+    match number_line(s, b"segs=", 1, Sheet::MAX_SEGS as u32) {
         NumberAt::Refused(why) => refused(why),
         NumberAt::Number(n, next) => from_sizes(&s[next..], kind, a, n as usize),
     }

@@ -1,20 +1,22 @@
 // Writing a sheet: the length of its text first, then the text part after part, each from an index of the lent place on.
 // What the text is stands in specs/Writing.antt, and what a place becomes in specs/Parts.antt and in model. Nothing is assumed.
-use crate::Sheet;
 use model::Kind;
 use model::PlaceAnswer;
 use model::PriceRow;
 use model::Refusal;
+use model::Sheet;
 use model::Verdict;
 ghost use mathlib.Core.Path.{_≡_};
 ghost use mathlib.Core.List.{[], _∷_, _++_};
 ghost use Prim.Native.Nat.{_+_, _≤_, min};
 ghost use lib.ListN.{length, take};
+ghost use Rattle.model.specs.Sheets.{mostRows, mostRefs};
 ghost use Rattle.model.specs.Places.{placed, placeAnswer};
 ghost use Rattle.decimal.specs.Decimal.{written};
 ghost use Rattle.sheet.specs.Keys.{kindKey, kindWord};
-ghost use Rattle.sheet.specs.Parts.{Put, valueWith, countedText, segmentsText, pricedText};
-ghost use Rattle.sheet.specs.Values.{valueOf};
+ghost use Rattle.sheet.specs.Parts.{Put, countedText, segmentsText, pricedText};
+ghost use Rattle.model.specs.Sheets.{sheetWith};
+ghost use Rattle.model.specs.Values.{valueOf};
 ghost use Rattle.sheet.specs.Writing.{lineText, numberText, numbersText, rowText, rowsText, sheetText};
 
 // ---- lengths
@@ -39,7 +41,7 @@ pub fn number_length(key: &[u8], n: u64) -> usize
 
 // The length of the lines of numbers.
 fn numbers_length(key: &[u8], xs: &[u16]) -> usize
-    requires { ⌜ (length (now key) ≤ 5) × (length (now xs) ≤ 2048) ⌝ }
+    requires { ⌜ (length (now key) ≤ 5) × (length (now xs) ≤ mostRefs) ⌝ }
     ensures { λ r. ⌜ (r ≡ length (numbersText (now (key .entry)) (now (xs .entry)))) × (r ≤ 53248) ⌝ }
 {
     let mut sum: usize = 0;
@@ -53,7 +55,7 @@ fn numbers_length(key: &[u8], xs: &[u16]) -> usize
 
 // The length of the line that counts the numbers, and of their lines.
 fn counted_length(count: &[u8], key: &[u8], xs: &[u16]) -> usize
-    requires { ⌜ (length (now count) ≤ 5) × (length (now key) ≤ 5) × (length (now xs) ≤ 2048) ⌝ }
+    requires { ⌜ (length (now count) ≤ 5) × (length (now key) ≤ 5) × (length (now xs) ≤ mostRefs) ⌝ }
     ensures { λ r. ⌜ (r ≡ length (countedText (now (count .entry)) (now (key .entry)) (now (xs .entry)))) × (r ≤ 53274) ⌝ }
 {
     number_length(count, xs.len() as u64) + numbers_length(key, xs)
@@ -67,8 +69,8 @@ fn row_length(q: PriceRow) -> usize
 }
 
 // The length of the lines of the first `n` rows.
-fn rows_length(prices: [PriceRow; 64], n: usize) -> usize
-    requires { ⌜ n ≤ 64 ⌝ }
+fn rows_length(prices: [PriceRow; Sheet::MAX_ROWS], n: usize) -> usize
+    requires { ⌜ n ≤ mostRows ⌝ }
     ensures { λ r. ⌜ (r ≡ length (rowsText (take n prices))) × (r ≤ 1024) ⌝ }
 {
     let mut sum: usize = 0;
@@ -83,15 +85,15 @@ fn rows_length(prices: [PriceRow; 64], n: usize) -> usize
 
 // The length of the lines up to the sizes.
 fn segments_length(kind: Kind, a: u8, sizes: &[u16]) -> usize
-    requires { ⌜ length (now sizes) ≤ 2048 ⌝ }
+    requires { ⌜ length (now sizes) ≤ mostRefs ⌝ }
     ensures { λ r. ⌜ (r ≡ length (segmentsText kind a (now (sizes .entry)))) × (r ≤ 53311) ⌝ }
 {
     kind_length(kind) + number_length(b"a=", a as u64) + counted_length(b"segs=", b"size=", sizes)
 }
 
 // The length of the line that counts the first `n` rows, and of their lines.
-fn priced_length(prices: [PriceRow; 64], n: usize) -> usize
-    requires { ⌜ n ≤ 64 ⌝ }
+fn priced_length(prices: [PriceRow; Sheet::MAX_ROWS], n: usize) -> usize
+    requires { ⌜ n ≤ mostRows ⌝ }
     ensures { λ r. ⌜ (r ≡ length (pricedText (take n prices))) × (r ≤ 1050) ⌝ }
 {
     number_length(b"rows=", n as u64) + rows_length(prices, n)
@@ -102,12 +104,12 @@ fn text_length(
     kind: Kind,
     a: u8,
     sizes: &[u16],
-    prices: [PriceRow; 64],
+    prices: [PriceRow; Sheet::MAX_ROWS],
     rows: usize,
     refs: &[u16],
 ) -> usize
-    requires { ⌜ (length (now sizes) ≤ 2048) × (rows ≤ 64) × (length (now refs) ≤ 2048) ⌝ }
-    ensures { λ r. ⌜ r ≡ length (sheetText (valueWith kind a (now (sizes .entry)) (take rows prices) (now (refs .entry)))) ⌝ }
+    requires { ⌜ (length (now sizes) ≤ mostRefs) × (rows ≤ mostRows) × (length (now refs) ≤ mostRefs) ⌝ }
+    ensures { λ r. ⌜ r ≡ length (sheetText (sheetWith kind a (now (sizes .entry)) (take rows prices) (now (refs .entry)))) ⌝ }
 {
     segments_length(kind, a, sizes)
         + priced_length(prices, rows)
@@ -194,8 +196,8 @@ fn put_row(q: PriceRow, out: &mut [u8], at: usize) -> usize
 }
 
 // Writes a line for each of the first `n` rows, and gives the index after them.
-fn put_rows(prices: [PriceRow; 64], n: usize, out: &mut [u8], at: usize) -> usize
-    requires { ⌜ (n ≤ 64) × (at + length (rowsText (take n prices)) ≤ length (now out)) ⌝ }
+fn put_rows(prices: [PriceRow; Sheet::MAX_ROWS], n: usize, out: &mut [u8], at: usize) -> usize
+    requires { ⌜ (n ≤ mostRows) × (at + length (rowsText (take n prices)) ≤ length (now out)) ⌝ }
     ensures { λ r. ⌜ Put (rowsText (take n prices)) at (now (out .entry)) r (now (out .exit)) ⌝ }
 {
     let mut next = at;
@@ -219,8 +221,8 @@ fn put_segments(kind: Kind, a: u8, sizes: &[u16], out: &mut [u8]) -> usize
 }
 
 // Writes the line that counts the first `n` rows and a line for each, and gives the index after them.
-fn put_priced(prices: [PriceRow; 64], n: usize, out: &mut [u8], at: usize) -> usize
-    requires { ⌜ (n ≤ 64) × (at + length (pricedText (take n prices)) ≤ length (now out)) ⌝ }
+fn put_priced(prices: [PriceRow; Sheet::MAX_ROWS], n: usize, out: &mut [u8], at: usize) -> usize
+    requires { ⌜ (n ≤ mostRows) × (at + length (pricedText (take n prices)) ≤ length (now out)) ⌝ }
     ensures { λ r. ⌜ Put (pricedText (take n prices)) at (now (out .entry)) r (now (out .exit)) ⌝ }
 {
     let first = put_number(b"rows=", n as u64, out, at);
@@ -232,13 +234,14 @@ fn put_text(
     kind: Kind,
     a: u8,
     sizes: &[u16],
-    prices: [PriceRow; 64],
+    prices: [PriceRow; Sheet::MAX_ROWS],
     rows: usize,
     refs: &[u16],
     out: &mut [u8],
 ) -> usize
-    requires { ⌜ (rows ≤ 64) × (length (sheetText (valueWith kind a (now sizes) (take rows prices) (now refs))) ≤ length (now out)) ⌝ }
-    ensures { λ r. ⌜ Put (sheetText (valueWith kind a (now (sizes .entry)) (take rows prices) (now (refs .entry))))
+    requires { ⌜ (rows ≤ mostRows)
+        × (length (sheetText (sheetWith kind a (now sizes) (take rows prices) (now refs))) ≤ length (now out)) ⌝ }
+    ensures { λ r. ⌜ Put (sheetText (sheetWith kind a (now (sizes .entry)) (take rows prices) (now (refs .entry))))
         0 (now (out .entry)) r (now (out .exit)) ⌝ }
 {
     let priced = put_segments(kind, a, sizes, out);

@@ -6,8 +6,9 @@ use mathlib.Core.List.{[], _∷_}
 use lib.ListN.{getD}
 use lib.Seq.{length-take-le}
 use Rattle.model.specs.Rows.{zeroFigures}
-use Rattle.sheet.specs.Values.{valueOf}
-use Rattle.figures.specs.Rows.{partsOf, allFigures}
+use Rattle.model.specs.Values.{valueOf}
+use Rattle.figures.specs.Rows.{allFigures}
+use Rattle.model.specs.Sheets.{sheetWith}
 use Rattle.analyser.proofs.Alone.{alone-valid, alone-figures}
 use Rattle.analyser.proofs.Standings.{rows-counted, row-of}
 use Rattle.analyser.proofs.row_alone.Statement.{statement}
@@ -47,7 +48,7 @@ returns c =
     let s = c .before .before .before .before .before .before .before .before in
     let v = valueOf (s .args .s) in
     ap (λ fs. getD fs 0 zeroFigures) (c .before .figures .ensures)
-    ∙ ap (λ q. getD (allFigures (partsOf (v .kind) (v .a) (v .sizes) (q ∷ []) (v .refs))) 0 zeroFigures)
+    ∙ ap (λ q. getD (allFigures (sheetWith (v .kind) (v .a) (v .sizes) (q ∷ []) (v .refs))) 0 zeroFigures)
     (sym (row-of (s .args .s) (s .pre .0) (s .args .row) (s .pre .1)))
     ∙ alone-figures v (s .args .row) zeroFigures
 

@@ -3,7 +3,7 @@ use native.Mathlib.Omega.{arith}
 use borrow.Author.Needs.{needs}
 use borrow.Author.Tests.{le-ltb, lt-ltb}
 use lib.ListN.{length}
-use Rattle.sheet.specs.Values.{valueOf}
+use Rattle.model.specs.Values.{valueOf}
 use Rattle.figures.specs.Rows.{figuresOf}
 use Rattle.analyser.proofs.Standings.{rows-counted}
 use Rattle.analyser.proofs.sheet_figures.Statement.{statement}

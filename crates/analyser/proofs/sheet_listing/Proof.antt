@@ -1,6 +1,6 @@
 -- `analyser::sheet_listing` meets its contract: the listing is that of the sheet's value. Assumes nothing.
 use borrow.Author.Needs.{needs}
-use Rattle.sheet.specs.Values.{valueOf}
+use Rattle.model.specs.Values.{valueOf}
 use Rattle.report.proofs.ListingMost.{listing-most}
 use Rattle.analyser.proofs.Results.{text-left}
 use Rattle.analyser.proofs.Standings.{listing-of}

@@ -4,7 +4,7 @@ use mathlib.Core.Path.{sym, _∙_}
 use native.Mathlib.Omega.{arith}
 use borrow.Author.Needs.{needs}
 use lib.Seq.{length-take-le}
-use Rattle.sheet.specs.Values.{valueOf}
+use Rattle.model.specs.Values.{valueOf}
 use Rattle.analyser.proofs.Results.{price-no-row, price-at}
 use Rattle.analyser.proofs.Standings.{valid-limits, rows-counted, row-of}
 use Rattle.analyser.proofs.sheet_price.Statement.{statement}

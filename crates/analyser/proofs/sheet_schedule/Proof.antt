@@ -5,7 +5,7 @@ use mathlib.Core.Path.{sym, _∙_}
 use native.Mathlib.Omega.{arith}
 use borrow.Author.Needs.{needs}
 use lib.Seq.{length-take-le}
-use Rattle.sheet.specs.Values.{valueOf}
+use Rattle.model.specs.Values.{valueOf}
 use Rattle.analyser.proofs.Results.{schedule-no-row, schedule-short, schedule-placed}
 use Rattle.analyser.proofs.Standings.{valid-limits, rows-counted, refs-counted, row-of}
 use Rattle.analyser.proofs.sheet_schedule.Statement.{statement}
@@ -58,8 +58,11 @@ write-optimal-requires c κs =
     let m = refs-counted (s .args .s) (s .pre) in
     (valid-limits (valueOf (s .args .s)) (s .pre .valid), omega (arith, c .before .before .before .before .before .before .before .if2 .left))
 
-mul-t13 : tie.Need-mul-t13
-mul-t13 c = search needs
+of-steps-requires : tie.Need-of-steps-requires
+of-steps-requires c κs = omega (arith, c .before .before .before .before .before .before .before .before .before .before .before .before .before .before .pre)
+
+length-requires : tie.Need-length-requires
+length-requires c κs = omega (arith, c .of-steps .ensures, c .before .before .before .before .before .before .before .before .before .before .before .before .before .before .before .pre)
 
 same-length : tie.Need-same-length
 same-length c = search needs
@@ -67,16 +70,16 @@ same-length c = search needs
 returns-3 : tie.Need-returns-3
 unfolding valueOf
 returns-3 c =
-    let e = c .before .before .before .before .before .before .before .before .before .before in
-    let s = c .before .before .before .before .before .before .before .before .before .before .before .before .before .before in
+    let e = c .before .before .before .before .before .before .before .before .before .before .before .before in
+    let s = c .before .before .before .before .before .before .before .before .before .before .before .before .before .before .before .before in
     let v = valueOf (s .args .s) in
     let n = rows-counted (s .args .s) (s .pre) in
     let m = refs-counted (s .args .s) (s .pre) in
     let l : s .args .row < s .args .s .rows = omega (arith, e .before .if1 .left) in
     let p = schedule-placed v (s .args .row) (s .args .out .now) (omega arith) (omega (arith, e .if2 .left)) in
     record {
-      answer-is = rw m at (p .answer-is);
-      place-is = c .before .before .write-optimal .ensures ∙ rw (row-of (s .args .s) (s .pre) (s .args .row) l) at (p .place-is);
+      answer-is = rw (c .length .ensures .0, c .before .of-steps .ensures) (rw m at (p .answer-is));
+      place-is = c .before .before .before .before .write-optimal .ensures ∙ rw (row-of (s .args .s) (s .pre) (s .args .row) l) at (p .place-is);
     }
 
 pub sheet-schedule-spec : {M : Type 1} → statement M
@@ -94,6 +97,7 @@ sheet-schedule-spec =
     array-share-prefix-touches
     slice-aggregate-write-optimal-2
     write-optimal-requires
-    mul-t13
+    of-steps-requires
+    length-requires
     same-length
     returns-3)

@@ -11,12 +11,6 @@ use Rattle.model.proofs.Margins.{margin-fits}
 use Rattle.model.proofs.margin.Statement.{statement}
 use Rattle.model.proofs.margin.Tie as tie
 
-cast-result : tie.Need-cast-result
-cast-result c = search needs
-
-cast-result-2 : tie.Need-cast-result-2
-cast-result-2 c = search needs
-
 swap-is : (c : tie.Start) → toZ w64 (c .args .priced-swap) ≡ pos (c .args .priced-swap)
 swap-is c = toZ-pos w64 (c .args .priced-swap) (omega arith)
 
@@ -32,4 +26,4 @@ returns : tie.Need-returns
 returns c = toZ-ofZ w64 _ (sub-result c) ∙ rw (swap-is c, retention-is c)
 
 pub margin-spec : {M : Type 1} → statement M
-margin-spec = tie.close (tie.spec cast-result cast-result-2 sub-result returns)
+margin-spec = tie.close (tie.spec (λ c. search needs) (λ c. search needs) sub-result returns)

@@ -10,13 +10,7 @@ use Rattle.model.proofs.retention_cost.Reads as reads
 use Rattle.model.proofs.retention_cost.Lts as lts
 
 -- src/lib.rt:81:35
-enum-told : tie.Need-enum-told
-enum-told c = search needs
-
 -- src/lib.rt:82:37
-enum-told-2 : tie.Need-enum-told-2
-enum-told-2 c = search needs
-
 -- src/lib.rt:82:36
 mul-t8 : tie.Need-mul-t8
 mul-t8 c =
@@ -32,4 +26,4 @@ returns-2 : tie.Need-returns-2
 returns-2 c = let e : c .before .before .args .kind ≡ Space = cc in rw e refl
 
 pub retention-cost-spec : {M : Type 1} → statement M
-retention-cost-spec = tie.close (tie.spec enum-told enum-told-2 mul-t8 returns returns-2)
+retention-cost-spec = tie.close (tie.spec (λ c. search needs) (λ c. search needs) mul-t8 returns returns-2)

@@ -18,8 +18,5 @@ add-t6 : tie.Need-add-t6
 add-t6 c = omega (arith, fits-product c)
 
 -- src/lib.rt:70:1
-returns : tie.Need-returns
-returns c = search needs
-
 pub swap-cost-spec : {M : Type 1} → statement M
-swap-cost-spec = tie.close (tie.spec mul-t5 add-t6 returns)
+swap-cost-spec = tie.close (tie.spec mul-t5 add-t6 (λ c. search needs))

@@ -6,17 +6,11 @@ use Rattle.reader.proofs.Places.{before-within, before-none}
 use Rattle.reader.proofs.before.Statement.{statement}
 use Rattle.reader.proofs.before.Tie as tie
 
-find-requires : tie.Need-find-requires
-find-requires c κs = search needs
-
 slice-aggregate-result : tie.Need-slice-aggregate-result
 slice-aggregate-result c = sym (length-take-le _ _ (c .before .before .find .ensures .0))
 
 returns : tie.Need-returns
 returns c = before-within _ _ _ (c .before .before .find .ensures .1) (c .before .if1 .taken)
-
-slice-aggregate-result-2 : tie.Need-slice-aggregate-result-2
-slice-aggregate-result-2 c = search needs
 
 returns-2 : tie.Need-returns-2
 returns-2 c = before-none _ _ _ (c .before .before .find .ensures .1) (c .before .if1 .left)
@@ -24,4 +18,4 @@ returns-2 c = before-none _ _ _ (c .before .before .find .ensures .1) (c .before
 pub before-spec : {M : Type 1} → statement M
 before-spec =
     tie.close
-    (tie.spec find-requires slice-aggregate-result returns slice-aggregate-result-2 returns-2)
+    (tie.spec (λ c κs. search needs) slice-aggregate-result returns (λ c. search needs) returns-2)

@@ -6,14 +6,8 @@ use Rattle.reader.specs.Parts.{equals, partBefore}
 use Rattle.reader.proofs.key_at.Statement.{statement}
 use Rattle.reader.proofs.key_at.Tie as tie
 
-line-at-requires : tie.Need-line-at-requires
-line-at-requires c κs = search needs
-
-before-requires : tie.Need-before-requires
-before-requires c κs = search needs
-
 returns : tie.Need-returns
 returns c = c .before2 .ensures ∙ ap (λ l. partBefore (splitAt equals l)) (c .before .line-at .ensures)
 
 pub key-at-spec : {M : Type 1} → statement M
-key-at-spec = tie.close (tie.spec line-at-requires before-requires returns)
+key-at-spec = tie.close (tie.spec (λ c κs. search needs) (λ c κs. search needs) returns)

@@ -5,14 +5,8 @@ use Rattle.reader.specs.Parts.{lineOf}
 use Rattle.reader.proofs.line_at.Statement.{statement}
 use Rattle.reader.proofs.line_at.Tie as tie
 
-rest-requires : tie.Need-rest-requires
-rest-requires c κs = search needs
-
-before-requires : tie.Need-before-requires
-before-requires c κs = search needs
-
 returns : tie.Need-returns
 returns c = c .before2 .ensures ∙ ap lineOf (c .before .rest .ensures)
 
 pub line-at-spec : {M : Type 1} → statement M
-line-at-spec = tie.close (tie.spec rest-requires before-requires returns)
+line-at-spec = tie.close (tie.spec (λ c κs. search needs) (λ c κs. search needs) returns)

@@ -10,12 +10,6 @@ use Rattle.reader.proofs.Places.{after-length}
 use Rattle.reader.proofs.place_after.Statement.{statement}
 use Rattle.reader.proofs.place_after.Tie as tie
 
-rest-requires : tie.Need-rest-requires
-rest-requires c κs = search needs
-
-after-requires : tie.Need-after-requires
-after-requires c κs = search needs
-
 sub-result : tie.Need-sub-result
 sub-result c =
     let e = ap length (c .after .ensures ∙ ap afterLine (c .before .rest .ensures)) in
@@ -27,4 +21,4 @@ returns c = ap (λ l. length (c .before .before .before .args .s .now) - length 
     (c .before .rest .ensures))
 
 pub place-after-spec : {M : Type 1} → statement M
-place-after-spec = tie.close (tie.spec rest-requires after-requires sub-result returns)
+place-after-spec = tie.close (tie.spec (λ c κs. search needs) (λ c κs. search needs) sub-result returns)

@@ -6,14 +6,8 @@ use Rattle.reader.specs.Parts.{equals, partAfter}
 use Rattle.reader.proofs.value_at.Statement.{statement}
 use Rattle.reader.proofs.value_at.Tie as tie
 
-line-at-requires : tie.Need-line-at-requires
-line-at-requires c κs = search needs
-
-after-requires : tie.Need-after-requires
-after-requires c κs = search needs
-
 returns : tie.Need-returns
 returns c = c .after .ensures ∙ ap (λ l. partAfter (splitAt equals l)) (c .before .line-at .ensures)
 
 pub value-at-spec : {M : Type 1} → statement M
-value-at-spec = tie.close (tie.spec line-at-requires after-requires returns)
+value-at-spec = tie.close (tie.spec (λ c κs. search needs) (λ c κs. search needs) returns)

@@ -3,7 +3,7 @@ use native.Mathlib.Omega.{arith}
 use borrow.Author.Needs.{needs}
 use borrow.Author.Tests.{le-leb, lt-leb}
 use lib.ListN.{length}
-use Rattle.sheet.specs.Values.{valueOf}
+use Rattle.model.specs.Values.{valueOf}
 use Rattle.analyser.proofs.Standings.{rows-counted}
 use Rattle.records.specs.Listed.{sheetAnswer, recordsFor}
 use Rattle.records.proofs.sheet_records.Statement.{statement}

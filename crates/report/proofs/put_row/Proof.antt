@@ -6,14 +6,8 @@ use Rattle.report.proofs.ListingParts.{row-length, row-parts}
 use Rattle.report.proofs.put_row.Statement.{statement}
 use Rattle.report.proofs.put_row.Tie as tie
 
-slice-aggregate-put-number : tie.Need-slice-aggregate-put-number
-slice-aggregate-put-number c = search needs
-
 put-number-requires : tie.Need-put-number-requires
 put-number-requires c κs = omega (arith, row-length (c .before .before .before .args .f))
-
-slice-aggregate-put-number-2 : tie.Need-slice-aggregate-put-number-2
-slice-aggregate-put-number-2 c = search needs
 
 put-number-requires-2 : tie.Need-put-number-requires-2
 put-number-requires-2 c κs =
@@ -21,30 +15,12 @@ put-number-requires-2 c κs =
     let s = h .before .before .before .before in
     omega (arith, row-length (s .args .f), s .pre, h .put-number .ensures .ends)
 
-slice-aggregate-put-three : tie.Need-slice-aggregate-put-three
-slice-aggregate-put-three c = search needs
-
-slice-aggregate-put-three-2 : tie.Need-slice-aggregate-put-three-2
-slice-aggregate-put-three-2 c = search needs
-
-slice-aggregate-put-three-3 : tie.Need-slice-aggregate-put-three-3
-slice-aggregate-put-three-3 c = search needs
-
 put-three-requires : tie.Need-put-three-requires
 put-three-requires c κs =
     let d = c .before .before .before .before .before .before in
     let h = d .before .before .before .before .before in
     let s = h .before .before .before .before in
     omega (arith, row-length (s .args .f), s .pre, h .put-number .ensures .ends, d .put-number2 .ensures .ends)
-
-slice-aggregate-put-three-4 : tie.Need-slice-aggregate-put-three-4
-slice-aggregate-put-three-4 c = search needs
-
-slice-aggregate-put-three-5 : tie.Need-slice-aggregate-put-three-5
-slice-aggregate-put-three-5 c = search needs
-
-slice-aggregate-put-three-6 : tie.Need-slice-aggregate-put-three-6
-slice-aggregate-put-three-6 c = search needs
 
 put-three-requires-2 : tie.Need-put-three-requires-2
 put-three-requires-2 c κs =
@@ -63,15 +39,6 @@ put-three-requires-2 c κs =
       m .out3 .given,
       m .before .put-three .ensures .ends,
     )
-
-slice-aggregate-put-three-7 : tie.Need-slice-aggregate-put-three-7
-slice-aggregate-put-three-7 c = search needs
-
-slice-aggregate-put-three-8 : tie.Need-slice-aggregate-put-three-8
-slice-aggregate-put-three-8 c = search needs
-
-slice-aggregate-put-three-9 : tie.Need-slice-aggregate-put-three-9
-slice-aggregate-put-three-9 c = search needs
 
 put-three-requires-3 : tie.Need-put-three-requires-3
 put-three-requires-3 c κs =
@@ -119,21 +86,21 @@ pub put-row-spec : {M : Type 1} → statement M
 put-row-spec =
     tie.close
     (tie.spec
-    slice-aggregate-put-number
+    (λ c. search needs)
     put-number-requires
-    slice-aggregate-put-number-2
+    (λ c. search needs)
     put-number-requires-2
-    slice-aggregate-put-three
-    slice-aggregate-put-three-2
-    slice-aggregate-put-three-3
+    (λ c. search needs)
+    (λ c. search needs)
+    (λ c. search needs)
     put-three-requires
-    slice-aggregate-put-three-4
-    slice-aggregate-put-three-5
-    slice-aggregate-put-three-6
+    (λ c. search needs)
+    (λ c. search needs)
+    (λ c. search needs)
     put-three-requires-2
-    slice-aggregate-put-three-7
-    slice-aggregate-put-three-8
-    slice-aggregate-put-three-9
+    (λ c. search needs)
+    (λ c. search needs)
+    (λ c. search needs)
     put-three-requires-3
     same-length
     returns)

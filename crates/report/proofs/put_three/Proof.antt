@@ -26,9 +26,6 @@ put-number-requires-3 c κs =
     let l = three-length (a .k .now) (a .x) (a .l .now) (a .y) (a .m .now) (a .z) in
     omega (arith, l, s .pre, k .put-number .ensures .ends, n .put-number2 .ensures .ends)
 
-same-length : tie.Need-same-length
-same-length c = search needs
-
 returns : tie.Need-returns
 unfolding threeText
 returns c =
@@ -39,4 +36,4 @@ returns c =
 pub put-three-spec : {M : Type 1} → statement M
 put-three-spec =
     tie.close
-    (tie.spec put-number-requires put-number-requires-2 put-number-requires-3 same-length returns)
+    (tie.spec put-number-requires put-number-requires-2 put-number-requires-3 (λ c. search needs) returns)

@@ -13,24 +13,6 @@ use Rattle.report.proofs.too_short.Tie as tie
 returns : tie.Need-returns
 returns c = sym (le-ltb (c .before .args .size) _ (omega arith))
 
-slice-aggregate-three-length : tie.Need-slice-aggregate-three-length
-slice-aggregate-three-length c = search needs
-
-slice-aggregate-three-length-2 : tie.Need-slice-aggregate-three-length-2
-slice-aggregate-three-length-2 c = search needs
-
-slice-aggregate-three-length-3 : tie.Need-slice-aggregate-three-length-3
-slice-aggregate-three-length-3 c = search needs
-
-three-length-requires : tie.Need-three-length-requires
-three-length-requires c κs = search needs
-
-rows-length-requires : tie.Need-rows-length-requires
-rows-length-requires c κs = search needs
-
-add-result : tie.Need-add-result
-add-result c = search needs
-
 returns-2 : tie.Need-returns-2
 returns-2 c =
     let a = c .before .before .before .before .before .before .args in
@@ -43,10 +25,10 @@ too-short-spec =
     tie.close
     (tie.spec
     returns
-    slice-aggregate-three-length
-    slice-aggregate-three-length-2
-    slice-aggregate-three-length-3
-    three-length-requires
-    rows-length-requires
-    add-result
+    (λ c. search needs)
+    (λ c. search needs)
+    (λ c. search needs)
+    (λ c κs. search needs)
+    (λ c κs. search needs)
+    (λ c. search needs)
     returns-2)

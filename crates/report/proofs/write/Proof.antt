@@ -10,22 +10,10 @@ use Rattle.report.proofs.ListingParts.{listing-parts, listing-length}
 use Rattle.report.proofs.write.Statement.{statement}
 use Rattle.report.proofs.write.Tie as tie
 
-too-short-requires : tie.Need-too-short-requires
-too-short-requires c κs = search needs
-
 returns : tie.Need-returns
 returns c =
     let a = c .before .before .before .args in
     place-short _ _ (ltb-true (length (a .out .now)) _ (sym (c .before .too-short .ensures) ∙ c .if1 .taken))
-
-slice-aggregate-put-three : tie.Need-slice-aggregate-put-three
-slice-aggregate-put-three c = search needs
-
-slice-aggregate-put-three-2 : tie.Need-slice-aggregate-put-three-2
-slice-aggregate-put-three-2 c = search needs
-
-slice-aggregate-put-three-3 : tie.Need-slice-aggregate-put-three-3
-slice-aggregate-put-three-3 c = search needs
 
 put-three-requires : tie.Need-put-three-requires
 put-three-requires c κs =
@@ -42,9 +30,6 @@ put-rows-requires c κs =
     let l = listing-length (a .refs) (a .segs) (a .rows) (a .figures) (omega arith) in
     (omega arith, omega (arith, h, l, c .before .before .before .put-three .ensures .ends))
 
-same-length : tie.Need-same-length
-same-length c = search needs
-
 returns-2 : tie.Need-returns-2
 returns-2 c =
     let p = c .before .before in
@@ -60,12 +45,12 @@ pub write-spec : {M : Type 1} → statement M
 write-spec =
     tie.close
     (tie.spec
-    too-short-requires
+    (λ c κs. search needs)
     returns
-    slice-aggregate-put-three
-    slice-aggregate-put-three-2
-    slice-aggregate-put-three-3
+    (λ c. search needs)
+    (λ c. search needs)
+    (λ c. search needs)
     put-three-requires
     put-rows-requires
-    same-length
+    (λ c. search needs)
     returns-2)

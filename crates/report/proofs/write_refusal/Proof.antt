@@ -11,24 +11,12 @@ use Rattle.report.specs.Listing.{refusedKey, refusedText}
 use Rattle.report.proofs.write_refusal.Statement.{statement}
 use Rattle.report.proofs.write_refusal.Tie as tie
 
-number-requires : tie.Need-number-requires
-number-requires c κs = search needs
-
-slice-aggregate-number-length : tie.Need-slice-aggregate-number-length
-slice-aggregate-number-length c = search needs
-
-number-length-requires : tie.Need-number-length-requires
-number-length-requires c κs = search needs
-
 returns : tie.Need-returns
 unfolding refusedText
 returns c =
     let l = c .before in
     let e = rw (l .before .before .number .ensures) at (l .number-length .ensures .0) in
     place-short _ _ (omega arith)
-
-slice-aggregate-put : tie.Need-slice-aggregate-put
-slice-aggregate-put c = search needs
 
 put-requires : tie.Need-put-requires
 put-requires c κs =
@@ -39,9 +27,6 @@ put-digits-requires : tie.Need-put-digits-requires
 put-digits-requires c κs =
     let l = c .before .before .before .before .before .before .before in
     rw length-append (omega (arith, l .number-length .ensures .0, line-length refusedKey (written (l .before .before .number .result))))
-
-same-length : tie.Need-same-length
-same-length c = search needs
 
 returns-2 : tie.Need-returns-2
 unfolding refusedText
@@ -55,12 +40,12 @@ pub write-refusal-spec : {M : Type 1} → statement M
 write-refusal-spec =
     tie.close
     (tie.spec
-    number-requires
-    slice-aggregate-number-length
-    number-length-requires
+    (λ c κs. search needs)
+    (λ c. search needs)
+    (λ c κs. search needs)
     returns
-    slice-aggregate-put
+    (λ c. search needs)
     put-requires
     put-digits-requires
-    same-length
+    (λ c. search needs)
     returns-2)

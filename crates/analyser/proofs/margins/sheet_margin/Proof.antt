@@ -2,7 +2,7 @@
 use mathlib.Core.Path.{sym, _∙_}
 use native.Mathlib.Omega.{arith}
 use borrow.Author.Needs.{needs}
-use Rattle.sheet.specs.Values.{valueOf}
+use Rattle.model.specs.Values.{valueOf}
 use Rattle.analyser.proofs.MarginResults.{margin-no-row, margin-none, margin-beyond, margin-at}
 use Rattle.analyser.proofs.Standings.{rows-counted, refs-counted}
 use Rattle.analyser.proofs.margins.sheet_margin.Statement.{statement}

@@ -5,7 +5,7 @@ use mathlib.Core.Path.{_≡_, sym, _∙_}
 use native.Mathlib.Omega.{arith}
 use Rattle.model.specs.Sheets.{traceOf}
 use Rattle.model.specs.Traces.{unreferenced}
-use Rattle.sheet.specs.Values.{valueOf}
+use Rattle.model.specs.Values.{valueOf}
 use Rattle.analyser.specs.Times.{timeOf}
 use Rattle.analyser.proofs.Entries.{entry-of}
 use Rattle.analyser.proofs.Times.{time-start, time-again, time-within}

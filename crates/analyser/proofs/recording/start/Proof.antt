@@ -2,7 +2,7 @@
 use mathlib.Core.Path.{_≡_, sym, ap, _∙_}
 use borrow.Author.Needs.{needs}
 use Rattle.model.specs.declared.Verdict.the-variants.{Accepted}
-use Rattle.sheet.specs.Values.{valueOf}
+use Rattle.model.specs.Values.{valueOf}
 use Rattle.recorder.specs.Recorders.{recorderOf, headOf}
 use Rattle.recorder.specs.declared.Recorder.{Recorder}
 use Rattle.recorder.specs.declared.TouchAnswer.{TouchAnswer}

@@ -4,7 +4,7 @@ use mathlib.Core.Path.{_≡_, refl}
 use mathlib.Core.Logic.{inl, inr}
 use borrow.Author.Needs.{needs}
 use native.Mathlib.Omega.{arith}
-use Rattle.sheet.specs.Values.{valueOf}
+use Rattle.model.specs.Values.{valueOf}
 use Rattle.analyser.proofs.Sizes.{Beyond, beyond-start, beyond-step, sized-last, none-fits}
 use Rattle.analyser.proofs.Standings.{rows-counted}
 use Rattle.analyser.proofs.sizing.sheet_size.Statement.{statement}

@@ -1,9 +1,10 @@
 -- `recording::buckets_of` meets its contract. The loop's invariant: the first k buckets are stored. The measure is what is left of the
 -- buckets. Assumes nothing.
 use Prim.Native.Nat.{_-_}
-use Rattle.figures.specs.Buckets.{bucketCount, tabulate}
+use Rattle.figures.specs.Buckets.{bucketCount}
+use Rattle.model.specs.Sums.{tabulate}
 use Rattle.figures.specs.Sweep.{noBucket}
-use Rattle.figures.proofs.Tables.{length-tabulate, getD-tabulate}
+use Rattle.model.proofs.Tables.{length-tabulate, getD-tabulate}
 use Rattle.exports.specs.Recording.{bucketIn}
 use Rattle.exports.proofs.RecorderSums.{Filled, filled-start, filled-step, filled-end}
 use borrow.Author.Needs.{needs}

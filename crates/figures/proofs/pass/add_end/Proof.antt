@@ -3,9 +3,6 @@ use borrow.Author.Needs.{needs}
 use Rattle.figures.proofs.pass.add_end.Statement.{statement}
 use Rattle.figures.proofs.pass.add_end.Tie as tie
 
-add-touch-requires : tie.Need-add-touch-requires
-add-touch-requires c κs = search needs
-
 returns : tie.Need-returns
 returns c = rw (c .before .if1 .taken) (c .add-touch .ensures)
 
@@ -13,4 +10,4 @@ returns-2 : tie.Need-returns-2
 returns-2 c = rw (c .if1 .left)
 
 pub add-end-spec : {M : Type 1} → statement M
-add-end-spec = tie.close (tie.spec add-touch-requires returns returns-2)
+add-end-spec = tie.close (tie.spec (λ c κs. search needs) returns returns-2)

@@ -44,9 +44,6 @@ add-t11 c =
     let s = c .before .before .before .before .before .before .before .before .before .before .before in
     omega (arith, products s, s .pre)
 
-returns : tie.Need-returns
-returns c = search needs
-
 pub add-touch-spec : {M : Type 1} → statement M
 add-touch-spec =
-    tie.close (tie.spec cast-z add-t4 add-t5 add-t6 add-t7 mul-t8 add-t9 mul-t10 add-t11 returns)
+    tie.close (tie.spec cast-z add-t4 add-t5 add-t6 add-t7 mul-t8 add-t9 mul-t10 add-t11 (λ c. search needs))

@@ -18,9 +18,6 @@ Inv-loop kind a hs ds qs rates sizes last steps buckets₀ i₀ buckets i = Endi
 abbrev μ-loop : tie.MeasureT-loop
 μ-loop kind a hs ds qs rates sizes last steps buckets₀ i₀ buckets i = length sizes - i
 
-empty-buckets-requires : tie.Need-empty-buckets-requires Inv-loop μ-loop
-empty-buckets-requires c κs = search needs
-
 loop-holds : tie.Need-loop-holds Inv-loop μ-loop
 loop-holds c = rw (c .empty-buckets .ensures) (ending-start _ _ _ _ _ _)
 
@@ -43,9 +40,6 @@ mul-touch-of c = omega arith
 
 shared-slice-read-touch-of : tie.Need-shared-slice-read-touch-of Inv-loop μ-loop
 shared-slice-read-touch-of c = omega arith
-
-touch-of-requires : tie.Need-touch-of-requires Inv-loop μ-loop
-touch-of-requires c κs = search needs
 
 mul-bucket-of : tie.Need-mul-bucket-of Inv-loop μ-loop
 mul-bucket-of c = omega arith
@@ -107,13 +101,13 @@ ends-spec =
     (tie.spec
     Inv-loop
     μ-loop
-    empty-buckets-requires
+    (λ c κs. search needs)
     loop-holds
     mul-mark
     shared-slice-read-mark
     mul-touch-of
     shared-slice-read-touch-of
-    touch-of-requires
+    (λ c κs. search needs)
     mul-bucket-of
     shared-slice-read-bucket-of
     bucket-of-requires

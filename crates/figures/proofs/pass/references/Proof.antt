@@ -23,12 +23,6 @@ Inv-loop kind a hs ds qs rates sizes refs buckets₀ last₀ cost₀ volume₀ t
 abbrev μ-loop : tie.MeasureT-loop
 μ-loop kind a hs ds qs rates sizes refs buckets₀ last₀ cost₀ volume₀ t₀ buckets last cost volume t = length refs - t
 
-empty-buckets-requires : tie.Need-empty-buckets-requires Inv-loop μ-loop
-empty-buckets-requires c κs = search needs
-
-untouched-requires : tie.Need-untouched-requires Inv-loop μ-loop
-untouched-requires c κs = search needs
-
 -- the function's entry, from a turn of the loop; the sheet is valid
 abbrev entry : tie.In-loop Inv-loop μ-loop → tie.Start Inv-loop μ-loop
 entry c = c .before .before .before .before .before .before .before .before .before .before
@@ -86,9 +80,6 @@ array-read-mark c = in-table (c .before)
 cast-touch-of : tie.Need-cast-touch-of Inv-loop μ-loop
 cast-touch-of c = omega arith
 
-touch-of-requires : tie.Need-touch-of-requires Inv-loop μ-loop
-touch-of-requires c κs = search needs
-
 mul-bucket-of : tie.Need-mul-bucket-of Inv-loop μ-loop
 mul-bucket-of c = omega (arith, in-table (c .before .before))
 
@@ -136,9 +127,6 @@ mul-last c = omega (arith, in-table (c .before .before .before .before .before .
 
 array-write-last : tie.Need-array-write-last Inv-loop μ-loop
 array-write-last c = in-table (c .before .before .before .before .before .before)
-
-unit-cost-requires : tie.Need-unit-cost-requires Inv-loop μ-loop
-unit-cost-requires c κs = search needs
 
 -- a turn of the loop, from its end
 abbrev turn : tie.After-unit-cost Inv-loop μ-loop → tie.Then1 Inv-loop μ-loop
@@ -197,8 +185,8 @@ references-spec =
     (tie.spec
     Inv-loop
     μ-loop
-    empty-buckets-requires
-    untouched-requires
+    (λ c κs. search needs)
+    (λ c κs. search needs)
     loop-holds
     mul-i
     shared-slice-read-i
@@ -208,7 +196,7 @@ references-spec =
     mul-mark
     array-read-mark
     cast-touch-of
-    touch-of-requires
+    (λ c κs. search needs)
     mul-bucket-of
     shared-slice-read-bucket-of
     cast-bucket-of
@@ -222,7 +210,7 @@ references-spec =
     cast-last
     mul-last
     array-write-last
-    unit-cost-requires
+    (λ c κs. search needs)
     add-cost
     cast-volume
     add-volume

@@ -9,9 +9,6 @@ use Rattle.figures.proofs.PriceRows.{rows-apart, h-length, d-length}
 use Rattle.figures.proofs.pass.tally.Statement.{statement}
 use Rattle.figures.proofs.pass.tally.Tie as tie
 
-split-requires : tie.Need-split-requires
-split-requires c κs = search needs
-
 prices-length : (c : tie.Start) → length (c .args .prices) ≡ 64
 prices-length c = search needs
 
@@ -60,12 +57,6 @@ quotients-requires c κs = paired c
 rates-requires : tie.Need-rates-requires
 rates-requires c κs = c .before .before .before .before .before .before .before .before .pre .1 .segs-within
 
-slice-aggregate-tally-apart : tie.Need-slice-aggregate-tally-apart
-slice-aggregate-tally-apart c = search needs
-
-slice-aggregate-tally-apart-2 : tie.Need-slice-aggregate-tally-apart-2
-slice-aggregate-tally-apart-2 c = search needs
-
 tally-apart-requires : tie.Need-tally-apart-requires
 tally-apart-requires c κs =
     let r = c .before .before in
@@ -83,14 +74,14 @@ pub tally-spec : {M : Type 1} → statement M
 tally-spec =
     tie.close
     (tie.spec
-    split-requires
+    (λ c κs. search needs)
     array-share-prefix-h
     slice-aggregate-hs
     array-share-prefix-d
     slice-aggregate-ds
     quotients-requires
     rates-requires
-    slice-aggregate-tally-apart
-    slice-aggregate-tally-apart-2
+    (λ c. search needs)
+    (λ c. search needs)
     tally-apart-requires
     returns)

@@ -6,14 +6,8 @@ use Rattle.figures.proofs.Ending.{tally-is}
 use Rattle.figures.proofs.pass.tally_apart.Statement.{statement}
 use Rattle.figures.proofs.pass.tally_apart.Tie as tie
 
-references-requires : tie.Need-references-requires
-references-requires c κs = search needs
-
 slice-aggregate-ends : tie.Need-slice-aggregate-ends
 slice-aggregate-ends c = search needs
-
-cast-ends : tie.Need-cast-ends
-cast-ends c = search needs
 
 ends-requires : tie.Need-ends-requires
 ends-requires c κs =
@@ -43,4 +37,4 @@ returns c =
 
 pub tally-apart-spec : {M : Type 1} → statement M
 tally-apart-spec =
-    tie.close (tie.spec references-requires slice-aggregate-ends cast-ends ends-requires returns)
+    tie.close (tie.spec (λ c κs. search needs) slice-aggregate-ends (λ c. search needs) ends-requires returns)

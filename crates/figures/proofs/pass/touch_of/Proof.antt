@@ -2,15 +2,10 @@
 use borrow.Author.Needs.{needs}
 use Prim.Native.Nat.{_-_, _^_, _<_}
 use native.Mathlib.Omega.{arith}
-use Rattle.figures.proofs.Touches.{retention-within, swap-within, reuse-is, first-is}
+use Rattle.figures.proofs.Touches.{reuse-is, first-is}
+use Rattle.model.proofs.Bounds.{retention-within, swap-within}
 use Rattle.figures.proofs.pass.touch_of.Statement.{statement}
 use Rattle.figures.proofs.pass.touch_of.Tie as tie
-
-swap-cost-requires : tie.Need-swap-cost-requires
-swap-cost-requires c κs = search needs
-
-retention-cost-requires : tie.Need-retention-cost-requires
-retention-cost-requires c κs = search needs
 
 swapped : (c : tie.After-swap-cost) → c .swap-cost .result .0 < 2 ^ 32
 swapped c =
@@ -37,4 +32,4 @@ returns-2 c =
     )
 
 pub touch-of-spec : {M : Type 1} → statement M
-touch-of-spec = tie.close (tie.spec swap-cost-requires retention-cost-requires returns returns-2)
+touch-of-spec = tie.close (tie.spec (λ c κs. search needs) (λ c κs. search needs) returns returns-2)

@@ -15,9 +15,6 @@ Inv-loop buckets all₀ k₀ all k = (k ≤ 65) × (all ≡ summed buckets k)
 abbrev μ-loop : tie.MeasureT-loop
 μ-loop buckets all₀ k₀ all k = 65 - k
 
-none-requires : tie.Need-none-requires Inv-loop μ-loop
-none-requires c κs = search needs
-
 loop-holds : tie.Need-loop-holds Inv-loop μ-loop
 loop-holds c = (omega arith, c .none .ensures ∙ sym (summed-none (c .before .args .t1)))
 
@@ -54,7 +51,7 @@ add-up-spec =
     (tie.spec
     Inv-loop
     μ-loop
-    none-requires
+    (λ c κs. search needs)
     loop-holds
     mul-b
     array-copy-out-b

@@ -7,19 +7,17 @@ use native.Mathlib.Omega.{arith}
 use borrow.Author.Needs.{needs}
 use lib.ListN.{length, getD, take}
 use lib.Seq.{getD-take, length-take-le}
-use Rattle.model.specs.Sheets.{SheetValue}
-use Rattle.figures.specs.Rows.{partsOf}
+use Rattle.model.specs.Sheets.{SheetValue, sheetWith}
 use Rattle.figures.specs.Sweep.{summed}
 use Rattle.figures.proofs.Sweeps.{summed-none, summed-suc, summed-more, holds-more}
-use Rattle.figures.proofs.SweptSheets.{figuresUpTo, figures-none, figures-suc, figures-all}
-use Rattle.figures.proofs.SweptSheets.{SweptTo, tallied-buckets, tallied-ends, tallied-fits, tallied-row}
+use Rattle.figures.proofs.SweptSheets.{figuresUpTo, figures-none, figures-suc, figures-all, SweptTo, tallied-buckets, tallied-ends, tallied-fits, tallied-row}
 use Rattle.figures.proofs.rows.all_rows.Statement.{statement}
 use Rattle.figures.proofs.rows.all_rows.Tie as tie
 
 abbrev Inv-loop : tie.InvT-loop
 Inv-loop kind a rows sizes refs prices steps buckets tally-ends cost volume all kept₀ ends₀ out₀ r₀ kept ends out r =
     (r ≤ rows) × (kept ≡ summed buckets r) × (ends ≡ summed tally-ends r)
-    × (out ≡ figuresUpTo (partsOf kind a sizes (take rows prices) refs) r)
+    × (out ≡ figuresUpTo (sheetWith kind a sizes (take rows prices) refs) r)
 
 abbrev μ-loop : tie.MeasureT-loop
 μ-loop kind a rows sizes refs prices steps buckets tally-ends cost volume all kept₀ ends₀ out₀ r₀ kept ends out r =
@@ -27,7 +25,7 @@ abbrev μ-loop : tie.MeasureT-loop
 
 -- the sheet that the arguments give
 abbrev sheet : tie.Start Inv-loop μ-loop → SheetValue
-sheet s = partsOf (s .args .kind) (s .args .a) (s .args .sizes .now) (take (s .args .rows) (s .args .t3)) (s .args .refs .now)
+sheet s = sheetWith (s .args .kind) (s .args .a) (s .args .sizes .now) (take (s .args .rows) (s .args .t3)) (s .args .refs .now)
 
 -- its rows are `rows`
 row-count : (s : tie.Start Inv-loop μ-loop) → length (sheet s .rows) ≡ s .args .rows
@@ -45,15 +43,6 @@ add-up-requires : tie.Need-add-up-requires Inv-loop μ-loop
 add-up-requires c κs =
     let s = c .before .before .before .before in
     tallied-buckets (sheet s) (s .args .tally) (s .pre .1)
-
-none-requires : tie.Need-none-requires Inv-loop μ-loop
-none-requires c κs = search needs
-
-none-requires-2 : tie.Need-none-requires-2 Inv-loop μ-loop
-none-requires-2 c κs = search needs
-
-no-figures-requires : tie.Need-no-figures-requires Inv-loop μ-loop
-no-figures-requires c κs = search needs
 
 loop-holds : tie.Need-loop-holds Inv-loop μ-loop
 loop-holds c =
@@ -165,9 +154,9 @@ all-rows-spec =
     Inv-loop
     μ-loop
     add-up-requires
-    none-requires
-    none-requires-2
-    no-figures-requires
+    (λ c κs. search needs)
+    (λ c κs. search needs)
+    (λ c κs. search needs)
     loop-holds
     mul-b
     array-copy-out-b

@@ -15,8 +15,5 @@ mul-t5 c = omega (arith, volumes-fit c)
 add-t6 : tie.Need-add-t6
 add-t6 c = omega (arith, volumes-fit c)
 
-returns : tie.Need-returns
-returns c = search needs
-
 pub load-of-spec : {M : Type 1} → statement M
-load-of-spec = tie.close (tie.spec mul-t5 add-t6 returns)
+load-of-spec = tie.close (tie.spec mul-t5 add-t6 (λ c. search needs))

@@ -11,9 +11,6 @@ use Rattle.figures.proofs.rows.mean.Tie as tie
 divisor-fits : (c : tie.Start) → c .args .d * c .args .refs ≤ 2 ^ 16 * 2 ^ 11
 divisor-fits c = product-within (c .args .d) (c .args .refs) (2 ^ 16) (2 ^ 11) (omega arith) (omega arith)
 
-mul-result : tie.Need-mul-result
-mul-result c = search needs
-
 mul-result-2 : tie.Need-mul-result-2
 mul-result-2 c = omega (arith, divisor-fits (c .before))
 
@@ -27,4 +24,4 @@ returns-2 : tie.Need-returns-2
 returns-2 c = rw (ne-eqb (c .before .args .refs) 0 (c .if1 .left))
 
 pub mean-spec : {M : Type 1} → statement M
-mean-spec = tie.close (tie.spec mul-result mul-result-2 div-result returns returns-2)
+mean-spec = tie.close (tie.spec (λ c. search needs) mul-result-2 div-result returns returns-2)

@@ -17,9 +17,6 @@ returns : tie.Need-returns
 returns c =
     (omega arith, record { first = λ lt. refl; again = λ le up. absurd (omega (arith, c .if1 .taken, le)) })
 
-cast-first-at-least : tie.Need-cast-first-at-least
-cast-first-at-least c = search needs
-
 mul-first-at-least : tie.Need-mul-first-at-least
 mul-first-at-least c = omega (arith, below-top c)
 
@@ -67,7 +64,7 @@ bucket-of-spec =
     tie.close
     (tie.spec
     returns
-    cast-first-at-least
+    (λ c. search needs)
     mul-first-at-least
     first-at-least-requires
     returns-2

@@ -36,9 +36,6 @@ mul-narrowed-2 c = omega arith
 shared-slice-read-narrowed-2 : tie.Need-shared-slice-read-narrowed-2 Inv-loop μ-loop
 shared-slice-read-narrowed-2 c = omega arith
 
-narrowed-requires : tie.Need-narrowed-requires Inv-loop μ-loop
-narrowed-requires c κs = search needs
-
 loop-less : tie.Need-loop-less Inv-loop μ-loop
 loop-less c = omega arith
 
@@ -74,7 +71,7 @@ halved-spec =
     shared-slice-read-narrowed
     mul-narrowed-2
     shared-slice-read-narrowed-2
-    narrowed-requires
+    (λ c κs. search needs)
     loop-less
     loop-again
     returns

@@ -21,9 +21,6 @@ mul-result c =
           );
     }
 
-div-result : tie.Need-div-result
-div-result c = search needs
-
 returns : tie.Need-returns
 unfolding quotientOf
 returns c =
@@ -35,4 +32,4 @@ returns-2 c =
     let s = c .before in (refl, (quotient-below (s .args .units) (s .args .h) (s .args .d) (s .pre) (omega arith), omega arith))
 
 pub quotient-spec : {M : Type 1} → statement M
-quotient-spec = tie.close (tie.spec mul-result div-result returns returns-2)
+quotient-spec = tie.close (tie.spec mul-result (λ c. search needs) returns returns-2)

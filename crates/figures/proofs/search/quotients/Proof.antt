@@ -14,12 +14,6 @@ Inv-loop a hs ds units out₀ r₀ out r = Quoting units hs ds out r
 abbrev μ-loop : tie.MeasureT-loop
 μ-loop a hs ds units out₀ r₀ out r = length hs - r
 
-units-requires : tie.Need-units-requires Inv-loop μ-loop
-units-requires c κs = search needs
-
-all-past-requires : tie.Need-all-past-requires Inv-loop μ-loop
-all-past-requires c κs = search needs
-
 loop-holds : tie.Need-loop-holds Inv-loop μ-loop
 loop-holds c = rw (c .all-past .ensures) (quoting-start _ _ _)
 
@@ -34,9 +28,6 @@ mul-quotient-2 c = omega arith
 
 shared-slice-read-quotient-2 : tie.Need-shared-slice-read-quotient-2 Inv-loop μ-loop
 shared-slice-read-quotient-2 c = omega arith
-
-quotient-requires : tie.Need-quotient-requires Inv-loop μ-loop
-quotient-requires c κs = search needs
 
 mul-out : tie.Need-mul-out Inv-loop μ-loop
 mul-out c = omega arith
@@ -65,14 +56,14 @@ quotients-spec =
     (tie.spec
     Inv-loop
     μ-loop
-    units-requires
-    all-past-requires
+    (λ c κs. search needs)
+    (λ c κs. search needs)
     loop-holds
     mul-quotient
     shared-slice-read-quotient
     mul-quotient-2
     shared-slice-read-quotient-2
-    quotient-requires
+    (λ c κs. search needs)
     mul-out
     array-write-out
     add-r

@@ -3,26 +3,16 @@ use borrow.Author.Needs.{needs}
 use Prim.Native.Nat.{_-_, _^_}
 use mathlib.Core.Path.{refl}
 use native.Mathlib.Omega.{arith}
-use Rattle.model.proofs.Bounds.{product-within}
+use Rattle.model.proofs.Bounds.{product-within, unit-within}
 use Rattle.figures.specs.Quotients.{quotientOf, rateOf}
 use Rattle.figures.proofs.Rates.{rate-within}
-use Rattle.figures.proofs.Touches.{unit-within}
 use Rattle.figures.proofs.search.rate.Statement.{statement}
 use Rattle.figures.proofs.search.rate.Tie as tie
-
-swap-cost-requires : tie.Need-swap-cost-requires
-swap-cost-requires c κs = search needs
-
-unit-cost-requires : tie.Need-unit-cost-requires
-unit-cost-requires c κs = search needs
-
-units-requires : tie.Need-units-requires
-units-requires c κs = search needs
 
 mul-result : tie.Need-mul-result
 mul-result c =
     let s = c .before .before .before in
-    let unit = unit-within (s .args .kind) (s .args .z) (omega arith) in
+    let unit = unit-within (s .args .kind) (s .args .z) (2 ^ 16 - 1) (omega arith) (omega arith) in
     record {
       fits =
           omega (
@@ -48,4 +38,4 @@ returns c =
 pub rate-spec : {M : Type 1} → statement M
 rate-spec =
     tie.close
-    (tie.spec swap-cost-requires unit-cost-requires units-requires mul-result div-result returns)
+    (tie.spec (λ c κs. search needs) (λ c κs. search needs) (λ c κs. search needs) mul-result div-result returns)

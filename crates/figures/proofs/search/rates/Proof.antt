@@ -23,9 +23,6 @@ mul-rate c = omega arith
 shared-slice-read-rate : tie.Need-shared-slice-read-rate Inv-loop μ-loop
 shared-slice-read-rate c = omega arith
 
-rate-requires : tie.Need-rate-requires Inv-loop μ-loop
-rate-requires c κs = search needs
-
 mul-out : tie.Need-mul-out Inv-loop μ-loop
 mul-out c = omega arith
 
@@ -55,7 +52,7 @@ rates-spec =
     loop-holds
     mul-rate
     shared-slice-read-rate
-    rate-requires
+    (λ c κs. search needs)
     mul-out
     array-write-out
     add-i

@@ -1,7 +1,7 @@
 -- `Recorder::empty` meets its contract. Assumes nothing.
 use mathlib.Core.Path.{refl}
 use borrow.Author.Needs.{needs}
-use Rattle.sheet.specs.Values.{zeros, zeroRows}
+use Rattle.model.specs.Values.{zeros, zeroRows}
 use Rattle.recorder.specs.Recorders.{emptyRecorder}
 use Rattle.recorder.proofs.Recorder.empty.Statement.{statement}
 use Rattle.recorder.proofs.Recorder.empty.Tie as tie

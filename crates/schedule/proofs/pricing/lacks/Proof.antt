@@ -6,12 +6,6 @@ use borrow.Author.Tests.{lt-ltb, le-ltb}
 use Rattle.schedule.proofs.pricing.lacks.Statement.{statement}
 use Rattle.schedule.proofs.pricing.lacks.Tie as tie
 
-add-holds : tie.Need-add-holds
-add-holds c = search needs
-
-holds-requires : tie.Need-holds-requires
-holds-requires c κs = search needs
-
 returns : tie.Need-returns
 returns c = rw (lt-ltb _ _ (c .before .if1 .taken), c .holds .ensures)
 
@@ -19,4 +13,4 @@ returns-2 : tie.Need-returns-2
 returns-2 c = rw (le-ltb _ _ (c .if1 .left))
 
 pub lacks-spec : {M : Type 1} → statement M
-lacks-spec = tie.close (tie.spec add-holds holds-requires returns returns-2)
+lacks-spec = tie.close (tie.spec (λ c. search needs) (λ c κs. search needs) returns returns-2)

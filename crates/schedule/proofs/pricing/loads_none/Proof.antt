@@ -5,9 +5,6 @@ use borrow.Author.Tests.{lt-ltb, le-ltb}
 use Rattle.schedule.proofs.pricing.loads_none.Statement.{statement}
 use Rattle.schedule.proofs.pricing.loads_none.Tie as tie
 
-holds-requires : tie.Need-holds-requires
-holds-requires c κs = search needs
-
 returns : tie.Need-returns
 returns c = rw (lt-ltb _ _ (c .before .if1 .taken), c .holds .ensures)
 
@@ -15,4 +12,4 @@ returns-2 : tie.Need-returns-2
 returns-2 c = rw (le-ltb _ _ (c .if1 .left))
 
 pub loads-none-spec : {M : Type 1} → statement M
-loads-none-spec = tie.close (tie.spec holds-requires returns returns-2)
+loads-none-spec = tie.close (tie.spec (λ c κs. search needs) returns returns-2)

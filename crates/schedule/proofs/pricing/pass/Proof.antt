@@ -7,12 +7,6 @@ use Rattle.schedule.proofs.pricing.pass.Tie as tie
 returns : tie.Need-returns
 returns c = pass-same _ _ _ _ _ _ _ (c .before .if1 .taken) (c .if2 .taken)
 
-unit-at-requires : tie.Need-unit-at-requires
-unit-at-requires c κs = search needs
-
-add-t11 : tie.Need-add-t11
-add-t11 c = search needs
-
 returns-2 : tie.Need-returns-2
 returns-2 c =
     pass-leaves _ _ _ _ _ _ _ (c .before .before .before .if1 .taken) (c .before .before .if2 .left) (c .before .unit-at .ensures .0)
@@ -28,4 +22,4 @@ returns-5 c = pass-same _ _ _ _ _ _ _ (c .before .if1 .left) (c .if3 .left)
 
 pub pass-spec : {M : Type 1} → statement M
 pass-spec =
-    tie.close (tie.spec returns unit-at-requires add-t11 returns-2 returns-3 returns-4 returns-5)
+    tie.close (tie.spec returns (λ c κs. search needs) (λ c. search needs) returns-2 returns-3 returns-4 returns-5)

@@ -4,13 +4,13 @@ use mathlib.Core.Path.{_≡_}
 use native.Mathlib.Omega.{arith}
 use borrow.Author.Needs.{needs}
 use Rattle.schedule.specs.Requires.{runOf}
-use Rattle.schedule.specs.Pricing.{Passed}
+use Rattle.schedule.specs.Pricing.{SegmentsPassed}
 use Rattle.schedule.proofs.Changes.{passed-none}
 use Rattle.schedule.proofs.pricing.pass_step.Statement.{statement}
 use Rattle.schedule.proofs.pricing.pass_step.Tie as tie
 
 abbrev Inv-loop : tie.InvT-loop
-Inv-loop kind a sizes refs schedule t x c₀ m₀ c m = (m ≤ 4) × Passed (runOf kind a sizes refs) schedule t (64 * m) c
+Inv-loop kind a sizes refs schedule t x c₀ m₀ c m = (m ≤ 4) × SegmentsPassed (runOf kind a sizes refs) schedule t (64 * m) c
 
 abbrev μ-loop : tie.MeasureT-loop
 μ-loop kind a sizes refs schedule t x c₀ m₀ c m = 4 - m
@@ -21,12 +21,6 @@ loop-holds c = (omega arith, passed-none _ _ _)
 pass-word-requires : tie.Need-pass-word-requires Inv-loop μ-loop
 pass-word-requires c κs = let start = c .before .before .before .before .before in
     (start .pre .0, (start .pre .1, (c .loop-test .taken, c .before .loop .inv .1)))
-
-add-m : tie.Need-add-m Inv-loop μ-loop
-add-m c = search needs
-
-loop-less : tie.Need-loop-less Inv-loop μ-loop
-loop-less c = search needs
 
 loop-again : tie.Need-loop-again Inv-loop μ-loop
 loop-again c =
@@ -42,4 +36,4 @@ returns c =
 pub pass-step-spec : {M : Type 1} → statement M
 pass-step-spec =
     tie.close
-    (tie.spec Inv-loop μ-loop loop-holds pass-word-requires add-m loop-less loop-again returns)
+    (tie.spec Inv-loop μ-loop loop-holds pass-word-requires (λ c. search needs) (λ c. search needs) loop-again returns)

@@ -26,18 +26,6 @@ differs : (c : tie.In-loop Inv-loop μ-loop)
     < 64 * c .before .before .before .before .before .before .before .args .m + 64
 differs c = differs-below _ _ _ _ _ _ _ _ _ _ _ (c .before .loop .inv) (c .loop-test .taken)
 
-word-at-requires : tie.Need-word-at-requires Inv-loop μ-loop
-word-at-requires c κs = search needs
-
-add-word-at : tie.Need-add-word-at Inv-loop μ-loop
-add-word-at c = search needs
-
-word-at-requires-2 : tie.Need-word-at-requires-2 Inv-loop μ-loop
-word-at-requires-2 c κs = search needs
-
-mul-i : tie.Need-mul-i Inv-loop μ-loop
-mul-i c = search needs
-
 loop-holds : tie.Need-loop-holds Inv-loop μ-loop
 loop-holds c = record {
   within = omega arith;
@@ -91,10 +79,10 @@ pass-word-spec =
     (tie.spec
     Inv-loop
     μ-loop
-    word-at-requires
-    add-word-at
-    word-at-requires-2
-    mul-i
+    (λ c κs. search needs)
+    (λ c. search needs)
+    (λ c κs. search needs)
+    (λ c. search needs)
     loop-holds
     cast-o
     shr-o

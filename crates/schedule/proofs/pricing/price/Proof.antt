@@ -22,9 +22,6 @@ abbrev μ-loop : tie.MeasureT-loop
 mul-if1 : tie.Need-mul-if1 Inv-loop μ-loop
 mul-if1 c = omega (arith, c .before .before .before .pre .refs-within)
 
-refused-requires : tie.Need-refused-requires Inv-loop μ-loop
-refused-requires c κs = search needs
-
 returns : tie.Need-returns Inv-loop μ-loop
 returns c = c .refused .ensures ∙ sym (refused-answer _ _ _ _ _ (other-length _ _ (ne-eqb _ _ (c .before .if1 .taken))))
 
@@ -37,12 +34,6 @@ step-requires c κs = (
   c .before .loop .inv .1,
 )
 
-enum-known-next : tie.Need-enum-known-next Inv-loop μ-loop
-enum-known-next c = search needs
-
-refused-requires-2 : tie.Need-refused-requires-2 Inv-loop μ-loop
-refused-requires-2 c κs = search needs
-
 returns-2 : tie.Need-returns-2 Inv-loop μ-loop
 returns-2 c =
     let turn = c .before .before .before .before .before in
@@ -51,15 +42,6 @@ returns-2 c =
     let fault = rw (c .before .before .next .given .1) at (c .before .before .before .before .step .ensures) in
     c .refused2 .ensures
     ∙ sym (refused-answer _ _ _ _ _ (whole-verdict _ _ whole ∙ first-fault _ _ _ _ _ (turn .loop-test .taken) (done .accepted) fault))
-
-enum-known-next-2 : tie.Need-enum-known-next-2 Inv-loop μ-loop
-enum-known-next-2 c = search needs
-
-add-t : tie.Need-add-t Inv-loop μ-loop
-add-t c = search needs
-
-loop-less : tie.Need-loop-less Inv-loop μ-loop
-loop-less c = search needs
 
 loop-again : tie.Need-loop-again Inv-loop μ-loop
 loop-again c =
@@ -71,7 +53,7 @@ total-requires c κs =
     let start = c .before .before .before .before .before .before in
     let within =
     through-within _ (start .pre) _ _ _ (omega (arith, start .pre .refs-within)) (omega (arith, start .fits .a)) (c .before .loop .inv .1) in
-    (within .1, within .2)
+    (omega (arith, within .1), omega (arith, within .2))
 
 returns-3 : tie.Need-returns-3 Inv-loop μ-loop
 returns-3 c =
@@ -84,16 +66,16 @@ price-spec =
     Inv-loop
     μ-loop
     mul-if1
-    refused-requires
+    (λ c κs. search needs)
     returns
     loop-holds
     step-requires
-    enum-known-next
-    refused-requires-2
+    (λ c. search needs)
+    (λ c κs. search needs)
     returns-2
-    enum-known-next-2
-    add-t
-    loop-less
+    (λ c. search needs)
+    (λ c. search needs)
+    (λ c. search needs)
     loop-again
     total-requires
     returns-3)

@@ -7,12 +7,6 @@ use Rattle.schedule.proofs.Costs.{getD-beyond}
 use Rattle.schedule.proofs.pricing.size_at.Statement.{statement}
 use Rattle.schedule.proofs.pricing.size_at.Tie as tie
 
-mul-result : tie.Need-mul-result
-mul-result c = search needs
-
-shared-slice-read-result : tie.Need-shared-slice-read-result
-shared-slice-read-result c = search needs
-
 returns : tie.Need-returns
 returns c = refl
 
@@ -20,4 +14,4 @@ returns-2 : tie.Need-returns-2
 returns-2 c = sym (getD-beyond (now (c .before .args .sizes)) (c .before .args .x) (c .if1 .left))
 
 pub size-at-spec : {M : Type 1} → statement M
-size-at-spec = tie.close (tie.spec mul-result shared-slice-read-result returns returns-2)
+size-at-spec = tie.close (tie.spec (λ c. search needs) (λ c. search needs) returns returns-2)

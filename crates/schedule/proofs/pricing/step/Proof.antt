@@ -8,15 +8,6 @@ use Rattle.schedule.proofs.Costs.{any-lacks, any-enters, any-within, an
 use Rattle.schedule.proofs.pricing.step.Statement.{statement}
 use Rattle.schedule.proofs.pricing.step.Tie as tie
 
-mul-segment-of : tie.Need-mul-segment-of
-mul-segment-of c = search needs
-
-shared-slice-read-segment-of : tie.Need-shared-slice-read-segment-of
-shared-slice-read-segment-of c = search needs
-
-segment-of-requires : tie.Need-segment-of-requires
-segment-of-requires c κs = search needs
-
 -- where the function begins
 abbrev Entry : tie.After-segment-of → tie.Start
 Entry c = c .before .before .before .before .before
@@ -55,9 +46,6 @@ loads-none-requires c κs =
     let at = Entry x .pre .0 in
     (omega (arith, at .whole, at .place), rw (x .segment-of .ensures) (segment-within _ _ (at .limits .segs-within)))
 
-size-at-requires : tie.Need-size-at-requires
-size-at-requires c κs = search needs
-
 moved-requires : tie.Need-moved-requires
 moved-requires c κs =
     let e = c .before .before in
@@ -90,14 +78,14 @@ pub step-spec : {M : Type 1} → statement M
 step-spec =
     tie.close
     (tie.spec
-    mul-segment-of
-    shared-slice-read-segment-of
-    segment-of-requires
+    (λ c. search needs)
+    (λ c. search needs)
+    (λ c κs. search needs)
     lacks-requires
     returns
     pass-step-requires
     returns-2
     loads-none-requires
-    size-at-requires
+    (λ c κs. search needs)
     moved-requires
     returns-3)

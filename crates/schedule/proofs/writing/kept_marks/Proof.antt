@@ -16,12 +16,6 @@ Inv-loop kind a row sizes refs marks₀ last₀ t₀ marks last t = Marked (runO
 abbrev μ-loop : tie.MeasureT-loop
 μ-loop kind a row sizes refs marks₀ last₀ t₀ marks last t = length refs - t
 
-no-marks-requires : tie.Need-no-marks-requires Inv-loop μ-loop
-no-marks-requires c κs = search needs
-
-untouched-requires : tie.Need-untouched-requires Inv-loop μ-loop
-untouched-requires c κs = search needs
-
 -- where the function begins
 abbrev Entry : tie.In-loop Inv-loop μ-loop → tie.Start Inv-loop μ-loop
 Entry c = c .before .before .before .before .before .before
@@ -37,12 +31,6 @@ loop-holds c =
     let a = s .args in
     rw (c .before .no-marks .ensures, c .untouched .ensures)
     (marked-start (a .kind) (a .a) (a .row) (now (a .sizes)) (now (a .refs)) (s .pre))
-
-mul-i : tie.Need-mul-i Inv-loop μ-loop
-mul-i c = search needs
-
-shared-slice-read-i : tie.Need-shared-slice-read-i Inv-loop μ-loop
-shared-slice-read-i c = search needs
 
 cast-i : tie.Need-cast-i Inv-loop μ-loop
 cast-i c = omega (arith, c .shared-slice-known3 .given (c .before .before .loop .t))
@@ -62,14 +50,8 @@ array-read-touch-kept c = omega (arith, is-segment (c .before), Entry (c .before
 cast-touch-kept : tie.Need-cast-touch-kept Inv-loop μ-loop
 cast-touch-kept c = omega (arith, Entry (c .before .before .before) .pre)
 
-touch-kept-requires : tie.Need-touch-kept-requires Inv-loop μ-loop
-touch-kept-requires c κs = search needs
-
 array-write-marks : tie.Need-array-write-marks Inv-loop μ-loop
 array-write-marks c = omega (arith, Entry (c .before .before .before .before) .pre)
-
-add-t : tie.Need-add-t Inv-loop μ-loop
-add-t c = search needs
 
 cast-last : tie.Need-cast-last Inv-loop μ-loop
 cast-last c = omega (arith, Entry (c .before .before .before .before) .pre)
@@ -79,9 +61,6 @@ mul-last c = omega (arith, is-segment (c .before .before), Entry (c .before .bef
 
 array-write-last : tie.Need-array-write-last Inv-loop μ-loop
 array-write-last c = omega (arith, is-segment (c .before .before), Entry (c .before .before .before .before) .pre)
-
-loop-less : tie.Need-loop-less Inv-loop μ-loop
-loop-less c = search needs
 
 loop-again : tie.Need-loop-again Inv-loop μ-loop
 loop-again c =
@@ -108,12 +87,6 @@ loop-again c =
     (is-segment touch)
     (c .touch-kept .ensures)
 
-add-t-2 : tie.Need-add-t-2 Inv-loop μ-loop
-add-t-2 c = search needs
-
-loop-less-2 : tie.Need-loop-less-2 Inv-loop μ-loop
-loop-less-2 c = search needs
-
 loop-again-2 : tie.Need-loop-again-2 Inv-loop μ-loop
 loop-again-2 c =
     let turn = c .before .before in
@@ -134,26 +107,26 @@ kept-marks-spec =
     (tie.spec
     Inv-loop
     μ-loop
-    no-marks-requires
-    untouched-requires
+    (λ c κs. search needs)
+    (λ c κs. search needs)
     loop-holds
-    mul-i
-    shared-slice-read-i
+    (λ c. search needs)
+    (λ c. search needs)
     cast-i
     mul-touch-kept
     shared-slice-read-touch-kept
     mul-touch-kept-2
     array-read-touch-kept
     cast-touch-kept
-    touch-kept-requires
+    (λ c κs. search needs)
     array-write-marks
-    add-t
+    (λ c. search needs)
     cast-last
     mul-last
     array-write-last
-    loop-less
+    (λ c. search needs)
     loop-again
-    add-t-2
-    loop-less-2
+    (λ c. search needs)
+    (λ c. search needs)
     loop-again-2
     returns)

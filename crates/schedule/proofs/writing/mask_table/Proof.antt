@@ -16,32 +16,11 @@ Inv-loop masks₀ i₀ masks i = (i ≤ 256) × (masks ≡ masksBelow i)
 abbrev μ-loop : tie.MeasureT-loop
 μ-loop masks₀ i₀ masks i = 256 - i
 
-no-masks-requires : tie.Need-no-masks-requires Inv-loop μ-loop
-no-masks-requires c κs = search needs
-
 loop-holds : tie.Need-loop-holds Inv-loop μ-loop
 loop-holds c = (omega arith, c .no-masks .ensures ∙ sym masksBelow-start)
 
-cast-masks : tie.Need-cast-masks Inv-loop μ-loop
-cast-masks c = search needs
-
-shl-masks : tie.Need-shl-masks Inv-loop μ-loop
-shl-masks c = search needs
-
-mul-masks : tie.Need-mul-masks Inv-loop μ-loop
-mul-masks c = search needs
-
-add-masks : tie.Need-add-masks Inv-loop μ-loop
-add-masks c = search needs
-
 array-write-masks : tie.Need-array-write-masks Inv-loop μ-loop
 array-write-masks c = omega arith
-
-add-i : tie.Need-add-i Inv-loop μ-loop
-add-i c = search needs
-
-loop-less : tie.Need-loop-less Inv-loop μ-loop
-loop-less c = search needs
 
 loop-again : tie.Need-loop-again Inv-loop μ-loop
 loop-again c =
@@ -60,14 +39,14 @@ mask-table-spec =
     (tie.spec
     Inv-loop
     μ-loop
-    no-masks-requires
+    (λ c κs. search needs)
     loop-holds
-    cast-masks
-    shl-masks
-    mul-masks
-    add-masks
+    (λ c. search needs)
+    (λ c. search needs)
+    (λ c. search needs)
+    (λ c. search needs)
     array-write-masks
-    add-i
-    loop-less
+    (λ c. search needs)
+    (λ c. search needs)
     loop-again
     returns)

@@ -20,24 +20,6 @@ loop-holds c =
     let p = c .before .pre in
     copied-start (now (a .next)) (now (a .out)) (a .i) (a .on) (a .at) (p .2) (p .3)
 
-mul-mask : tie.Need-mul-mask Inv-loop μ-loop
-mul-mask c = search needs
-
-add-mask : tie.Need-add-mask Inv-loop μ-loop
-add-mask c = search needs
-
-element-copy-out-mask : tie.Need-element-copy-out-mask Inv-loop μ-loop
-element-copy-out-mask c = search needs
-
-element-copy-out-byte : tie.Need-element-copy-out-byte Inv-loop μ-loop
-element-copy-out-byte c = search needs
-
-masked-requires : tie.Need-masked-requires Inv-loop μ-loop
-masked-requires c κs = search needs
-
-add-out : tie.Need-add-out Inv-loop μ-loop
-add-out c = search needs
-
 slice-write-out : tie.Need-slice-write-out Inv-loop μ-loop
 slice-write-out c =
     let s = c .before .before .before .before .before .before in
@@ -48,17 +30,8 @@ slice-write-out c =
       copied-length (now (a .next)) (now (a .out)) (a .i) (a .on) (a .at) (s .pre .2) (s .pre .3) (l .next) (l .out) (l .j) (l .inv),
     )
 
-masked-requires-2 : tie.Need-masked-requires-2 Inv-loop μ-loop
-masked-requires-2 c κs = search needs
-
 element-write-next : tie.Need-element-write-next Inv-loop μ-loop
 element-write-next c = omega arith
-
-add-j : tie.Need-add-j Inv-loop μ-loop
-add-j c = search needs
-
-loop-less : tie.Need-loop-less Inv-loop μ-loop
-loop-less c = search needs
 
 loop-again : tie.Need-loop-again Inv-loop μ-loop
 loop-again c =
@@ -109,17 +82,17 @@ put-step-spec =
     Inv-loop
     μ-loop
     loop-holds
-    mul-mask
-    add-mask
-    element-copy-out-mask
-    element-copy-out-byte
-    masked-requires
-    add-out
+    (λ c. search needs)
+    (λ c. search needs)
+    (λ c. search needs)
+    (λ c. search needs)
+    (λ c κs. search needs)
+    (λ c. search needs)
     slice-write-out
-    masked-requires-2
+    (λ c κs. search needs)
     element-write-next
-    add-j
-    loop-less
+    (λ c. search needs)
+    (λ c. search needs)
     loop-again
     same-length
     returns)

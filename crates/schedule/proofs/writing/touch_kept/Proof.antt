@@ -2,30 +2,20 @@
 use Prim.Native.Nat.{_-_}
 use native.Mathlib.Omega.{arith}
 use borrow.Author.Tests.{le-leb, lt-leb}
-use Rattle.model.proofs.Bounds.{product-within}
-use Rattle.schedule.proofs.Marks.{retention-within}
+use Rattle.model.proofs.Bounds.{product-within, retention-within}
 use borrow.Author.Needs.{needs}
 use Rattle.schedule.proofs.writing.touch_kept.Statement.{statement}
 use Rattle.schedule.proofs.writing.touch_kept.Tie as tie
 
-retention-cost-requires : tie.Need-retention-cost-requires
-retention-cost-requires c κs = search needs
-
 priced-requires : tie.Need-priced-requires
 priced-requires c κs =
     let a = c .before .before .args in
-    rw (c .retention-cost .ensures) (retention-within (a .kind) (a .z) (a .steps - a .mark) (omega arith) (omega arith))
-
-swap-cost-requires : tie.Need-swap-cost-requires
-swap-cost-requires c κs = search needs
+    omega (arith, c .retention-cost .ensures, retention-within (a .kind) (a .z) (a .steps - a .mark) (omega arith) (omega arith))
 
 priced-requires-2 : tie.Need-priced-requires-2
 priced-requires-2 c κs =
     let a = c .before .before .before .before .args in
     omega (arith, product-within (a .a) (a .z) 256 65536 (omega arith) (omega arith))
-
-kept-requires : tie.Need-kept-requires
-kept-requires c κs = search needs
 
 returns : tie.Need-returns
 returns c =
@@ -39,10 +29,10 @@ pub touch-kept-spec : {M : Type 1} → statement M
 touch-kept-spec =
     tie.close
     (tie.spec
-    retention-cost-requires
+    (λ c κs. search needs)
     priced-requires
-    swap-cost-requires
+    (λ c κs. search needs)
     priced-requires-2
-    kept-requires
+    (λ c κs. search needs)
     returns
     returns-2)

@@ -13,7 +13,7 @@ use Rattle.model.specs.declared.PriceRow.{PriceRow}
 use Rattle.schedule.specs.Requires.{runOf}
 use Rattle.schedule.specs.Writing.{KeptMarks}
 use Rattle.schedule.proofs.Filling.{Filled, filled-start, filled-turn, filled-end, filled-next, filled-length}
-use Rattle.schedule.proofs.Marks.{getD-within}
+use Rattle.model.proofs.Lists.{getD-any}
 use Rattle.schedule.proofs.Changes.{segment-within}
 use Rattle.schedule.proofs.writing.write_optimal.Statement.{statement}
 use Rattle.schedule.proofs.writing.write_optimal.Tie as tie
@@ -26,15 +26,6 @@ Inv-loop a sizes refs out₀ marks masks next₀ t₀ out next t =
 
 abbrev μ-loop : tie.MeasureT-loop
 μ-loop a sizes refs out₀ marks masks next₀ t₀ out next t = t
-
-kept-marks-requires : tie.Need-kept-marks-requires Inv-loop μ-loop
-kept-marks-requires c κs = search needs
-
-mask-table-requires : tie.Need-mask-table-requires Inv-loop μ-loop
-mask-table-requires c κs = search needs
-
-no-segments-requires : tie.Need-no-segments-requires Inv-loop μ-loop
-no-segments-requires c κs = search needs
 
 -- where the function begins
 abbrev Entry : tie.At-loop Inv-loop μ-loop → tie.Start Inv-loop μ-loop
@@ -70,23 +61,8 @@ loop-holds c =
           (filled-start (runOf kind (a .a) (now (a .sizes)) (now (a .refs))) (row .h) (row .d) (now (a .out)) (s .pre .1)),
     )
 
-sub-t : tie.Need-sub-t Inv-loop μ-loop
-sub-t c = search needs
-
-mul-segment-of : tie.Need-mul-segment-of Inv-loop μ-loop
-mul-segment-of c = search needs
-
-shared-slice-read-segment-of : tie.Need-shared-slice-read-segment-of Inv-loop μ-loop
-shared-slice-read-segment-of c = search needs
-
-segment-of-requires : tie.Need-segment-of-requires Inv-loop μ-loop
-segment-of-requires c κs = search needs
-
 array-read-all-bits : tie.Need-array-read-all-bits Inv-loop μ-loop
 array-read-all-bits c = omega (arith, Entry (c .before .before .before .before) .pre .0)
-
-all-bits-requires : tie.Need-all-bits-requires Inv-loop μ-loop
-all-bits-requires c κs = search needs
 
 mul-put-step : tie.Need-mul-put-step Inv-loop μ-loop
 mul-put-step c = omega (arith, Entry (c .before .before .before .before .before) .pre .0)
@@ -104,9 +80,6 @@ put-step-requires c κs =
       omega (arith, same l, s .pre .1, turn),
     )
 
-loop-less : tie.Need-loop-less Inv-loop μ-loop
-loop-less c = search needs
-
 loop-again : tie.Need-loop-again Inv-loop μ-loop
 loop-again c =
     let found = c .before .before .before .before .before .before .before in
@@ -118,7 +91,7 @@ loop-again c =
       omega (arith, l .inv .0),
       λ kind row m.
           let run = runOf kind (a .a) (now (a .sizes)) (now (a .refs)) in
-          let first = getD-within (now (a .refs)) (l .t - 1) (length (now (a .sizes))) 0 (omega (arith, turn)) in
+          let first = getD-any (now (a .refs)) (l .t - 1) (length (now (a .sizes))) 0 (omega (arith, turn)) in
           filled-turn
           run
           (row .h)
@@ -159,19 +132,19 @@ write-optimal-spec =
     (tie.spec
     Inv-loop
     μ-loop
-    kept-marks-requires
-    mask-table-requires
-    no-segments-requires
+    (λ c κs. search needs)
+    (λ c κs. search needs)
+    (λ c κs. search needs)
     loop-holds
-    sub-t
-    mul-segment-of
-    shared-slice-read-segment-of
-    segment-of-requires
+    (λ c. search needs)
+    (λ c. search needs)
+    (λ c. search needs)
+    (λ c κs. search needs)
     array-read-all-bits
-    all-bits-requires
+    (λ c κs. search needs)
     mul-put-step
     put-step-requires
-    loop-less
+    (λ c. search needs)
     loop-again
     same-length
     returns)

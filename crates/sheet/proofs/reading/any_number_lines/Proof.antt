@@ -6,14 +6,14 @@ use native.Mathlib.Omega.{arith}
 use borrow.Author.Needs.{needs}
 use lib.ListN.{length, length-set}
 use Rattle.sheet.specs.AtPlace.{parsedNumber, numberNext}
-use Rattle.sheet.proofs.LinesPassed.{Passed, pass-start, pass-step, pass-stop, pass-whole, numbers, numbers-repeat}
+use Rattle.sheet.proofs.LinesPassed.{PassedLines, pass-start, pass-step, pass-stop, pass-whole, numbers, numbers-repeat}
 use Rattle.sheet.proofs.ReadRows.{number-bounds}
 use Rattle.sheet.proofs.Tails.{tail-place}
 use Rattle.sheet.proofs.reading.any_number_lines.Statement.{statement}
 use Rattle.sheet.proofs.reading.any_number_lines.Tie as tie
 
 abbrev Inv-loop : tie.InvT-loop
-Inv-loop s key lo hi out₀ at₀ i₀ out at i = Passed (numbers key lo hi) (length out₀) tt s out tt at i × (length out ≡ length out₀)
+Inv-loop s key lo hi out₀ at₀ i₀ out at i = PassedLines (numbers key lo hi) (length out₀) tt s out tt at i × (length out ≡ length out₀)
 
 abbrev μ-loop : tie.MeasureT-loop
 μ-loop s key lo hi out₀ at₀ i₀ out at i = length out₀ - i
@@ -27,15 +27,6 @@ sub-number-line c = omega (arith, c .before .loop .inv .0 .place)
 part-number-line-start : tie.Need-part-number-line-start Inv-loop μ-loop
 part-number-line-start c = omega (arith, c .before .loop .inv .0 .place)
 
-part-number-line-end : tie.Need-part-number-line-end Inv-loop μ-loop
-part-number-line-end c = search needs
-
-number-line-requires : tie.Need-number-line-requires Inv-loop μ-loop
-number-line-requires c κs = search needs
-
-enum-known-why : tie.Need-enum-known-why Inv-loop μ-loop
-enum-known-why c = search needs
-
 same-length : tie.Need-same-length Inv-loop μ-loop
 same-length c = c .before .before .before .before .before .before .loop .inv .1
 
@@ -46,20 +37,11 @@ returns c =
     let line = sym (w .before .before .number-line .ensures .0) ∙ ap (parsedNumber _) (w .why .given .1) in
     (sym (pass-stop _ _ _ (numbers-repeat _ _ _) _ _ _ _ _ _ _ (d .before .loop .inv .0) _ (omega arith) line), omega arith)
 
-enum-known-n : tie.Need-enum-known-n Inv-loop μ-loop
-enum-known-n c = search needs
-
 cast-out : tie.Need-cast-out Inv-loop μ-loop
 cast-out c =
     let w = c .before in
     let line = sym (w .before .before .number-line .ensures .0) ∙ ap (parsedNumber _) (w .n .given .1) in
     omega (arith, number-bounds _ _ _ _ _ _ line)
-
-mul-out : tie.Need-mul-out Inv-loop μ-loop
-mul-out c = search needs
-
-slice-write-out : tie.Need-slice-write-out Inv-loop μ-loop
-slice-write-out c = search needs
 
 add-at : tie.Need-add-at Inv-loop μ-loop
 add-at c =
@@ -70,12 +52,6 @@ add-at c =
       tail-place (d .before .before .before .before .args .s .now) (d .loop .at) (w .n .given .0 .1 .0) (d .loop .inv .0 .place)
           (omega (arith, w .before .before .number-line .ensures .1, ap numberNext (w .n .given .1))),
     )
-
-add-i : tie.Need-add-i Inv-loop μ-loop
-add-i c = search needs
-
-loop-less : tie.Need-loop-less Inv-loop μ-loop
-loop-less c = search needs
 
 loop-again : tie.Need-loop-again Inv-loop μ-loop
 loop-again c =
@@ -104,18 +80,18 @@ any-number-lines-spec =
     loop-holds
     sub-number-line
     part-number-line-start
-    part-number-line-end
-    number-line-requires
-    enum-known-why
+    (λ c. search needs)
+    (λ c κs. search needs)
+    (λ c. search needs)
     same-length
     returns
-    enum-known-n
+    (λ c. search needs)
     cast-out
-    mul-out
-    slice-write-out
+    (λ c. search needs)
+    (λ c. search needs)
     add-at
-    add-i
-    loop-less
+    (λ c. search needs)
+    (λ c. search needs)
     loop-again
     same-length-2
     returns-2)

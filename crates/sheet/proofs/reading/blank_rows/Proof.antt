@@ -1,6 +1,6 @@
 -- `reading::blank_rows` meets its contract: the repeat is that of the definition. Assumes nothing.
 use borrow.Author.Needs.{needs}
-use Rattle.sheet.specs.Values.{zeroRows}
+use Rattle.model.specs.Values.{zeroRows}
 use Rattle.sheet.proofs.reading.blank_rows.Statement.{statement}
 use Rattle.sheet.proofs.reading.blank_rows.Tie as tie
 

@@ -1,6 +1,6 @@
 -- `reading::blank_touches` meets its contract: the repeat is that of the definition. Assumes nothing.
 use borrow.Author.Needs.{needs}
-use Rattle.sheet.specs.Values.{zeros}
+use Rattle.model.specs.Values.{zeros}
 use Rattle.sheet.proofs.reading.blank_touches.Statement.{statement}
 use Rattle.sheet.proofs.reading.blank_touches.Tie as tie
 

@@ -9,38 +9,17 @@ use Rattle.sheet.specs.AtPlace.{before}
 use Rattle.sheet.proofs.reading.exceeds.Statement.{statement}
 use Rattle.sheet.proofs.reading.exceeds.Tie as tie
 
-enum-told : tie.Need-enum-told
-enum-told c = search needs
-
-enum-known-prev : tie.Need-enum-known-prev
-enum-known-prev c = search needs
-
-cast-result : tie.Need-cast-result
-cast-result c = search needs
-
-cast-result-2 : tie.Need-cast-result-2
-cast-result-2 c = search needs
-
 mul-result : tie.Need-mul-result
 mul-result c =
     let p = c .before .before .before .prev .given .0 .0 in
     let row = c .before .before .before .before .before .args .row in
     omega (arith, product-within (p .h) (row .d) (2 ^ 16) (2 ^ 16) (omega arith) (omega arith))
 
-cast-result-3 : tie.Need-cast-result-3
-cast-result-3 c = search needs
-
-cast-result-4 : tie.Need-cast-result-4
-cast-result-4 c = search needs
-
 mul-result-2 : tie.Need-mul-result-2
 mul-result-2 c =
     let p = c .before .before .before .before .before .prev .given .0 .0 in
     let row = c .before .before .before .before .before .before .before .args .row in
     omega (arith, product-within (row .h) (p .d) (2 ^ 16) (2 ^ 16) (omega arith) (omega arith))
-
-returns : tie.Need-returns
-returns c = search needs
 
 returns-2 : tie.Need-returns-2
 returns-2 c =
@@ -51,13 +30,13 @@ pub exceeds-spec : {M : Type 1} → statement M
 exceeds-spec =
     tie.close
     (tie.spec
-    enum-told
-    enum-known-prev
-    cast-result
-    cast-result-2
+    (λ c. search needs)
+    (λ c. search needs)
+    (λ c. search needs)
+    (λ c. search needs)
     mul-result
-    cast-result-3
-    cast-result-4
+    (λ c. search needs)
+    (λ c. search needs)
     mul-result-2
-    returns
+    (λ c. search needs)
     returns-2)

@@ -9,21 +9,9 @@ use Rattle.sheet.proofs.ReadStages.{stage-read, stage-refused}
 use Rattle.sheet.proofs.reading.from_a.Statement.{statement}
 use Rattle.sheet.proofs.reading.from_a.Tie as tie
 
-slice-aggregate-number-line : tie.Need-slice-aggregate-number-line
-slice-aggregate-number-line c = search needs
-
 number-line-requires : tie.Need-number-line-requires
 unfolding splitAt
 number-line-requires c κs = refl
-
-enum-known-why : tie.Need-enum-known-why
-enum-known-why c = search needs
-
-refused-requires : tie.Need-refused-requires
-refused-requires c κs = search needs
-
-enum-known-n : tie.Need-enum-known-n
-enum-known-n c = search needs
 
 sub-from-segs : tie.Need-sub-from-segs
 sub-from-segs c = let w = c .before in omega (arith, w .before .before .number-line .ensures .1, ap numberNext (w .n .given .1))
@@ -31,17 +19,11 @@ sub-from-segs c = let w = c .before in omega (arith, w .before .before .number-l
 part-from-segs-start : tie.Need-part-from-segs-start
 part-from-segs-start c = sub-from-segs c
 
-part-from-segs-end : tie.Need-part-from-segs-end
-part-from-segs-end c = search needs
-
 cast-from-segs : tie.Need-cast-from-segs
 cast-from-segs c =
     let w = c .before .before in
     let e = sym (w .before .before .number-line .ensures .0) ∙ ap (parsedNumber _) (w .n .given .1) in
     omega (arith, number-bounds _ _ _ _ _ _ e)
-
-from-segs-requires : tie.Need-from-segs-requires
-from-segs-requires c κs = search needs
 
 returns : tie.Need-returns
 unfolding fromA
@@ -62,15 +44,15 @@ pub from-a-spec : {M : Type 1} → statement M
 from-a-spec =
     tie.close
     (tie.spec
-    slice-aggregate-number-line
+    (λ c. search needs)
     number-line-requires
-    enum-known-why
-    refused-requires
-    enum-known-n
+    (λ c. search needs)
+    (λ c κs. search needs)
+    (λ c. search needs)
     sub-from-segs
     part-from-segs-start
-    part-from-segs-end
+    (λ c. search needs)
     cast-from-segs
-    from-segs-requires
+    (λ c κs. search needs)
     returns
     returns-2)

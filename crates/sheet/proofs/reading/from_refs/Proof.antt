@@ -9,33 +9,15 @@ use Rattle.sheet.proofs.ReadStages.{stage-read, stage-refused}
 use Rattle.sheet.proofs.reading.from_refs.Statement.{statement}
 use Rattle.sheet.proofs.reading.from_refs.Tie as tie
 
-slice-aggregate-number-line : tie.Need-slice-aggregate-number-line
-slice-aggregate-number-line c = search needs
-
 number-line-requires : tie.Need-number-line-requires
 unfolding splitAt
 number-line-requires c κs = refl
-
-enum-known-why : tie.Need-enum-known-why
-enum-known-why c = search needs
-
-refused-requires : tie.Need-refused-requires
-refused-requires c κs = search needs
-
-enum-known-n : tie.Need-enum-known-n
-enum-known-n c = search needs
 
 sub-from-touches : tie.Need-sub-from-touches
 sub-from-touches c = let w = c .before in omega (arith, w .before .before .number-line .ensures .1, ap numberNext (w .n .given .1))
 
 part-from-touches-start : tie.Need-part-from-touches-start
 part-from-touches-start c = sub-from-touches c
-
-part-from-touches-end : tie.Need-part-from-touches-end
-part-from-touches-end c = search needs
-
-cast-from-touches : tie.Need-cast-from-touches
-cast-from-touches c = search needs
 
 from-touches-requires : tie.Need-from-touches-requires
 from-touches-requires c κs =
@@ -63,15 +45,16 @@ pub from-refs-spec : {M : Type 1} → statement M
 from-refs-spec =
     tie.close
     (tie.spec
-    slice-aggregate-number-line
+    (λ c. search needs)
+    (λ c. search needs)
     number-line-requires
-    enum-known-why
-    refused-requires
-    enum-known-n
+    (λ c. search needs)
+    (λ c κs. search needs)
+    (λ c. search needs)
     sub-from-touches
     part-from-touches-start
-    part-from-touches-end
-    cast-from-touches
+    (λ c. search needs)
+    (λ c. search needs)
     from-touches-requires
     returns
     returns-2)

@@ -8,18 +8,6 @@ use Rattle.sheet.proofs.ReadStages.{stage-read, stage-refused}
 use Rattle.sheet.proofs.reading.from_row_lines.Statement.{statement}
 use Rattle.sheet.proofs.reading.from_row_lines.Tie as tie
 
-row-lines-requires : tie.Need-row-lines-requires
-row-lines-requires c κs = search needs
-
-enum-known-lines : tie.Need-enum-known-lines
-enum-known-lines c = search needs
-
-refused-requires : tie.Need-refused-requires
-refused-requires c κs = search needs
-
-enum-known-lines-2 : tie.Need-enum-known-lines-2
-enum-known-lines-2 c = search needs
-
 sub-from-refs : tie.Need-sub-from-refs
 sub-from-refs c =
     let w = c .before in
@@ -27,12 +15,6 @@ sub-from-refs c =
 
 part-from-refs-start : tie.Need-part-from-refs-start
 part-from-refs-start c = sub-from-refs c
-
-part-from-refs-end : tie.Need-part-from-refs-end
-part-from-refs-end c = search needs
-
-from-refs-requires : tie.Need-from-refs-requires
-from-refs-requires c κs = search needs
 
 returns : tie.Need-returns
 unfolding fromRowLines
@@ -58,13 +40,13 @@ pub from-row-lines-spec : {M : Type 1} → statement M
 from-row-lines-spec =
     tie.close
     (tie.spec
-    row-lines-requires
-    enum-known-lines
-    refused-requires
-    enum-known-lines-2
+    (λ c κs. search needs)
+    (λ c. search needs)
+    (λ c κs. search needs)
+    (λ c. search needs)
     sub-from-refs
     part-from-refs-start
-    part-from-refs-end
-    from-refs-requires
+    (λ c. search needs)
+    (λ c κs. search needs)
     returns
     returns-2)

@@ -9,33 +9,15 @@ use Rattle.sheet.proofs.ReadStages.{stage-read, stage-refused}
 use Rattle.sheet.proofs.reading.from_rows.Statement.{statement}
 use Rattle.sheet.proofs.reading.from_rows.Tie as tie
 
-slice-aggregate-number-line : tie.Need-slice-aggregate-number-line
-slice-aggregate-number-line c = search needs
-
 number-line-requires : tie.Need-number-line-requires
 unfolding splitAt
 number-line-requires c κs = refl
-
-enum-known-why : tie.Need-enum-known-why
-enum-known-why c = search needs
-
-refused-requires : tie.Need-refused-requires
-refused-requires c κs = search needs
-
-enum-known-n : tie.Need-enum-known-n
-enum-known-n c = search needs
 
 sub-from-row-lines : tie.Need-sub-from-row-lines
 sub-from-row-lines c = let w = c .before in omega (arith, w .before .before .number-line .ensures .1, ap numberNext (w .n .given .1))
 
 part-from-row-lines-start : tie.Need-part-from-row-lines-start
 part-from-row-lines-start c = sub-from-row-lines c
-
-part-from-row-lines-end : tie.Need-part-from-row-lines-end
-part-from-row-lines-end c = search needs
-
-cast-from-row-lines : tie.Need-cast-from-row-lines
-cast-from-row-lines c = search needs
 
 from-row-lines-requires : tie.Need-from-row-lines-requires
 from-row-lines-requires c κs =
@@ -63,15 +45,16 @@ pub from-rows-spec : {M : Type 1} → statement M
 from-rows-spec =
     tie.close
     (tie.spec
-    slice-aggregate-number-line
+    (λ c. search needs)
+    (λ c. search needs)
     number-line-requires
-    enum-known-why
-    refused-requires
-    enum-known-n
+    (λ c. search needs)
+    (λ c κs. search needs)
+    (λ c. search needs)
     sub-from-row-lines
     part-from-row-lines-start
-    part-from-row-lines-end
-    cast-from-row-lines
+    (λ c. search needs)
+    (λ c. search needs)
     from-row-lines-requires
     returns
     returns-2)

@@ -9,33 +9,15 @@ use Rattle.sheet.proofs.ReadStages.{stage-read, stage-refused}
 use Rattle.sheet.proofs.reading.from_segs.Statement.{statement}
 use Rattle.sheet.proofs.reading.from_segs.Tie as tie
 
-slice-aggregate-number-line : tie.Need-slice-aggregate-number-line
-slice-aggregate-number-line c = search needs
-
 number-line-requires : tie.Need-number-line-requires
 unfolding splitAt
 number-line-requires c κs = refl
-
-enum-known-why : tie.Need-enum-known-why
-enum-known-why c = search needs
-
-refused-requires : tie.Need-refused-requires
-refused-requires c κs = search needs
-
-enum-known-n : tie.Need-enum-known-n
-enum-known-n c = search needs
 
 sub-from-sizes : tie.Need-sub-from-sizes
 sub-from-sizes c = let w = c .before in omega (arith, w .before .before .number-line .ensures .1, ap numberNext (w .n .given .1))
 
 part-from-sizes-start : tie.Need-part-from-sizes-start
 part-from-sizes-start c = sub-from-sizes c
-
-part-from-sizes-end : tie.Need-part-from-sizes-end
-part-from-sizes-end c = search needs
-
-cast-from-sizes : tie.Need-cast-from-sizes
-cast-from-sizes c = search needs
 
 from-sizes-requires : tie.Need-from-sizes-requires
 from-sizes-requires c κs =
@@ -62,15 +44,16 @@ pub from-segs-spec : {M : Type 1} → statement M
 from-segs-spec =
     tie.close
     (tie.spec
-    slice-aggregate-number-line
+    (λ c. search needs)
+    (λ c. search needs)
     number-line-requires
-    enum-known-why
-    refused-requires
-    enum-known-n
+    (λ c. search needs)
+    (λ c κs. search needs)
+    (λ c. search needs)
     sub-from-sizes
     part-from-sizes-start
-    part-from-sizes-end
-    cast-from-sizes
+    (λ c. search needs)
+    (λ c. search needs)
     from-sizes-requires
     returns
     returns-2)

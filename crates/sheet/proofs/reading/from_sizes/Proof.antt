@@ -7,7 +7,8 @@ use lib.ListN.{length}
 use lib.Seq.{length-take-le}
 use Rattle.model.specs.Sheets.{mostSegs}
 use Rattle.sheet.specs.Lines.{splitAt}
-use Rattle.sheet.specs.Values.{zeros, answerOf}
+use Rattle.model.specs.Values.{zeros}
+use Rattle.sheet.specs.Answers.{answerOf}
 use Rattle.sheet.specs.Reading.{atEnd}
 use Rattle.sheet.specs.AtPlace.{linesNext, fromSizes, fromRows}
 use Rattle.sheet.proofs.Blanks.{zeros-length, front-filled, front-take}
@@ -15,15 +16,6 @@ use Rattle.sheet.proofs.ReadStages.{stage-read, stage-refused, lines-in
 use Rattle.sheet.proofs.Tails.{tail}
 use Rattle.sheet.proofs.reading.from_sizes.Statement.{statement}
 use Rattle.sheet.proofs.reading.from_sizes.Tie as tie
-
-blank-sizes-requires : tie.Need-blank-sizes-requires
-blank-sizes-requires c κs = search needs
-
-slice-aggregate-number-lines : tie.Need-slice-aggregate-number-lines
-slice-aggregate-number-lines c = search needs
-
-array-borrow-prefix-sizes : tie.Need-array-borrow-prefix-sizes
-array-borrow-prefix-sizes c = search needs
 
 slice-aggregate-number-lines-2 : tie.Need-slice-aggregate-number-lines-2
 slice-aggregate-number-lines-2 c =
@@ -34,15 +26,6 @@ number-lines-requires : tie.Need-number-lines-requires
 unfolding splitAt
 number-lines-requires c κs = (refl, omega arith)
 
-enum-known-why : tie.Need-enum-known-why
-enum-known-why c = search needs
-
-refused-requires : tie.Need-refused-requires
-refused-requires c κs = search needs
-
-enum-known-next : tie.Need-enum-known-next
-enum-known-next c = search needs
-
 sub-from-rows : tie.Need-sub-from-rows
 sub-from-rows c =
     let w = c .before in
@@ -50,9 +33,6 @@ sub-from-rows c =
 
 part-from-rows-start : tie.Need-part-from-rows-start
 part-from-rows-start c = sub-from-rows c
-
-part-from-rows-end : tie.Need-part-from-rows-end
-part-from-rows-end c = search needs
 
 from-rows-requires : tie.Need-from-rows-requires
 from-rows-requires c κs =
@@ -91,17 +71,17 @@ pub from-sizes-spec : {M : Type 1} → statement M
 from-sizes-spec =
     tie.close
     (tie.spec
-    blank-sizes-requires
-    slice-aggregate-number-lines
-    array-borrow-prefix-sizes
+    (λ c κs. search needs)
+    (λ c. search needs)
+    (λ c. search needs)
     slice-aggregate-number-lines-2
     number-lines-requires
-    enum-known-why
-    refused-requires
-    enum-known-next
+    (λ c. search needs)
+    (λ c κs. search needs)
+    (λ c. search needs)
     sub-from-rows
     part-from-rows-start
-    part-from-rows-end
+    (λ c. search needs)
     from-rows-requires
     returns
     returns-2)

@@ -7,27 +7,13 @@ use lib.ListN.{length}
 use lib.Seq.{length-take-le}
 use Rattle.model.specs.Sheets.{mostSegs, mostRefs}
 use Rattle.sheet.specs.Lines.{splitAt}
-use Rattle.sheet.specs.Values.{zeros, answerOf}
+use Rattle.model.specs.Values.{zeros}
+use Rattle.sheet.specs.Answers.{answerOf}
 use Rattle.sheet.specs.AtPlace.{fromTouches}
 use Rattle.sheet.proofs.Blanks.{zeros-length, front-filled, front-take}
 use Rattle.sheet.proofs.ReadStages.{stage-read, stage-refused, lines-into, more-bytes, no-bytes, finished}
 use Rattle.sheet.proofs.reading.from_touches.Statement.{statement}
 use Rattle.sheet.proofs.reading.from_touches.Tie as tie
-
-blank-touches-requires : tie.Need-blank-touches-requires
-blank-touches-requires c κs = search needs
-
-slice-aggregate-number-lines : tie.Need-slice-aggregate-number-lines
-slice-aggregate-number-lines c = search needs
-
-sub-number-lines : tie.Need-sub-number-lines
-sub-number-lines c = search needs
-
-cast-number-lines : tie.Need-cast-number-lines
-cast-number-lines c = search needs
-
-array-borrow-prefix-touches : tie.Need-array-borrow-prefix-touches
-array-borrow-prefix-touches c = search needs
 
 slice-aggregate-number-lines-2 : tie.Need-slice-aggregate-number-lines-2
 slice-aggregate-number-lines-2 c =
@@ -37,18 +23,6 @@ slice-aggregate-number-lines-2 c =
 number-lines-requires : tie.Need-number-lines-requires
 unfolding splitAt
 number-lines-requires c κs = (refl, omega (arith, zeros-length mostSegs, c .before .before .before .before .pre .1 .0 .within))
-
-enum-known-why : tie.Need-enum-known-why
-enum-known-why c = search needs
-
-refused-requires : tie.Need-refused-requires
-refused-requires c κs = search needs
-
-enum-known-next : tie.Need-enum-known-next
-enum-known-next c = search needs
-
-refused-requires-2 : tie.Need-refused-requires-2
-refused-requires-2 c κs = search needs
 
 returns : tie.Need-returns
 unfolding fromTouches
@@ -95,17 +69,17 @@ pub from-touches-spec : {M : Type 1} → statement M
 from-touches-spec =
     tie.close
     (tie.spec
-    blank-touches-requires
-    slice-aggregate-number-lines
-    sub-number-lines
-    cast-number-lines
-    array-borrow-prefix-touches
+    (λ c κs. search needs)
+    (λ c. search needs)
+    (λ c. search needs)
+    (λ c. search needs)
+    (λ c. search needs)
     slice-aggregate-number-lines-2
     number-lines-requires
-    enum-known-why
-    refused-requires
-    enum-known-next
-    refused-requires-2
+    (λ c. search needs)
+    (λ c κs. search needs)
+    (λ c. search needs)
+    (λ c κs. search needs)
     returns
     returns-2
     returns-3)

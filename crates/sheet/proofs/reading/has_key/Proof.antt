@@ -9,14 +9,8 @@ use Rattle.sheet.proofs.reading.has_key.Tie as tie
 slice-aggregate-same : tie.Need-slice-aggregate-same
 slice-aggregate-same c = sym (length-take-le _ _ (c .before .if1 .taken))
 
-same-requires : tie.Need-same-requires
-same-requires c κs = search needs
-
-returns : tie.Need-returns
-returns c = search needs
-
 returns-2 : tie.Need-returns-2
 returns-2 c = let a = c .before .before .before .args in sym (short-key (a .s .now) (a .key .now) (c .if1 .left))
 
 pub has-key-spec : {M : Type 1} → statement M
-has-key-spec = tie.close (tie.spec slice-aggregate-same same-requires returns returns-2)
+has-key-spec = tie.close (tie.spec slice-aggregate-same (λ c κs. search needs) (λ c. search needs) returns-2)

@@ -15,18 +15,12 @@ within : (c : tie.After-start) → (c .start .given .0 .0 ≤ c .start .given .0
     × (c .start .given .0 .1 .0 < length (c .before .before .before .before .before .args .s .now))
 within c = value-within _ _ _ _ (c .before .before .value-line .ensures .1) (c .start .given .1)
 
-slice-aggregate-value-line : tie.Need-slice-aggregate-value-line
-slice-aggregate-value-line c = search needs
-
 value-line-requires : tie.Need-value-line-requires
 unfolding splitAt
 value-line-requires c κs = refl
 
 enum-told : tie.Need-enum-told
 enum-told c = search needs
-
-enum-known-start : tie.Need-enum-known-start
-enum-known-start c = search needs
 
 sub-kind-value : tie.Need-sub-kind-value
 sub-kind-value c = within (c .before) .0
@@ -39,9 +33,6 @@ part-kind-value-end c = omega (arith, within (c .before))
 
 add-kind-value : tie.Need-add-kind-value
 add-kind-value c = omega (arith, within (c .before .before))
-
-kind-value-requires : tie.Need-kind-value-requires
-kind-value-requires c κs = search needs
 
 returns : tie.Need-returns
 unfolding kindLine
@@ -59,14 +50,14 @@ pub kind-line-spec : {M : Type 1} → statement M
 kind-line-spec =
     tie.close
     (tie.spec
-    slice-aggregate-value-line
+    (λ c. search needs)
     value-line-requires
     enum-told
-    enum-known-start
+    (λ c. search needs)
     sub-kind-value
     part-kind-value-start
     part-kind-value-end
     add-kind-value
-    kind-value-requires
+    (λ c κs. search needs)
     returns
     returns-2)

@@ -14,14 +14,8 @@ within : (c : tie.After-start) → (c .start .given .0 .0 ≤ c .start .given .0
     × (c .start .given .0 .1 .0 < length (c .before .before .before .before .before .args .s .now))
 within c = value-within _ _ _ _ (c .before .before .value-line .ensures .1) (c .start .given .1)
 
-value-line-requires : tie.Need-value-line-requires
-value-line-requires c κs = search needs
-
 enum-told : tie.Need-enum-told
 enum-told c = search needs
-
-enum-known-start : tie.Need-enum-known-start
-enum-known-start c = search needs
 
 sub-number-value : tie.Need-sub-number-value
 sub-number-value c = within (c .before) .0
@@ -34,9 +28,6 @@ part-number-value-end c = omega (arith, within (c .before))
 
 add-number-value : tie.Need-add-number-value
 add-number-value c = omega (arith, within (c .before .before))
-
-number-value-requires : tie.Need-number-value-requires
-number-value-requires c κs = search needs
 
 returns : tie.Need-returns
 unfolding numberLine
@@ -54,13 +45,13 @@ pub number-line-spec : {M : Type 1} → statement M
 number-line-spec =
     tie.close
     (tie.spec
-    value-line-requires
+    (λ c κs. search needs)
     enum-told
-    enum-known-start
+    (λ c. search needs)
     sub-number-value
     part-number-value-start
     part-number-value-end
     add-number-value
-    number-value-requires
+    (λ c κs. search needs)
     returns
     returns-2)

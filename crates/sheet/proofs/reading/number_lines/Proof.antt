@@ -21,53 +21,14 @@ within c =
     (f .short-lines .ensures .0 .1)
     (omega (arith, n .any-number-lines .ensures .1, ap linesNext (c .next .given .1)))
 
-short-lines-requires : tie.Need-short-lines-requires
-short-lines-requires c κs = search needs
-
-sub-any-number-lines : tie.Need-sub-any-number-lines
-sub-any-number-lines c = search needs
-
-part-any-number-lines-start : tie.Need-part-any-number-lines-start
-part-any-number-lines-start c = search needs
-
-part-any-number-lines-end : tie.Need-part-any-number-lines-end
-part-any-number-lines-end c = search needs
-
-mul-any-number-lines : tie.Need-mul-any-number-lines
-mul-any-number-lines c = search needs
-
-sub-any-number-lines-2 : tie.Need-sub-any-number-lines-2
-sub-any-number-lines-2 c = search needs
-
-part-any-number-lines-start-2 : tie.Need-part-any-number-lines-start-2
-part-any-number-lines-start-2 c = search needs
-
-part-any-number-lines-end-2 : tie.Need-part-any-number-lines-end-2
-part-any-number-lines-end-2 c = search needs
-
-any-number-lines-requires : tie.Need-any-number-lines-requires
-any-number-lines-requires c κs = search needs
-
-enum-known-why : tie.Need-enum-known-why
-enum-known-why c = search needs
-
-enum-known-next : tie.Need-enum-known-next
-enum-known-next c = search needs
-
 add-t24 : tie.Need-add-t24
 add-t24 c = omega (arith, within (c .before))
-
-same-length : tie.Need-same-length
-same-length c = search needs
 
 returns : tie.Need-returns
 returns c =
     let n = c .before .before .before .before .before in
     let f = n .before .before .before .before .before .short-lines .ensures in
     (rest-stop _ _ _ _ _ _ _ _ _ _ (f .1 .0) (f .0 .0) (f .1 .1) (n .any-number-lines .ensures .0) _ (c .before .why .given .1), omega arith)
-
-same-length-2 : tie.Need-same-length-2
-same-length-2 c = search needs
 
 returns-2 : tie.Need-returns-2
 returns-2 c =
@@ -81,19 +42,19 @@ pub number-lines-spec : {M : Type 1} → statement M
 number-lines-spec =
     tie.close
     (tie.spec
-    short-lines-requires
-    sub-any-number-lines
-    part-any-number-lines-start
-    part-any-number-lines-end
-    mul-any-number-lines
-    sub-any-number-lines-2
-    part-any-number-lines-start-2
-    part-any-number-lines-end-2
-    any-number-lines-requires
-    enum-known-why
-    enum-known-next
+    (λ c κs. search needs)
+    (λ c. search needs)
+    (λ c. search needs)
+    (λ c. search needs)
+    (λ c. search needs)
+    (λ c. search needs)
+    (λ c. search needs)
+    (λ c. search needs)
+    (λ c κs. search needs)
+    (λ c. search needs)
+    (λ c. search needs)
     add-t24
-    same-length
+    (λ c. search needs)
     returns
-    same-length-2
+    (λ c. search needs)
     returns-2)

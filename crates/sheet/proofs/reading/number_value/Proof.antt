@@ -5,17 +5,8 @@ use Rattle.sheet.proofs.ReadRows.{number-value}
 use Rattle.sheet.proofs.reading.number_value.Statement.{statement}
 use Rattle.sheet.proofs.reading.number_value.Tie as tie
 
-read-requires : tie.Need-read-requires
-read-requires c κs = search needs
-
 enum-told : tie.Need-enum-told
 enum-told c = search needs
-
-enum-told-2 : tie.Need-enum-told-2
-enum-told-2 c = search needs
-
-enum-known-n : tie.Need-enum-known-n
-enum-known-n c = search needs
 
 returns : tie.Need-returns
 returns c = (λ s. number-value _ _ _ _ _ _ (c .before .before .read .ensures) (c .enum-told .given .1), omega arith)
@@ -31,4 +22,4 @@ returns-3 c =
 pub number-value-spec : {M : Type 1} → statement M
 number-value-spec =
     tie.close
-    (tie.spec read-requires enum-told enum-told-2 enum-known-n returns returns-2 returns-3)
+    (tie.spec (λ c κs. search needs) enum-told (λ c. search needs) (λ c. search needs) returns returns-2 returns-3)

@@ -8,35 +8,14 @@ use Rattle.sheet.proofs.ReadStages.{stage-read, stage-refused, answer-l
 use Rattle.sheet.proofs.reading.read.Statement.{statement}
 use Rattle.sheet.proofs.reading.read.Tie as tie
 
-refused-requires : tie.Need-refused-requires
-refused-requires c κs = search needs
-
 returns : tie.Need-returns
 returns c = c .refused .ensures ∙ sym (answer-long _ (c .before .if1 .taken))
-
-kind-line-requires : tie.Need-kind-line-requires
-kind-line-requires c κs = search needs
-
-enum-known-why : tie.Need-enum-known-why
-enum-known-why c = search needs
-
-refused-requires-2 : tie.Need-refused-requires-2
-refused-requires-2 c κs = search needs
-
-enum-known-kind : tie.Need-enum-known-kind
-enum-known-kind c = search needs
 
 sub-from-a : tie.Need-sub-from-a
 sub-from-a c = let w = c .before in omega (arith, w .before .before .kind-line .ensures .1, ap kindNext (w .kind .given .1))
 
 part-from-a-start : tie.Need-part-from-a-start
 part-from-a-start c = sub-from-a c
-
-part-from-a-end : tie.Need-part-from-a-end
-part-from-a-end c = search needs
-
-from-a-requires : tie.Need-from-a-requires
-from-a-requires c κs = search needs
 
 returns-2 : tie.Need-returns-2
 unfolding sheetLines
@@ -59,15 +38,15 @@ pub read-spec : {M : Type 1} → statement M
 read-spec =
     tie.close
     (tie.spec
-    refused-requires
+    (λ c κs. search needs)
     returns
-    kind-line-requires
-    enum-known-why
-    refused-requires-2
-    enum-known-kind
+    (λ c κs. search needs)
+    (λ c. search needs)
+    (λ c κs. search needs)
+    (λ c. search needs)
     sub-from-a
     part-from-a-start
-    part-from-a-end
-    from-a-requires
+    (λ c. search needs)
+    (λ c κs. search needs)
     returns-2
     returns-3)

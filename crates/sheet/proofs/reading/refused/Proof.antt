@@ -1,15 +1,12 @@
 -- `reading::refused` meets its contract: the refusal and the empty sheet. Assumes nothing.
 use borrow.Author.Needs.{needs}
-use Rattle.sheet.specs.Values.{answerOf}
+use Rattle.sheet.specs.Answers.{answerOf}
 use Rattle.sheet.proofs.reading.refused.Statement.{statement}
 use Rattle.sheet.proofs.reading.refused.Tie as tie
-
-empty-requires : tie.Need-empty-requires
-empty-requires c κs = search needs
 
 returns : tie.Need-returns
 unfolding answerOf
 returns c = rw (c .empty .ensures)
 
 pub refused-spec : {M : Type 1} → statement M
-refused-spec = tie.close (tie.spec empty-requires returns)
+refused-spec = tie.close (tie.spec (λ c κs. search needs) returns)

@@ -5,9 +5,6 @@ use borrow.Author.Needs.{needs}
 use Rattle.sheet.proofs.reading.row_after.Statement.{statement}
 use Rattle.sheet.proofs.reading.row_after.Tie as tie
 
-exceeds-requires : tie.Need-exceeds-requires
-exceeds-requires c κs = search needs
-
 returns : tie.Need-returns
 returns c = (λ s. rw (sym (c .before .exceeds .ensures) ∙ c .if1 .taken), omega arith)
 
@@ -15,4 +12,4 @@ returns-2 : tie.Need-returns-2
 returns-2 c = (λ s. rw (sym (c .before .exceeds .ensures) ∙ c .if1 .left), omega arith)
 
 pub row-after-spec : {M : Type 1} → statement M
-row-after-spec = tie.close (tie.spec exceeds-requires returns returns-2)
+row-after-spec = tie.close (tie.spec (λ c κs. search needs) returns returns-2)

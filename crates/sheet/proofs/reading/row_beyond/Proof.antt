@@ -7,12 +7,6 @@ use Rattle.sheet.proofs.reading.row_beyond.Tie as tie
 enum-told : tie.Need-enum-told
 enum-told c = search needs
 
-enum-told-2 : tie.Need-enum-told-2
-enum-told-2 c = search needs
-
-enum-told-3 : tie.Need-enum-told-3
-enum-told-3 c = search needs
-
 returns : tie.Need-returns
 returns c = (λ p s t. rw (c .enum-told .given .1), refl)
 
@@ -24,4 +18,4 @@ returns-3 c = (λ p s t. rw (c .enum-told3 .given .1), refl)
 
 pub row-beyond-spec : {M : Type 1} → statement M
 row-beyond-spec =
-    tie.close (tie.spec enum-told enum-told-2 enum-told-3 returns returns-2 returns-3)
+    tie.close (tie.spec enum-told (λ c. search needs) (λ c. search needs) returns returns-2 returns-3)

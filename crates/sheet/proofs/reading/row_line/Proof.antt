@@ -15,18 +15,12 @@ within : (c : tie.After-start) → (c .start .given .0 .0 ≤ c .start .given .0
     × (c .start .given .0 .1 .0 < length (c .before .before .before .before .before .args .s .now))
 within c = value-within _ _ _ _ (c .before .before .value-line .ensures .1) (c .start .given .1)
 
-slice-aggregate-value-line : tie.Need-slice-aggregate-value-line
-slice-aggregate-value-line c = search needs
-
 value-line-requires : tie.Need-value-line-requires
 unfolding splitAt
 value-line-requires c κs = refl
 
 enum-told : tie.Need-enum-told
 enum-told c = search needs
-
-enum-known-start : tie.Need-enum-known-start
-enum-known-start c = search needs
 
 sub-row-value : tie.Need-sub-row-value
 sub-row-value c = within (c .before) .0
@@ -39,9 +33,6 @@ part-row-value-end c = omega (arith, within (c .before))
 
 add-row-value : tie.Need-add-row-value
 add-row-value c = omega (arith, within (c .before .before))
-
-row-value-requires : tie.Need-row-value-requires
-row-value-requires c κs = search needs
 
 returns : tie.Need-returns
 unfolding rowLine
@@ -59,14 +50,14 @@ pub row-line-spec : {M : Type 1} → statement M
 row-line-spec =
     tie.close
     (tie.spec
-    slice-aggregate-value-line
+    (λ c. search needs)
     value-line-requires
     enum-told
-    enum-known-start
+    (λ c. search needs)
     sub-row-value
     part-row-value-start
     part-row-value-end
     add-row-value
-    row-value-requires
+    (λ c κs. search needs)
     returns
     returns-2)

@@ -7,23 +7,20 @@ use borrow.Author.Needs.{needs}
 use lib.ListN.{length}
 use Rattle.model.specs.Sheets.{mostRows}
 use Rattle.sheet.specs.Reading.{rowLines}
-use Rattle.sheet.specs.Values.{zeroRows}
+use Rattle.model.specs.Values.{zeroRows}
 use Rattle.sheet.specs.AtPlace.{Filled, before, parsedRow, rowNext}
 use Rattle.sheet.proofs.Blanks.{zero-rows-length, filled-start, filled-set}
-use Rattle.sheet.proofs.LinesPassed.{Passed, pass-start, pass-step, pass-stop, pass-end, rows-repeat}
+use Rattle.sheet.proofs.LinesPassed.{PassedLines, pass-start, pass-step, pass-stop, pass-end, rows-repeat}
 use Rattle.sheet.proofs.Tails.{tail-place}
 use Rattle.sheet.proofs.reading.row_lines.Statement.{statement}
 use Rattle.sheet.proofs.reading.row_lines.Tie as tie
 
 abbrev Inv-loop : tie.InvT-loop
 Inv-loop s n rows₀ prev₀ at₀ i₀ rows prev at i =
-    Passed rowLines n (before prev₀) s rows (before prev) at i × Filled n rows (zeroRows mostRows)
+    PassedLines rowLines n (before prev₀) s rows (before prev) at i × Filled n rows (zeroRows mostRows)
 
 abbrev μ-loop : tie.MeasureT-loop
 μ-loop s n rows₀ prev₀ at₀ i₀ rows prev at i = n - i
-
-blank-rows-requires : tie.Need-blank-rows-requires Inv-loop μ-loop
-blank-rows-requires c κs = search needs
 
 loop-holds : tie.Need-loop-holds Inv-loop μ-loop
 loop-holds c =
@@ -37,15 +34,6 @@ sub-row-line c = omega (arith, c .before .loop .inv .0 .place)
 part-row-line-start : tie.Need-part-row-line-start Inv-loop μ-loop
 part-row-line-start c = omega (arith, c .before .loop .inv .0 .place)
 
-part-row-line-end : tie.Need-part-row-line-end Inv-loop μ-loop
-part-row-line-end c = search needs
-
-row-line-requires : tie.Need-row-line-requires Inv-loop μ-loop
-row-line-requires c κs = search needs
-
-enum-known-why : tie.Need-enum-known-why Inv-loop μ-loop
-enum-known-why c = search needs
-
 returns : tie.Need-returns Inv-loop μ-loop
 returns c =
     let w = c .before in
@@ -53,15 +41,6 @@ returns c =
     let line = sym (w .before .before .row-line .ensures .0) ∙ ap (parsedRow _) (w .why .given .1) in
     let i = d .before .loop .inv in
     (sym (pass-stop _ _ _ rows-repeat _ _ _ _ _ _ _ (i .0) _ (omega arith) line), (omega arith, i .1))
-
-enum-known-row : tie.Need-enum-known-row Inv-loop μ-loop
-enum-known-row c = search needs
-
-mul-rows : tie.Need-mul-rows Inv-loop μ-loop
-mul-rows c = search needs
-
-array-set-from-rows : tie.Need-array-set-from-rows Inv-loop μ-loop
-array-set-from-rows c = search needs
 
 add-at : tie.Need-add-at Inv-loop μ-loop
 add-at c =
@@ -72,12 +51,6 @@ add-at c =
       tail-place (d .before .before .before .args .s .now) (d .loop .at) (w .row .given .0 .1 .0) (d .loop .inv .0 .place)
           (omega (arith, w .before .before .row-line .ensures .1, ap rowNext (w .row .given .1))),
     )
-
-add-i : tie.Need-add-i Inv-loop μ-loop
-add-i c = search needs
-
-loop-less : tie.Need-loop-less Inv-loop μ-loop
-loop-less c = search needs
 
 loop-again : tie.Need-loop-again Inv-loop μ-loop
 loop-again c =
@@ -100,19 +73,19 @@ row-lines-spec =
     (tie.spec
     Inv-loop
     μ-loop
-    blank-rows-requires
+    (λ c κs. search needs)
     loop-holds
     sub-row-line
     part-row-line-start
-    part-row-line-end
-    row-line-requires
-    enum-known-why
+    (λ c. search needs)
+    (λ c κs. search needs)
+    (λ c. search needs)
     returns
-    enum-known-row
-    mul-rows
-    array-set-from-rows
+    (λ c. search needs)
+    (λ c. search needs)
+    (λ c. search needs)
     add-at
-    add-i
-    loop-less
+    (λ c. search needs)
+    (λ c. search needs)
     loop-again
     returns-2)

@@ -8,20 +8,8 @@ use Rattle.sheet.proofs.reading.row_of.Tie as tie
 enum-told : tie.Need-enum-told
 enum-told c = search needs
 
-enum-told-2 : tie.Need-enum-told-2
-enum-told-2 c = search needs
-
-row-beyond-requires : tie.Need-row-beyond-requires
-row-beyond-requires c κs = search needs
-
-enum-known-x : tie.Need-enum-known-x
-enum-known-x c = search needs
-
 cast-row-with : tie.Need-cast-row-with
 cast-row-with c = let x = c .before in omega (arith, number-in _ _ _ (x .before .before .pre .0) (x .x .given .1))
-
-row-with-requires : tie.Need-row-with-requires
-row-with-requires c κs = search needs
 
 returns : tie.Need-returns
 returns c = (λ s. rw (c .enum-told .given .1), omega arith)
@@ -37,11 +25,11 @@ row-of-spec =
     tie.close
     (tie.spec
     enum-told
-    enum-told-2
-    row-beyond-requires
-    enum-known-x
+    (λ c. search needs)
+    (λ c κs. search needs)
+    (λ c. search needs)
     cast-row-with
-    row-with-requires
+    (λ c κs. search needs)
     returns
     returns-2
     returns-3)

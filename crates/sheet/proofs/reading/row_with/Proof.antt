@@ -8,17 +8,8 @@ use Rattle.sheet.proofs.reading.row_with.Tie as tie
 enum-told : tie.Need-enum-told
 enum-told c = search needs
 
-enum-told-2 : tie.Need-enum-told-2
-enum-told-2 c = search needs
-
-enum-known-y : tie.Need-enum-known-y
-enum-known-y c = search needs
-
 cast-t10 : tie.Need-cast-t10
 cast-t10 c = let y = c .before in omega (arith, number-in _ _ _ (y .before .before .pre) (y .y .given .1))
-
-row-after-requires : tie.Need-row-after-requires
-row-after-requires c κs = search needs
 
 returns : tie.Need-returns
 returns c = (λ s. rw (c .enum-told .given .1), omega arith)
@@ -34,10 +25,10 @@ row-with-spec =
     tie.close
     (tie.spec
     enum-told
-    enum-told-2
-    enum-known-y
+    (λ c. search needs)
+    (λ c. search needs)
     cast-t10
-    row-after-requires
+    (λ c κs. search needs)
     returns
     returns-2
     returns-3)

@@ -10,18 +10,6 @@ use Rattle.sheet.proofs.reading.same.Tie as tie
 returns : tie.Need-returns
 returns c = sym (same-lengths _ _ (c .if1 .taken))
 
-same-from-requires : tie.Need-same-from-requires
-same-from-requires c κs = search needs
-
-returns-2 : tie.Need-returns-2
-returns-2 c = search needs
-
-word-requires : tie.Need-word-requires
-word-requires c κs = search needs
-
-word-requires-2 : tie.Need-word-requires-2
-word-requires-2 c κs = search needs
-
 returns-3 : tie.Need-returns-3
 returns-3 c =
     let w = c .before in
@@ -42,18 +30,15 @@ same-from-requires-2 c κs =
           (sym (w .before .word .ensures) ∙ (c .if3 .left ∙ w .word2 .ensures)),
     )
 
-returns-4 : tie.Need-returns-4
-returns-4 c = search needs
-
 pub same-spec : {M : Type 1} → statement M
 same-spec =
     tie.close
     (tie.spec
     returns
-    same-from-requires
-    returns-2
-    word-requires
-    word-requires-2
+    (λ c κs. search needs)
+    (λ c. search needs)
+    (λ c κs. search needs)
+    (λ c κs. search needs)
     returns-3
     same-from-requires-2
-    returns-4)
+    (λ c. search needs))

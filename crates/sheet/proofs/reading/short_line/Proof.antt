@@ -18,9 +18,6 @@ keyed : (c : tie.Else1)
     ≡ true
 keyed c = sym (c .before .has-key .ensures) ∙ not-false _ (c .if1 .left)
 
-has-key-requires : tie.Need-has-key-requires
-has-key-requires c κs = search needs
-
 returns : tie.Need-returns
 returns c = (omega arith, (λ h. absurd (omega arith)))
 
@@ -30,23 +27,11 @@ sub-front c = let a = c .before .before .before .before .args in long-key (a .s 
 part-front-start : tie.Need-part-front-start
 part-front-start c = sub-front c
 
-part-front-end : tie.Need-part-front-end
-part-front-end c = search needs
-
-front-requires : tie.Need-front-requires
-front-requires c κs = search needs
-
-add-end : tie.Need-add-end
-add-end c = search needs
-
 returns-2 : tie.Need-returns-2
 returns-2 c = (omega arith, (λ h. absurd (omega arith)))
 
 returns-3 : tie.Need-returns-3
 returns-3 c = (omega arith, (λ h. absurd (omega arith)))
-
-shared-slice-read-if4 : tie.Need-shared-slice-read-if4
-shared-slice-read-if4 c = search needs
 
 returns-4 : tie.Need-returns-4
 returns-4 c = (omega arith, (λ h. absurd (omega arith)))
@@ -56,9 +41,6 @@ returns-5 c = (omega arith, (λ h. absurd (omega arith)))
 
 returns-6 : tie.Need-returns-6
 returns-6 c = (omega arith, (λ h. absurd (omega arith)))
-
-add-t13 : tie.Need-add-t13
-add-t13 c = search needs
 
 returns-7 : tie.Need-returns-7
 returns-7 c =
@@ -75,18 +57,18 @@ pub short-line-spec : {M : Type 1} → statement M
 short-line-spec =
     tie.close
     (tie.spec
-    has-key-requires
+    (λ c κs. search needs)
     returns
     sub-front
     part-front-start
-    part-front-end
-    front-requires
-    add-end
+    (λ c. search needs)
+    (λ c κs. search needs)
+    (λ c. search needs)
     returns-2
     returns-3
-    shared-slice-read-if4
+    (λ c. search needs)
     returns-4
     returns-5
     returns-6
-    add-t13
+    (λ c. search needs)
     returns-7)

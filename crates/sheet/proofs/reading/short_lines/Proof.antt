@@ -4,7 +4,7 @@ use Prim.Native.Nat.{_-_}
 use mathlib.Core.Path.{_≡_}
 use native.Mathlib.Omega.{arith}
 use lib.ListN.{length, length-set}
-use Rattle.sheet.proofs.LinesPassed.{Passed, pass-start, pass-step, numbers, numbers-repeat}
+use Rattle.sheet.proofs.LinesPassed.{PassedLines, pass-start, pass-step, numbers, numbers-repeat}
 use Rattle.sheet.proofs.ReadRows.{number-bounds}
 use Rattle.sheet.proofs.Tails.{tail-place}
 use borrow.Author.Needs.{needs}
@@ -12,7 +12,7 @@ use Rattle.sheet.proofs.reading.short_lines.Statement.{statement}
 use Rattle.sheet.proofs.reading.short_lines.Tie as tie
 
 abbrev Inv-loop : tie.InvT-loop
-Inv-loop s key lo hi out₀ at₀ i₀ out at i = Passed (numbers key lo hi) (length out₀) tt s out tt at i × (length out ≡ length out₀)
+Inv-loop s key lo hi out₀ at₀ i₀ out at i = PassedLines (numbers key lo hi) (length out₀) tt s out tt at i × (length out ≡ length out₀)
 
 abbrev μ-loop : tie.MeasureT-loop
 μ-loop s key lo hi out₀ at₀ i₀ out at i = length out₀ - i
@@ -26,12 +26,6 @@ sub-short-line c = omega (arith, c .before .loop .inv .0 .place)
 part-short-line-start : tie.Need-part-short-line-start Inv-loop μ-loop
 part-short-line-start c = omega (arith, c .before .loop .inv .0 .place)
 
-part-short-line-end : tie.Need-part-short-line-end Inv-loop μ-loop
-part-short-line-end c = search needs
-
-short-line-requires : tie.Need-short-line-requires Inv-loop μ-loop
-short-line-requires c κs = search needs
-
 same-length : tie.Need-same-length Inv-loop μ-loop
 same-length c = c .before .before .before .before .loop .inv .1
 
@@ -43,12 +37,6 @@ returns c =
 cast-out : tie.Need-cast-out Inv-loop μ-loop
 cast-out c = omega (arith, number-bounds _ _ _ _ _ _ (c .before .before .short-line .ensures .1 (omega arith)))
 
-mul-out : tie.Need-mul-out Inv-loop μ-loop
-mul-out c = search needs
-
-slice-write-out : tie.Need-slice-write-out Inv-loop μ-loop
-slice-write-out c = search needs
-
 add-at : tie.Need-add-at Inv-loop μ-loop
 add-at c =
     let l = c .before .before .before .before in
@@ -57,12 +45,6 @@ add-at c =
       tail-place (l .before .before .before .before .before .args .s .now) (l .before .loop .at) _ (l .before .loop .inv .0 .place)
           (c .before .before .short-line .ensures .0),
     )
-
-add-i : tie.Need-add-i Inv-loop μ-loop
-add-i c = search needs
-
-loop-less : tie.Need-loop-less Inv-loop μ-loop
-loop-less c = search needs
 
 loop-again : tie.Need-loop-again Inv-loop μ-loop
 loop-again c =
@@ -89,16 +71,16 @@ short-lines-spec =
     loop-holds
     sub-short-line
     part-short-line-start
-    part-short-line-end
-    short-line-requires
+    (λ c. search needs)
+    (λ c κs. search needs)
     same-length
     returns
     cast-out
-    mul-out
-    slice-write-out
+    (λ c. search needs)
+    (λ c. search needs)
     add-at
-    add-i
-    loop-less
+    (λ c. search needs)
+    (λ c. search needs)
     loop-again
     same-length-2
     returns-2)

@@ -7,9 +7,6 @@ use Rattle.sheet.proofs.KeyedLines.{long-key, no-key, no-feed, between}
 use Rattle.sheet.proofs.reading.value_line.Statement.{statement}
 use Rattle.sheet.proofs.reading.value_line.Tie as tie
 
-has-key-requires : tie.Need-has-key-requires
-has-key-requires c κs = search needs
-
 returns : tie.Need-returns
 returns c =
     let d = c .before in
@@ -22,15 +19,6 @@ sub-find c =
 
 part-find-start : tie.Need-part-find-start
 part-find-start c = sub-find c
-
-part-find-end : tie.Need-part-find-end
-part-find-end c = search needs
-
-find-requires : tie.Need-find-requires
-find-requires c κs = search needs
-
-add-end : tie.Need-add-end
-add-end c = search needs
 
 returns-2 : tie.Need-returns-2
 returns-2 c =
@@ -50,12 +38,12 @@ pub value-line-spec : {M : Type 1} → statement M
 value-line-spec =
     tie.close
     (tie.spec
-    has-key-requires
+    (λ c κs. search needs)
     returns
     sub-find
     part-find-start
-    part-find-end
-    find-requires
-    add-end
+    (λ c. search needs)
+    (λ c κs. search needs)
+    (λ c. search needs)
     returns-2
     returns-3)

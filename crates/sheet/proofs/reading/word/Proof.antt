@@ -4,14 +4,8 @@ use borrow.Author.Needs.{needs}
 use Rattle.sheet.proofs.reading.word.Statement.{statement}
 use Rattle.sheet.proofs.reading.word.Tie as tie
 
-shared-slice-read-result : tie.Need-shared-slice-read-result
-shared-slice-read-result c = search needs
-
 cast-result : tie.Need-cast-result
 cast-result c = omega (arith, c .shared-slice-known .given 0)
-
-shared-slice-read-result-2 : tie.Need-shared-slice-read-result-2
-shared-slice-read-result-2 c = search needs
 
 cast-result-2 : tie.Need-cast-result-2
 cast-result-2 c = omega (arith, c .shared-slice-known2 .given 1, c .before .shared-slice-known .given 0)
@@ -22,9 +16,6 @@ mul-result c = omega (arith, c .shared-slice-known2 .given 1, c .before .shared-
 add-result : tie.Need-add-result
 add-result c = omega (arith, c .shared-slice-known2 .given 1, c .before .shared-slice-known .given 0)
 
-shared-slice-read-result-3 : tie.Need-shared-slice-read-result-3
-shared-slice-read-result-3 c = search needs
-
 cast-result-3 : tie.Need-cast-result-3
 cast-result-3 c = omega (arith, c .shared-slice-known3 .given 2, c .before .shared-slice-known2 .given 1, c .before .before .shared-slice-known .given 0)
 
@@ -33,9 +24,6 @@ mul-result-2 c = omega (arith, c .shared-slice-known3 .given 2, c .before .share
 
 add-result-2 : tie.Need-add-result-2
 add-result-2 c = omega (arith, c .shared-slice-known3 .given 2, c .before .shared-slice-known2 .given 1, c .before .before .shared-slice-known .given 0)
-
-shared-slice-read-result-4 : tie.Need-shared-slice-read-result-4
-shared-slice-read-result-4 c = search needs
 
 cast-result-4 : tie.Need-cast-result-4
 cast-result-4 c = omega (arith, c .shared-slice-known4 .given 3, c .before .shared-slice-known3 .given 2, c .before .before .shared-slice-known2 .given 1, c .before .before .before .shared-slice-known .given 0)
@@ -46,25 +34,22 @@ mul-result-3 c = omega (arith, c .shared-slice-known4 .given 3, c .before .share
 add-result-3 : tie.Need-add-result-3
 add-result-3 c = omega (arith, c .shared-slice-known4 .given 3, c .before .shared-slice-known3 .given 2, c .before .before .shared-slice-known2 .given 1, c .before .before .before .shared-slice-known .given 0)
 
-returns : tie.Need-returns
-returns c = search needs
-
 pub word-spec : {M : Type 1} → statement M
 word-spec =
     tie.close
     (tie.spec
-    shared-slice-read-result
+    (λ c. search needs)
     cast-result
-    shared-slice-read-result-2
+    (λ c. search needs)
     cast-result-2
     mul-result
     add-result
-    shared-slice-read-result-3
+    (λ c. search needs)
     cast-result-3
     mul-result-2
     add-result-2
-    shared-slice-read-result-4
+    (λ c. search needs)
     cast-result-4
     mul-result-3
     add-result-3
-    returns)
+    (λ c. search needs))

@@ -6,12 +6,6 @@ use Rattle.model.specs.declared.Kind.the-variants.{Time, Space}
 use Rattle.sheet.proofs.writing.kind_length.Statement.{statement}
 use Rattle.sheet.proofs.writing.kind_length.Tie as tie
 
-enum-told : tie.Need-enum-told
-enum-told c = search needs
-
-enum-told-2 : tie.Need-enum-told-2
-enum-told-2 c = search needs
-
 returns : tie.Need-returns
 returns c = let e : c .before .before .args .kind ≡ Time = cc in rw e (refl, omega arith)
 
@@ -19,4 +13,4 @@ returns-2 : tie.Need-returns-2
 returns-2 c = let e : c .before .before .args .kind ≡ Space = cc in rw e (refl, omega arith)
 
 pub kind-length-spec : {M : Type 1} → statement M
-kind-length-spec = tie.close (tie.spec enum-told enum-told-2 returns returns-2)
+kind-length-spec = tie.close (tie.spec (λ c. search needs) (λ c. search needs) returns returns-2)

@@ -7,9 +7,6 @@ use Rattle.sheet.proofs.Lengths.{line-length}
 use Rattle.sheet.proofs.writing.number_length.Statement.{statement}
 use Rattle.sheet.proofs.writing.number_length.Tie as tie
 
-width-requires : tie.Need-width-requires
-width-requires c κs = search needs
-
 add-result : tie.Need-add-result
 add-result c = omega (arith, written-length 19 (c .before .before .args .n) (omega arith))
 
@@ -22,4 +19,4 @@ returns c =
     omega (arith, written-length 19 (a .n) (omega arith), line-length (a .key .now) (written (a .n)))
 
 pub number-length-spec : {M : Type 1} → statement M
-number-length-spec = tie.close (tie.spec width-requires add-result add-result-2 returns)
+number-length-spec = tie.close (tie.spec (λ c κs. search needs) add-result add-result-2 returns)

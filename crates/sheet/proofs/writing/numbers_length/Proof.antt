@@ -21,26 +21,8 @@ loop-holds : tie.Need-loop-holds Inv-loop μ-loop
 unfolding linesText
 loop-holds c = (omega arith, refl, omega arith)
 
-mul-number-length : tie.Need-mul-number-length Inv-loop μ-loop
-mul-number-length c = search needs
-
-shared-slice-read-number-length : tie.Need-shared-slice-read-number-length Inv-loop μ-loop
-shared-slice-read-number-length c = search needs
-
 cast-number-length : tie.Need-cast-number-length Inv-loop μ-loop
 cast-number-length c = omega (arith, c .shared-slice-known3 .given (c .before .before .loop .i))
-
-number-length-requires : tie.Need-number-length-requires Inv-loop μ-loop
-number-length-requires c κs = search needs
-
-add-sum : tie.Need-add-sum Inv-loop μ-loop
-add-sum c = search needs
-
-add-i : tie.Need-add-i Inv-loop μ-loop
-add-i c = search needs
-
-loop-less : tie.Need-loop-less Inv-loop μ-loop
-loop-less c = search needs
 
 loop-again : tie.Need-loop-again Inv-loop μ-loop
 loop-again c =
@@ -60,12 +42,12 @@ numbers-length-spec =
     Inv-loop
     μ-loop
     loop-holds
-    mul-number-length
-    shared-slice-read-number-length
+    (λ c. search needs)
+    (λ c. search needs)
     cast-number-length
-    number-length-requires
-    add-sum
-    add-i
-    loop-less
+    (λ c κs. search needs)
+    (λ c. search needs)
+    (λ c. search needs)
+    (λ c. search needs)
     loop-again
     returns)

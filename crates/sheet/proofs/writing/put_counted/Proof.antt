@@ -17,11 +17,8 @@ put-numbers-requires c κs =
     let a = c .before .before .before .before .before .before .before .before .before .args in
     omega (arith, length-append (numberText (a .count .now) (length (a .xs .now))) (numbersText (a .key .now) (a .xs .now)))
 
-same-length : tie.Need-same-length
-same-length c = search needs
-
 returns : tie.Need-returns
 returns c = put-then (c .before .before .before .before .before .before .put-number .ensures) (c .before .before .put-numbers .ensures)
 
 pub put-counted-spec : {M : Type 1} → statement M
-put-counted-spec = tie.close (tie.spec put-number-requires put-numbers-requires same-length returns)
+put-counted-spec = tie.close (tie.spec put-number-requires put-numbers-requires (λ c. search needs) returns)

@@ -21,9 +21,6 @@ add-result c =
     let a = c .before .before .before .before .before .args in
     omega (arith, length-append (written (a .n)) (a .end ∷ []))
 
-same-length : tie.Need-same-length
-same-length c = search needs
-
 returns : tie.Need-returns
 returns c =
     let s = c .before .before .before .before .before in
@@ -34,4 +31,4 @@ returns c =
     (put-byte (s .args .end) (w .result) _ (omega (arith, l)))
 
 pub put-digits-spec : {M : Type 1} → statement M
-put-digits-spec = tie.close (tie.spec write-requires slice-write-out add-result same-length returns)
+put-digits-spec = tie.close (tie.spec write-requires slice-write-out add-result (λ c. search needs) returns)

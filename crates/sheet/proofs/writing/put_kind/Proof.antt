@@ -5,23 +5,11 @@ use Rattle.model.specs.declared.Kind.the-variants.{Time, Space}
 use Rattle.sheet.proofs.writing.put_kind.Statement.{statement}
 use Rattle.sheet.proofs.writing.put_kind.Tie as tie
 
-enum-told : tie.Need-enum-told
-enum-told c = search needs
-
-slice-aggregate-put : tie.Need-slice-aggregate-put
-slice-aggregate-put c = search needs
-
 put-requires : tie.Need-put-requires
 put-requires c κs =
     let s = c .before .before .before .before .before in
     let e : s .args .kind ≡ Time = cc in
     rw e at (s .pre)
-
-enum-told-2 : tie.Need-enum-told-2
-enum-told-2 c = search needs
-
-slice-aggregate-put-2 : tie.Need-slice-aggregate-put-2
-slice-aggregate-put-2 c = search needs
 
 put-requires-2 : tie.Need-put-requires-2
 put-requires-2 c κs =
@@ -29,16 +17,10 @@ put-requires-2 c κs =
     let e : s .args .kind ≡ Space = cc in
     rw e at (s .pre)
 
-same-length : tie.Need-same-length
-same-length c = search needs
-
 returns : tie.Need-returns
 returns c =
     let e : c .before .before .before .before .before .before .before .before .args .kind ≡ Time = cc in
     rw e (c .before .before .put .ensures)
-
-same-length-2 : tie.Need-same-length-2
-same-length-2 c = search needs
 
 returns-2 : tie.Need-returns-2
 returns-2 c =
@@ -49,13 +31,13 @@ pub put-kind-spec : {M : Type 1} → statement M
 put-kind-spec =
     tie.close
     (tie.spec
-    enum-told
-    slice-aggregate-put
+    (λ c. search needs)
+    (λ c. search needs)
     put-requires
-    enum-told-2
-    slice-aggregate-put-2
+    (λ c. search needs)
+    (λ c. search needs)
     put-requires-2
-    same-length
+    (λ c. search needs)
     returns
-    same-length-2
+    (λ c. search needs)
     returns-2)

@@ -16,11 +16,8 @@ put-digits-requires c κs =
     let a = c .before .before .before .before .before .before .before .args in
     rw length-append (omega (arith, line-length (a .key .now) (written (a .n))))
 
-same-length : tie.Need-same-length
-same-length c = search needs
-
 returns : tie.Need-returns
 returns c = put-then (c .before .before .before .before .before .before .put .ensures) (c .before .before .put-digits .ensures)
 
 pub put-number-spec : {M : Type 1} → statement M
-put-number-spec = tie.close (tie.spec put-requires put-digits-requires same-length returns)
+put-number-spec = tie.close (tie.spec put-requires put-digits-requires (λ c. search needs) returns)

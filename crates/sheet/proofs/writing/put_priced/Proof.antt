@@ -7,9 +7,6 @@ use Rattle.sheet.proofs.SheetParts.{priced-text, priced-length}
 use Rattle.sheet.proofs.writing.put_priced.Statement.{statement}
 use Rattle.sheet.proofs.writing.put_priced.Tie as tie
 
-slice-aggregate-put-number : tie.Need-slice-aggregate-put-number
-slice-aggregate-put-number c = search needs
-
 put-number-requires : tie.Need-put-number-requires
 put-number-requires c κs =
     let a = c .before .before .before .args in
@@ -20,9 +17,6 @@ put-rows-requires c κs =
     let a = c .before .before .before .before .before .before .before .args in
     omega (arith, priced-length (a .prices) (a .n) (omega arith))
 
-same-length : tie.Need-same-length
-same-length c = search needs
-
 returns : tie.Need-returns
 returns c =
     let p = c .before .before .before .before .before .before in
@@ -32,4 +26,4 @@ returns c =
 pub put-priced-spec : {M : Type 1} → statement M
 put-priced-spec =
     tie.close
-    (tie.spec slice-aggregate-put-number put-number-requires put-rows-requires same-length returns)
+    (tie.spec (λ c. search needs) put-number-requires put-rows-requires (λ c. search needs) returns)

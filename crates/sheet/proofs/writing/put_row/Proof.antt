@@ -17,23 +17,11 @@ use Rattle.sheet.proofs.writing.put_row.Tie as tie
 parts : (q : PriceRow) → rowKey ++ ((written (q .h) ++ (slash ∷ [])) ++ (written (q .d) ++ (lineFeed ∷ []))) ≡ rowText q
 parts q = simp append-assoc
 
-slice-aggregate-put : tie.Need-slice-aggregate-put
-slice-aggregate-put c = search needs
-
-put-requires : tie.Need-put-requires
-put-requires c κs = search needs
-
-cast-put-digits : tie.Need-cast-put-digits
-cast-put-digits c = search needs
-
 put-digits-requires : tie.Need-put-digits-requires
 put-digits-requires c κs =
     let p = c .before .before .before .before in
     let s = p .before .before .before .before in
     rw length-append (omega (arith, row-length (s .args .q), s .pre, p .put .ensures .ends))
-
-cast-put-digits-2 : tie.Need-cast-put-digits-2
-cast-put-digits-2 c = search needs
 
 put-digits-requires-2 : tie.Need-put-digits-requires-2
 put-digits-requires-2 c κs =
@@ -43,9 +31,6 @@ put-digits-requires-2 c κs =
     let q = s .args .q in
     let l = length-append (written (q .h)) (slash ∷ []) in
     rw length-append (omega (arith, l, row-length q, s .pre, p .put .ensures .ends, d .put-digits .ensures .ends))
-
-same-length : tie.Need-same-length
-same-length c = search needs
 
 returns : tie.Need-returns
 returns c =
@@ -58,11 +43,11 @@ pub put-row-spec : {M : Type 1} → statement M
 put-row-spec =
     tie.close
     (tie.spec
-    slice-aggregate-put
-    put-requires
-    cast-put-digits
+    (λ c. search needs)
+    (λ c κs. search needs)
+    (λ c. search needs)
     put-digits-requires
-    cast-put-digits-2
+    (λ c. search needs)
     put-digits-requires-2
-    same-length
+    (λ c. search needs)
     returns)

@@ -23,12 +23,6 @@ loop-holds : tie.Need-loop-holds Inv-loop μ-loop
 unfolding linesText
 loop-holds c = (omega arith, refl, put-nothing _ _ (omega arith))
 
-mul-q : tie.Need-mul-q Inv-loop μ-loop
-mul-q c = search needs
-
-array-copy-out-q : tie.Need-array-copy-out-q Inv-loop μ-loop
-array-copy-out-q c = search needs
-
 put-row-requires : tie.Need-put-row-requires Inv-loop μ-loop
 put-row-requires c κs =
     let t = c .before .before in
@@ -36,12 +30,6 @@ put-row-requires c κs =
     let a = t .before .before .before .args in
     let r = lines-room rowText (a .t1) (l .i) (a .n) (record { h = 0; d = 0 }) (t .loop-test .taken) (search needs) in
     omega (arith, r, ap length (rows-text (take (a .n) (a .t1))), l .inv .2 .ends)
-
-add-i : tie.Need-add-i Inv-loop μ-loop
-add-i c = search needs
-
-loop-less : tie.Need-loop-less Inv-loop μ-loop
-loop-less c = search needs
 
 loop-again : tie.Need-loop-again Inv-loop μ-loop
 loop-again c =
@@ -66,11 +54,11 @@ put-rows-spec =
     Inv-loop
     μ-loop
     loop-holds
-    mul-q
-    array-copy-out-q
+    (λ c. search needs)
+    (λ c. search needs)
     put-row-requires
-    add-i
-    loop-less
+    (λ c. search needs)
+    (λ c. search needs)
     loop-again
     same-length
     returns)

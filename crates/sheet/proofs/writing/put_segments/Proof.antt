@@ -12,19 +12,10 @@ put-kind-requires c κs =
     let a = c .before .before .before .args in
     omega (arith, segments-length (a .kind) (a .a) (a .sizes .now))
 
-slice-aggregate-put-number : tie.Need-slice-aggregate-put-number
-slice-aggregate-put-number c = search needs
-
 put-number-requires : tie.Need-put-number-requires
 put-number-requires c κs =
     let a = c .before .before .before .before .before .before .before .before .args in
     omega (arith, segments-length (a .kind) (a .a) (a .sizes .now))
-
-slice-aggregate-put-counted : tie.Need-slice-aggregate-put-counted
-slice-aggregate-put-counted c = search needs
-
-slice-aggregate-put-counted-2 : tie.Need-slice-aggregate-put-counted-2
-slice-aggregate-put-counted-2 c = search needs
 
 put-counted-requires : tie.Need-put-counted-requires
 put-counted-requires c κs =
@@ -33,9 +24,6 @@ put-counted-requires c κs =
     let s = k .before .before .before .before in
     let l = segments-length (s .args .kind) (s .args .a) (s .args .sizes .now) in
     omega (arith, l, s .pre, k .put-kind .ensures .ends, n .put-number .ensures .ends)
-
-same-length : tie.Need-same-length
-same-length c = search needs
 
 returns : tie.Need-returns
 unfolding segmentsText
@@ -49,10 +37,10 @@ put-segments-spec =
     tie.close
     (tie.spec
     put-kind-requires
-    slice-aggregate-put-number
+    (λ c. search needs)
     put-number-requires
-    slice-aggregate-put-counted
-    slice-aggregate-put-counted-2
+    (λ c. search needs)
+    (λ c. search needs)
     put-counted-requires
-    same-length
+    (λ c. search needs)
     returns)

@@ -2,7 +2,7 @@
 use native.Mathlib.Omega.{arith}
 use borrow.Author.Needs.{needs}
 use lib.ListN.{take}
-use Rattle.sheet.specs.Parts.{valueWith}
+use Rattle.model.specs.Sheets.{sheetWith}
 use Rattle.sheet.proofs.Putting.{put-same, put-then}
 use Rattle.sheet.proofs.SheetParts.{text-parts, parts-length}
 use Rattle.sheet.proofs.writing.put_text.Statement.{statement}
@@ -11,21 +11,15 @@ use Rattle.sheet.proofs.writing.put_text.Tie as tie
 put-segments-requires : tie.Need-put-segments-requires
 put-segments-requires c κs =
     let a = c .before .before .before .before .args in
-    omega (arith, parts-length (valueWith (a .kind) (a .a) (a .sizes .now) (take (a .rows) (a .prices)) (a .refs .now)))
+    omega (arith, parts-length (sheetWith (a .kind) (a .a) (a .sizes .now) (take (a .rows) (a .prices)) (a .refs .now)))
 
 put-priced-requires : tie.Need-put-priced-requires
 put-priced-requires c κs =
     let s = c .before .before .before in
     let e = s .before .before .before .before .before in
     let a = e .args in
-    let l = parts-length (valueWith (a .kind) (a .a) (a .sizes .now) (take (a .rows) (a .prices)) (a .refs .now)) in
+    let l = parts-length (sheetWith (a .kind) (a .a) (a .sizes .now) (take (a .rows) (a .prices)) (a .refs .now)) in
     omega (arith, l, e .pre, s .put-segments .ensures .ends)
-
-slice-aggregate-put-counted : tie.Need-slice-aggregate-put-counted
-slice-aggregate-put-counted c = search needs
-
-slice-aggregate-put-counted-2 : tie.Need-slice-aggregate-put-counted-2
-slice-aggregate-put-counted-2 c = search needs
 
 put-counted-requires : tie.Need-put-counted-requires
 put-counted-requires c κs =
@@ -33,18 +27,15 @@ put-counted-requires c κs =
     let s = p .before .before .before .before in
     let e = s .before .before .before .before .before in
     let a = e .args in
-    let l = parts-length (valueWith (a .kind) (a .a) (a .sizes .now) (take (a .rows) (a .prices)) (a .refs .now)) in
+    let l = parts-length (sheetWith (a .kind) (a .a) (a .sizes .now) (take (a .rows) (a .prices)) (a .refs .now)) in
     omega (arith, l, e .pre, s .put-segments .ensures .ends, p .put-priced .ensures .ends)
-
-same-length : tie.Need-same-length
-same-length c = search needs
 
 returns : tie.Need-returns
 returns c =
     let p = c .before .before .before .before .before .before .before .before in
     let s = p .before .before .before .before in
     let a = s .before .before .before .before .before .args in
-    put-same (text-parts (valueWith (a .kind) (a .a) (a .sizes .now) (take (a .rows) (a .prices)) (a .refs .now)))
+    put-same (text-parts (sheetWith (a .kind) (a .a) (a .sizes .now) (take (a .rows) (a .prices)) (a .refs .now)))
     (put-then (s .put-segments .ensures) (put-then (p .put-priced .ensures) (c .before .before .put-counted .ensures)))
 
 pub put-text-spec : {M : Type 1} → statement M
@@ -53,8 +44,8 @@ put-text-spec =
     (tie.spec
     put-segments-requires
     put-priced-requires
-    slice-aggregate-put-counted
-    slice-aggregate-put-counted-2
+    (λ c. search needs)
+    (λ c. search needs)
     put-counted-requires
-    same-length
+    (λ c. search needs)
     returns)

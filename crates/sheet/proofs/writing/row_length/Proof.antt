@@ -6,20 +6,8 @@ use Rattle.sheet.proofs.Lengths.{row-length}
 use Rattle.sheet.proofs.writing.row_length.Statement.{statement}
 use Rattle.sheet.proofs.writing.row_length.Tie as tie
 
-cast-width : tie.Need-cast-width
-cast-width c = search needs
-
-width-requires : tie.Need-width-requires
-width-requires c κs = search needs
-
 add-result : tie.Need-add-result
 add-result c = omega (arith, written-length 4 (c .before .before .args .q .h) (omega arith))
-
-cast-width-2 : tie.Need-cast-width-2
-cast-width-2 c = search needs
-
-width-requires-2 : tie.Need-width-requires-2
-width-requires-2 c κs = search needs
 
 add-result-2 : tie.Need-add-result-2
 add-result-2 c =
@@ -35,10 +23,10 @@ pub row-length-spec : {M : Type 1} → statement M
 row-length-spec =
     tie.close
     (tie.spec
-    cast-width
-    width-requires
+    (λ c. search needs)
+    (λ c κs. search needs)
     add-result
-    cast-width-2
-    width-requires-2
+    (λ c. search needs)
+    (λ c κs. search needs)
     add-result-2
     returns)

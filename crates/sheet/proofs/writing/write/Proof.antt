@@ -5,8 +5,8 @@ use native.Mathlib.Omega.{arith}
 use borrow.Author.Needs.{needs}
 use lib.ListN.{length, take, length-map, length-take}
 use lib.Seq.{length-take-le}
-use Rattle.sheet.specs.Parts.{valueWith}
-use Rattle.sheet.specs.Values.{valueOf}
+use Rattle.model.specs.Sheets.{sheetWith}
+use Rattle.model.specs.Values.{valueOf}
 use Rattle.sheet.specs.Writing.{sheetText}
 use Rattle.sheet.proofs.Clamped.{value-clamped}
 use Rattle.sheet.proofs.Placing.{place-short, place-put}
@@ -23,7 +23,7 @@ lengths s = (search needs, simp length-map at (s .good .0 .1 .1 .1 .1 .1 .1 .1 .
 same : (t : tie.After-touches2)
     → (let r = t .before .before in
     let s = r .before .before .before .before .before .before .before .args .sheet in
-    valueWith (s .kind) (s .a)
+    sheetWith (s .kind) (s .a)
     (take (r .before .before .before .before .least .result) (s .sizes))
     (take (r .before .before .least2 .result) (s .prices))
     (take (r .least3 .result) (s .touches)) ≡ valueOf s)
@@ -32,15 +32,6 @@ same t =
     let (l₁, l₂, l₃) = lengths (r .before .before .before .before .before .before .before) in
     value-clamped _ _ _ _ l₁ l₂ l₃ (r .before .before .before .before .least .ensures) (r .before .before .least2 .ensures)
     (r .least3 .ensures)
-
-least-requires : tie.Need-least-requires
-least-requires c κs = search needs
-
-least-requires-2 : tie.Need-least-requires-2
-least-requires-2 c κs = search needs
-
-least-requires-3 : tie.Need-least-requires-3
-least-requires-3 c κs = search needs
 
 array-share-prefix-sizes : tie.Need-array-share-prefix-sizes
 array-share-prefix-sizes c =
@@ -93,9 +84,6 @@ slice-aggregate-put-text-2 c =
 put-text-requires : tie.Need-put-text-requires
 put-text-requires c κs = omega arith
 
-same-length : tie.Need-same-length
-same-length c = search needs
-
 returns-2 : tie.Need-returns-2
 returns-2 c =
     let l = c .before .before .before .before .before .before .before in
@@ -106,9 +94,9 @@ pub write-spec : {M : Type 1} → statement M
 write-spec =
     tie.close
     (tie.spec
-    least-requires
-    least-requires-2
-    least-requires-3
+    (λ c κs. search needs)
+    (λ c κs. search needs)
+    (λ c κs. search needs)
     array-share-prefix-sizes
     slice-aggregate-text-length
     array-share-prefix-touches
@@ -120,5 +108,5 @@ write-spec =
     array-share-prefix-touches-2
     slice-aggregate-put-text-2
     put-text-requires
-    same-length
+    (λ c. search needs)
     returns-2)

@@ -1,8 +1,8 @@
 -- `Sheet::empty` meets its contract: the arrays of zeros are those of the definition. Assumes nothing.
 use borrow.Author.Needs.{needs}
-use Rattle.sheet.specs.Values.{emptySheet, zeros, zeroRows}
-use Rattle.sheet.proofs.Sheet.empty.Statement.{statement}
-use Rattle.sheet.proofs.Sheet.empty.Tie as tie
+use Rattle.model.specs.Values.{emptySheet, zeros, zeroRows}
+use Rattle.model.proofs.Sheet.empty.Statement.{statement}
+use Rattle.model.proofs.Sheet.empty.Tie as tie
 
 returns : tie.Need-returns
 unfolding emptySheet zeros zeroRows

@@ -1,14 +1,25 @@
--- How a sheet's value is held by value, and what reading answers. Assumes nothing.
+-- How a sheet's value is held by value, and its limits. Assumes nothing.
 use Prim.Native.Nat.{ℕ}
 use mathlib.Core.List.{List, _++_}
 use lib.ListN.{length, take, drop, replicate}
-use Rattle.model.specs.Sheets.{SheetValue, mostSegs, mostRows, mostRefs}
+use Rattle.model.specs.Sheets.{SheetValue, mostBytes, largestA, mostSegs, largestSize, mostRows, largestPrice, mostRefs}
 use Rattle.model.specs.declared.Kind.the-variants.{Time}
 use Rattle.model.specs.declared.PriceRow.{PriceRow}
-use Rattle.model.specs.declared.Verdict.the-variants.{Accepted, Refused}
-use Rattle.sheet.specs.Reading.{Outcome, accepted, rejected}
-use Rattle.sheet.specs.declared.Sheet.{Sheet}
-use Rattle.sheet.specs.declared.SheetAnswer.{SheetAnswer}
+use Rattle.model.specs.declared.Sheet.{Sheet}
+use Rattle.model.specs.declared.SheetLimits.{SheetLimits}
+
+-- the limits of a sheet
+abbrev pub sheetLimits : SheetLimits
+sheetLimits =
+    record {
+      bytes = mostBytes;
+      a = largestA;
+      segs = mostSegs;
+      size = largestSize;
+      rows = mostRows;
+      price = largestPrice;
+      refs = mostRefs;
+    }
 
 -- n zeros; n rows 0/0
 unfoldable pub zeros : ℕ → List ℕ
@@ -59,8 +70,3 @@ emptySheet =
       refs = 0;
       touches = zeros mostRefs;
     }
-
--- what reading answers: the sheet with the value, or the refusal and the empty sheet
-unfoldable pub answerOf : Outcome → SheetAnswer
-answerOf (accepted v) = record { verdict = Accepted; sheet = sheetOf v }
-answerOf (rejected r) = record { verdict = Refused r; sheet = emptySheet }

@@ -1,0 +1,12 @@
+-- `model::untouched` meets its contract. Assumes nothing.
+use borrow.Author.Needs.{needs}
+use Rattle.model.specs.LastTouches.{allUntouched}
+use Rattle.model.proofs.untouched.Statement.{statement}
+use Rattle.model.proofs.untouched.Tie as tie
+
+returns : tie.Need-returns
+unfolding allUntouched
+returns c = search needs
+
+pub untouched-spec : {M : Type 1} → statement M
+untouched-spec = tie.close (tie.spec returns)
