@@ -2,8 +2,8 @@
 -- Assumes nothing.
 use mathlib.Core.Path.{_≡_, refl, sym, ap, _∙_}
 use mathlib.Core.List.{List, _∷_, _++_, append-assoc}
-use Prim.Native.Nat.{ℕ, zero, suc, _+_, _*_, _/_, _%_, _≤_, _<_}
-use native.Mathlib.Nat.{add-zero, add-suc}
+use Prim.Native.Nat.{ℕ, zero, suc, _+_, _*_, _/_, _%_, _^_, _≤_, _<_}
+use native.Mathlib.Nat.{add-zero, add-suc, pow-suc}
 use native.Mathlib.Numerals.{add-one}
 use native.Mathlib.Omega.{arith}
 use lib.ListN.{length, take, drop, set, length-append, length-set, take-append-drop}
@@ -91,14 +91,23 @@ unfolding padded
 fill-end at t out n k c e = sym (take-append-drop at out) ∙ (rw (e, add-zero) at (c .whole))
 
 -- with one digit left, its write is the last
-pub fill-last : (at : ℕ) (t out : List ℕ) (n k : ℕ) → Filling at t out n k → k ≡ 1 → set out at (48 + n % 10) ≡ t
-fill-last at t out n k c e = rw add-zero at (fill-end at t _ (n / 10) 0 (fill-step at t out n k 0 c e) refl)
+pub fill-last : (at : ℕ) (t out : List ℕ) (n k : ℕ) → Filling at t out n k → k ≡ 1 → n < 10 → set out at (48 + n) ≡ t
+fill-last at t out n k c e h =
+    let one : n % 10 ≡ n = omega arith in
+    rw (one, add-zero) at (fill-end at t _ (n / 10) 0 (fill-step at t out n k 0 c e) refl)
 
 -- with two left, the write of the pair
-pub fill-last-two : (at : ℕ) (t out : List ℕ) (n k : ℕ) {o : List ℕ} → Filling at t out n k → k ≡ 2 → o ≡ withPair out at (n % 100) → o ≡ t
-fill-last-two at t out n k c e w = w ∙ rw add-zero at (fill-end at t _ (n / 100) 0 (fill-pair at t out n k 0 c e) refl)
+pub fill-last-two : (at : ℕ) (t out : List ℕ) (n k : ℕ) {o : List ℕ} → Filling at t out n k → k ≡ 2 → n < 100
+    → o ≡ withPair out at n → o ≡ t
+fill-last-two at t out n k c e h w =
+    let two : n % 100 ≡ n = omega arith in
+    w ∙ rw (two, add-zero) at (fill-end at t _ (n / 100) 0 (fill-pair at t out n k 0 c e) refl)
 
 -- with three left, the write of the pair and of the digit before it
-pub fill-last-three : (at : ℕ) (t out : List ℕ) (n k : ℕ) {o : List ℕ} → Filling at t out n k → k ≡ 3
-    → o ≡ withPair out (at + 1) (n % 100) → set o at (48 + n / 100 % 10) ≡ t
-fill-last-three at t out n k c e w = rw w (fill-last at t _ (n / 100) 1 (fill-pair at t out n k 1 c e) refl)
+pub fill-last-three : (at : ℕ) (t out : List ℕ) (n k : ℕ) {o : List ℕ} → Filling at t out n k → k ≡ 3 → n < 1000
+    → o ≡ withPair out (at + 1) (n % 100) → set o at (48 + n / 100) ≡ t
+fill-last-three at t out n k c e h w = rw w (fill-last at t _ (n / 100) 1 (fill-pair at t out n k 1 c e) refl (omega arith))
+
+-- what is left of a number below 10 ^ k once its last four digits are written
+pub rest-below : (n k j : ℕ) → n < 10 ^ k → k ≡ suc (suc (suc (suc j))) → n / 10000 < 10 ^ j
+rest-below n k j h e = omega (arith, rw e at h, pow-suc 10 (suc (suc (suc j))), pow-suc 10 (suc (suc j)), pow-suc 10 (suc j), pow-suc 10 j)

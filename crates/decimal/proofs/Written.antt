@@ -5,6 +5,7 @@ use mathlib.Core.Bool.{Bool, true, false, false≢true, not}
 use mathlib.Core.List.{List, [], _∷_, _++_, append-assoc, append-nil}
 use Prim.Native.Nat.{ℕ, zero, suc, _+_, _*_, _-_, _/_, _%_, _^_, _≤_, _<_}
 use native.Mathlib.Nat.{not-suc-le-zero, pow-suc, one-le-pow}
+use native.Mathlib.Numerals.{add-one}
 use native.Mathlib.Omega.{arith}
 use borrow.Author.Tests.{ltb-true, ltb-false, lt-ltb, le-ltb, eqb-false, ne-eqb, not-true}
 use lib.Dec.{ltb, eqb}
@@ -157,6 +158,9 @@ pub written-exact : (k n : ℕ) → 1 ≤ k → k ≤ length (written n) → n <
 written-exact zero n p h l = absurd (not-suc-le-zero p)
 written-exact (suc k) n p h l = omega (arith, written-length k n l)
 
--- and a number from 10 ^ k to below 10 ^ suc k has suc k
-pub written-between : (k n : ℕ) → 10 ^ k ≤ n → n < 10 ^ suc k → suc k ≡ length (written n)
-written-between k n h l = omega (arith, written-longer k n h, written-length k n l)
+-- and a number with k digits is below 10 ^ k
+pub written-below : (n : ℕ) → n < 10 ^ length (written n)
+written-below =
+    by-digits (λ n. n < 10 ^ length (written n))
+    (λ n h. rw (written-low n h) (omega arith))
+    (λ n h e. rw (written-high n h, length-append, add-one) (omega (arith, pow-suc 10 (length (written (n / 10))))))

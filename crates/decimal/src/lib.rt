@@ -1,5 +1,5 @@
 // Decimal numbers in bytes: reading one within bounds, and writing one.
-// What a number and its digits are is written in specs/. The table of powers of ten is known to `width` and its two parts alone. Nothing is assumed.
+// What a number and its digits are is written in specs/. Nothing is assumed.
 ghost use mathlib.Core.Path.{_≡_};
 ghost use mathlib.Core.Bool.{true, _&&_};
 ghost use mathlib.Core.List.{_++_};
@@ -129,111 +129,21 @@ pub fn front(s: &[u8]) -> Run
     }
 }
 
-// The powers of ten that fit 64 bits: entry k is 10 to the power k.
-const POWERS: [u64; 20] = [
-    1,
-    10,
-    100,
-    1000,
-    10000,
-    100000,
-    1000000,
-    10000000,
-    100000000,
-    1000000000,
-    10000000000,
-    100000000000,
-    1000000000000,
-    10000000000000,
-    100000000000000,
-    1000000000000000,
-    10000000000000000,
-    100000000000000000,
-    1000000000000000000,
-    10000000000000000000,
-];
-
-// How many digits a number below 10 to the power 8 is written with.
-fn width_low(n: u64) -> usize
-    requires { ⌜ n < 100000000 ⌝ }
-    ensures { λ r. ⌜ r ≡ length (written n) ⌝ }
-{
-    let powers = POWERS;
-    if n < powers[4] {
-        if n < powers[2] {
-            if n < powers[1] {
-                return 1;
-            }
-            return 2;
-        }
-        if n < powers[3] {
-            return 3;
-        }
-        return 4;
-    }
-    if n < powers[6] {
-        if n < powers[5] {
-            return 5;
-        }
-        return 6;
-    }
-    if n < powers[7] {
-        return 7;
-    }
-    8
-}
-
-// How many digits a number from 10 to the power 8 to below 10 to the power 16 is written with.
-fn width_middle(n: u64) -> usize
-    requires { ⌜ (100000000 ≤ n) × (n < 10000000000000000) ⌝ }
-    ensures { λ r. ⌜ r ≡ length (written n) ⌝ }
-{
-    let powers = POWERS;
-    if n < powers[12] {
-        if n < powers[10] {
-            if n < powers[9] {
-                return 9;
-            }
-            return 10;
-        }
-        if n < powers[11] {
-            return 11;
-        }
-        return 12;
-    }
-    if n < powers[14] {
-        if n < powers[13] {
-            return 13;
-        }
-        return 14;
-    }
-    if n < powers[15] {
-        return 15;
-    }
-    16
-}
-
-// How many digits `n` is written with.
+// How many digits `n` is written with: the least w, from 1 on, with n below 10 to the power w. Each power is ten times the last, from 1
+// on; a number that 19 powers do not exceed has 20 digits, as 64 bits hold no more.
 pub fn width(n: u64) -> usize
     ensures { λ r. ⌜ r ≡ length (written n) ⌝ }
 {
-    let powers = POWERS;
-    if n < powers[8] {
-        return width_low(n);
-    }
-    if n < powers[16] {
-        return width_middle(n);
-    }
-    if n < powers[18] {
-        if n < powers[17] {
-            return 17;
+    let mut power: u64 = 1;
+    let mut w = 1;
+    while w < 20 {
+        power *= 10;
+        if n < power {
+            return w;
         }
-        return 18;
+        w += 1;
     }
-    if n < powers[19] {
-        return 19;
-    }
-    20
+    w
 }
 
 // Writes the two digits of `pair` into `out` at the places `at` and `at + 1`.
@@ -265,14 +175,14 @@ pub fn write(n: u64, out: &mut [u8], at: usize) -> usize
         return at + w;
     }
     if left == 1 {
-        out[at] = 48 + (rest % 10) as u8;
+        out[at] = 48 + rest as u8;
         return at + w;
     }
     if left == 2 {
-        put_pair(rest % 100, out, at);
+        put_pair(rest, out, at);
         return at + w;
     }
     put_pair(rest % 100, out, at + 1);
-    out[at] = 48 + (rest / 100 % 10) as u8;
+    out[at] = 48 + (rest / 100) as u8;
     at + w
 }

@@ -1,10 +1,12 @@
 // A test program: answers of the public calls, compared with what the documents say and not proved. For a sheet it prints the number of
-// its refusal, 0 where it is accepted; for the tables of document 002 their columns; for a schedule the refusal and what is answered.
+// its refusal, 0 where it is accepted; for the tables of document 002 their columns; for a schedule the refusal and what is answered; last the
+// digits of numbers.
 mod build;
 mod show;
 
 use build::largest;
 use build::long_number;
+use show::digits;
 use show::memory;
 use show::occupancy;
 use show::price;
@@ -28,6 +30,7 @@ fn main() {
     table_3();
     prices_of_schedules();
     schedule_places();
+    powers_of_ten();
 }
 
 fn examples() {
@@ -580,4 +583,19 @@ fn schedule_places() {
     schedule(b"no such row", bytes, 1, &mut other);
     schedule(b"no sheet", b"kind=", 0, &mut other);
     price(b"the schedule written", bytes, &whole);
+}
+
+// The number writer: each power of ten that fits 64 bits, and before it the power less one; then the largest number.
+fn powers_of_ten() {
+    let mut power: u64 = 1;
+    let mut k: usize = 0;
+    while k < 19 {
+        digits(power - 1);
+        digits(power);
+        power *= 10;
+        k += 1;
+    }
+    digits(power - 1);
+    digits(power);
+    digits(18446744073709551615);
 }

@@ -86,3 +86,11 @@ fn unchanged(place: &[u8]) -> u64 {
     }
     n
 }
+
+// The digits that the number writer writes.
+pub fn digits(n: u64) {
+    let mut place = [0u8; 20];
+    let after = decimal::write(n, &mut place, 0);
+    io::write_all(STDOUT_FILENO, &place[..after]);
+    end();
+}

@@ -1,64 +1,66 @@
--- `decimal::width` meets its contract: the powers of ten on the way are below or above `n`.
+-- `decimal::width` meets its contract. The loop's invariant: ten times the power is 10 to the power `w`, and `n` has at least `w` digits.
 -- Assumes nothing.
+use mathlib.Core.Path.{_≡_, refl, ap}
+use Prim.Native.Nat.{ℕ, _+_, _*_, _-_, _^_, _≤_, _<_}
+use native.Mathlib.Nat.{pow-suc, pow-le-pow-right}
+use native.Mathlib.Numerals.{add-one}
 use native.Mathlib.Omega.{arith}
 use borrow.Author.Needs.{needs}
-use Rattle.decimal.proofs.Written.{written-between}
+use lib.ListN.{length}
+use Rattle.decimal.specs.Decimal.{written}
+use Rattle.decimal.proofs.Written.{written-some, written-exact, written-longer}
 use Rattle.decimal.proofs.width.Statement.{statement}
 use Rattle.decimal.proofs.width.Tie as tie
 
-array-read-if1 : tie.Need-array-read-if1
-array-read-if1 c = search needs
+abbrev Inv-loop : tie.InvT-loop
+Inv-loop n power₀ w₀ power w = (power * 10 ≡ 10 ^ w) × (1 ≤ w) × (w ≤ length (written n)) × (w ≤ 20)
 
-width-low-requires : tie.Need-width-low-requires
-width-low-requires c κs = search needs
+abbrev μ-loop : tie.MeasureT-loop
+μ-loop n power₀ w₀ power w = 20 - w
 
-returns : tie.Need-returns
-returns c = search needs
+-- the powers that the loop reaches fit 64 bits
+last-power : (w : ℕ) → w < 20 → 10 ^ w ≤ 10 ^ 19
+last-power w h = pow-le-pow-right (omega arith) {i = w} {j = 19} (omega arith)
 
-array-read-if2 : tie.Need-array-read-if2
-array-read-if2 c = search needs
+-- ten times the next power
+power-next : (power w : ℕ) → power * 10 ≡ 10 ^ w → power * 10 * 10 ≡ 10 ^ (w + 1)
+power-next power w e = rw (add-one w, pow-suc 10 w) (ap (λ p. p * 10) e)
 
-width-middle-requires : tie.Need-width-middle-requires
-width-middle-requires c κs = search needs
+-- the loop ends at 20
+last-width : (w : ℕ) → (w < 20 → ⊥) → w ≤ 20 → w ≡ 20
+last-width w h l = omega arith
 
-returns-2 : tie.Need-returns-2
-returns-2 c = search needs
+loop-holds : tie.Need-loop-holds Inv-loop μ-loop
+loop-holds c = (refl, omega arith, written-some _, omega arith)
 
-array-read-if3 : tie.Need-array-read-if3
-array-read-if3 c = search needs
+mul-power : tie.Need-mul-power Inv-loop μ-loop
+mul-power c = omega (arith, c .before .loop .inv .0, last-power (c .before .loop .w) (omega arith))
 
-array-read-if4 : tie.Need-array-read-if4
-array-read-if4 c = search needs
+returns : tie.Need-returns Inv-loop μ-loop
+returns c =
+    let l = c .before .before .loop in
+    written-exact (l .w) _ (l .inv .1) (l .inv .2) (omega (arith, l .inv .0, c .if1 .taken))
 
-returns-3 : tie.Need-returns-3
-returns-3 c = written-between 16 _ (omega arith) (omega arith)
+add-w : tie.Need-add-w Inv-loop μ-loop
+add-w c = search needs
 
-returns-4 : tie.Need-returns-4
-returns-4 c = written-between 17 _ (omega arith) (omega arith)
+loop-less : tie.Need-loop-less Inv-loop μ-loop
+loop-less c = search needs
 
-array-read-if5 : tie.Need-array-read-if5
-array-read-if5 c = search needs
+loop-again : tie.Need-loop-again Inv-loop μ-loop
+loop-again c =
+    let l = c .before .before .loop in (
+      power-next (l .power) (l .w) (l .inv .0),
+      omega arith,
+      omega (arith, written-longer (l .w) (c .before .before .before .args .n) (omega (arith, l .inv .0, c .if1 .left))),
+      omega arith,
+    )
 
-returns-5 : tie.Need-returns-5
-returns-5 c = written-between 18 _ (omega arith) (omega arith)
-
-returns-6 : tie.Need-returns-6
-returns-6 c = written-between 19 _ (omega arith) (omega arith)
+returns-2 : tie.Need-returns-2 Inv-loop μ-loop
+returns-2 c =
+    let l = c .before .loop in
+    written-exact (l .w) _ (l .inv .1) (l .inv .2) (rw (last-width (l .w) (omega arith) (l .inv .3)) (omega arith))
 
 pub width-spec : {M : Type 1} → statement M
 width-spec =
-    tie.close
-    (tie.spec
-    array-read-if1
-    width-low-requires
-    returns
-    array-read-if2
-    width-middle-requires
-    returns-2
-    array-read-if3
-    array-read-if4
-    returns-3
-    returns-4
-    array-read-if5
-    returns-5
-    returns-6)
+    tie.close (tie.spec Inv-loop μ-loop loop-holds mul-power returns add-w loop-less loop-again returns-2)

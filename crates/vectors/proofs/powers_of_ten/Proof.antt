@@ -1,0 +1,82 @@
+-- `vectors::powers_of_ten` is safe. The loop's invariant: the power is 10 to the power `k`. Assumes nothing.
+use mathlib.Core.Path.{_≡_, refl, ap}
+use Prim.Native.Nat.{ℕ, _+_, _*_, _-_, _^_, _≤_, _<_}
+use native.Mathlib.Nat.{pow-suc, pow-le-pow-right, one-le-pow}
+use native.Mathlib.Numerals.{add-one}
+use native.Mathlib.Omega.{arith}
+use borrow.Author.Needs.{needs}
+use Rattle.vectors.proofs.powers_of_ten.Statement.{statement}
+use Rattle.vectors.proofs.powers_of_ten.Tie as tie
+
+abbrev Inv-loop : tie.InvT-loop
+Inv-loop power₀ k₀ power k = (power ≡ 10 ^ k) × (k ≤ 19)
+
+abbrev μ-loop : tie.MeasureT-loop
+μ-loop power₀ k₀ power k = 19 - k
+
+-- the powers that the loop reaches fit 64 bits
+last-power : (k : ℕ) → k < 19 → 10 ^ k ≤ 10 ^ 18
+last-power k h = pow-le-pow-right (omega arith) {i = k} {j = 18} (omega arith)
+
+-- the next power
+power-next : (power k : ℕ) → power ≡ 10 ^ k → power * 10 ≡ 10 ^ (k + 1)
+power-next power k e = rw (add-one k, pow-suc 10 k) (ap (λ p. p * 10) e)
+
+loop-holds : tie.Need-loop-holds Inv-loop μ-loop
+loop-holds c = (refl, omega arith)
+
+sub-digits : tie.Need-sub-digits Inv-loop μ-loop
+sub-digits c = let l = c .before .loop in omega (arith, l .inv .0, one-le-pow (l .k) 10 (omega arith))
+
+digits-requires : tie.Need-digits-requires Inv-loop μ-loop
+digits-requires c κs = search needs
+
+digits-requires-2 : tie.Need-digits-requires-2 Inv-loop μ-loop
+digits-requires-2 c κs = search needs
+
+mul-power : tie.Need-mul-power Inv-loop μ-loop
+mul-power c = let l = c .before .before .before .loop in omega (arith, l .inv .0, last-power (l .k) (omega arith))
+
+add-k : tie.Need-add-k Inv-loop μ-loop
+add-k c = search needs
+
+loop-less : tie.Need-loop-less Inv-loop μ-loop
+loop-less c = search needs
+
+loop-again : tie.Need-loop-again Inv-loop μ-loop
+loop-again c = let l = c .before .before .before .loop in (power-next (l .power) (l .k) (l .inv .0), omega arith)
+
+sub-digits-2 : tie.Need-sub-digits-2 Inv-loop μ-loop
+sub-digits-2 c = let l = c .before .loop in omega (arith, l .inv .0, one-le-pow (l .k) 10 (omega arith))
+
+digits-requires-3 : tie.Need-digits-requires-3 Inv-loop μ-loop
+digits-requires-3 c κs = search needs
+
+digits-requires-4 : tie.Need-digits-requires-4 Inv-loop μ-loop
+digits-requires-4 c κs = search needs
+
+digits-requires-5 : tie.Need-digits-requires-5 Inv-loop μ-loop
+digits-requires-5 c κs = search needs
+
+returns : tie.Need-returns Inv-loop μ-loop
+returns c = search needs
+
+pub powers-of-ten-spec : {M : Type 1} → statement M
+powers-of-ten-spec =
+    tie.close
+    (tie.spec
+    Inv-loop
+    μ-loop
+    loop-holds
+    sub-digits
+    digits-requires
+    digits-requires-2
+    mul-power
+    add-k
+    loop-less
+    loop-again
+    sub-digits-2
+    digits-requires-3
+    digits-requires-4
+    digits-requires-5
+    returns)
