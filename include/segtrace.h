@@ -74,7 +74,7 @@ uint64_t segtrace_price(const uint8_t *sheet, size_t sheet_length, uint64_t row,
 /* The margin h*w - d*R of a reference, counted from 1, at a row; the reuse is kept where it is 0 or more: 1 to 6, 7, 14, 15. */
 uint64_t segtrace_margin(const uint8_t *sheet, size_t sheet_length, uint64_t row, uint64_t reference, int64_t *margin);
 
-/* A row with optmem within the ceiling and the least load among such rows; of several any one: 1 to 6, 12. */
+/* The lowest row with the least load among the rows with optmem within the ceiling: 1 to 6, 12. */
 uint64_t segtrace_size(const uint8_t *sheet, size_t sheet_length, uint64_t ceiling, uint64_t *row);
 
 /*

@@ -167,7 +167,7 @@ pub fn margin(sheet: &[u8], row: u64, reference: u64) -> Result<i64, Refusal> {
     Ok(margin)
 }
 
-/// A row with optmem within the ceiling and the least load among such rows; of several any one: 1 to 6, 12.
+/// The lowest row with the least load among the rows with optmem within the ceiling: 1 to 6, 12.
 pub fn size(sheet: &[u8], ceiling: u64) -> Result<u64, Refusal> {
     let mut row = 0;
     Refusal::answer(unsafe { c::segtrace_size(sheet.as_ptr(), sheet.len(), ceiling, &mut row) })?;

@@ -253,17 +253,12 @@ impl Case<'_> {
         }
         // A ceiling that a narrower number would cut down to one that no row meets, or that every row meets.
         ceilings.push(all[0][OPTMEM].saturating_sub(1) + (1 << 32));
+        let bytes = self.bytes;
         for ceiling in ceilings {
-            let mut place = Place::<u64>::new(&mut self.prng, 1);
-            let returned = calls::size(self.bytes, ceiling, &mut place.lent()[0]);
-            let found = place.lent()[0];
-            let answer = if returned == 0 { Ok(found) } else { Err(returned) };
-            ensure(reference::sizing_is_right(all, ceiling, answer), || {
-                format!("size: the answer {answer:?} for the ceiling {ceiling} is not right")
-            })?;
-            let result = if answer.is_ok() { &[found][..] } else { &[] };
-            place.check(result).map_err(|message| format!("size: {message}"))?;
-            self.tally.note(returned);
+            let row = reference::size(all, ceiling);
+            let want = row.as_ref().map(std::array::from_ref).map_err(|&number| number);
+            self.list_call("size", want, |[out]| calls::size(bytes, ceiling, out))
+                .map_err(|message| format!("{message} (ceiling {ceiling})"))?;
         }
         Ok(())
     }

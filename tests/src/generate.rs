@@ -183,23 +183,29 @@ enum RowStyle {
     Close,
     /// At the ratio R/w of a reuse, or just beside it.
     AtReuses,
+    /// Several just above the ratio of one reuse or just below it: rows of equal load.
+    BesideReuse,
     Mixed,
 }
 
 impl RowStyle {
-    const ALL: [RowStyle; 6] = [
+    const ALL: [RowStyle; 7] = [
         RowStyle::Any,
         RowStyle::FiveDigits,
         RowStyle::FewDigits,
         RowStyle::Close,
         RowStyle::AtReuses,
+        RowStyle::BesideReuse,
         RowStyle::Mixed,
     ];
 }
 
 /// Up to so many rows with ascending thresholds, at least one.
 fn rows(prng: &mut Prng, sheet: &Sheet, style: RowStyle, count: usize) -> Vec<Row> {
-    let centre = threshold(prng, sheet, RowStyle::Any, Row { h: 1, d: 1 });
+    let mut centre = threshold(prng, sheet, RowStyle::Any, Row { h: 1, d: 1 });
+    if style == RowStyle::BesideReuse {
+        centre = reuse_ratio(prng, sheet).unwrap_or(centre);
+    }
     let mut rows: Vec<Row> = Vec::new();
     for _ in 0..4 * count {
         let row = threshold(prng, sheet, style, centre);
@@ -221,6 +227,10 @@ fn threshold(prng: &mut Prng, sheet: &Sheet, style: RowStyle, centre: Row) -> Ro
         RowStyle::FewDigits => Row { h: prng.between(0, 12), d: prng.between(1, 3) },
         RowStyle::Close => Row { h: near(prng, centre.h, 0), d: near(prng, centre.d, 1) },
         RowStyle::AtReuses => at_reuse(prng, sheet).unwrap_or(centre),
+        RowStyle::BesideReuse => {
+            let d = prng.any_size(1, MOST_PRICE);
+            Row { h: (centre.h * d / centre.d + prng.below(3) as u64).min(MOST_PRICE), d }
+        }
         RowStyle::Mixed => {
             let other = prng.pick(&RowStyle::ALL[..5]);
             threshold(prng, sheet, other, centre)
@@ -228,16 +238,20 @@ fn threshold(prng: &mut Prng, sheet: &Sheet, style: RowStyle, centre: Row) -> Ro
     }
 }
 
-/// The ratio R/w of a random reuse as a threshold, where it fits one, or a threshold beside it.
-fn at_reuse(prng: &mut Prng, sheet: &Sheet) -> Option<Row> {
+/// R and w of a random reuse, as h and d.
+fn reuse_ratio(prng: &mut Prng, sheet: &Sheet) -> Option<Row> {
     if sheet.refs.is_empty() {
         return None;
     }
     let step = 1 + prng.below(sheet.refs.len());
     let segment = sheet.touched(step);
     let last = sheet.last_touch(segment, step)?;
-    let retention = sheet.retention(segment, (step - last - 1) as u64);
-    let swap = sheet.swap_cost(segment);
+    Some(Row { h: sheet.retention(segment, (step - last - 1) as u64), d: sheet.swap_cost(segment) })
+}
+
+/// The ratio R/w of a random reuse as a threshold, where it fits one, or a threshold beside it.
+fn at_reuse(prng: &mut Prng, sheet: &Sheet) -> Option<Row> {
+    let Row { h: retention, d: swap } = reuse_ratio(prng, sheet)?;
     if prng.one_in(2) {
         return Some(close_to(prng, retention, swap));
     }

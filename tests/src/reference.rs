@@ -288,17 +288,12 @@ pub fn margin(sheet: &Sheet, row: Row, reference: u64) -> Result<i64, u64> {
     Ok((row.h * sheet.swap_cost(segment)) as i64 - (row.d * retention) as i64)
 }
 
-/// Whether an answer of the sizing call is right: a row within the ceiling with the least load among such rows, or 12 where no row
-/// is within it.
-pub fn sizing_is_right(all: &[Figures], ceiling: u64, answer: Result<u64, u64>) -> bool {
-    let within: Vec<&Figures> = all.iter().filter(|figures| figures[OPTMEM] <= ceiling).collect();
-    match answer {
-        Ok(row) => usize::try_from(row)
-            .ok()
-            .and_then(|row| all.get(row))
-            .is_some_and(|chosen| chosen[OPTMEM] <= ceiling && within.iter().all(|other| chosen[LOAD] <= other[LOAD])),
-        Err(number) => number == 12 && within.is_empty(),
-    }
+/// The row for a ceiling: the least load of the rows within it, then the first of them with that load. 12: no row is within it.
+pub fn size(all: &[Figures], ceiling: u64) -> Result<u64, u64> {
+    let fits = |figures: &&Figures| figures[OPTMEM] <= ceiling;
+    let least = all.iter().filter(fits).map(|figures| figures[LOAD]).min().ok_or(12u64)?;
+    let row = all.iter().position(|figures| fits(&figures) && figures[LOAD] == least);
+    Ok(row.expect("a row of the least load") as u64)
 }
 
 // ---- Schedules ----

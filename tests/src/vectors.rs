@@ -1,4 +1,4 @@
-//! The examples of document 01 and every finite line of Tables II and III of document 002.
+//! The examples of documents 01 and 02 and every finite line of Tables II and III of document 002.
 
 use crate::calls;
 use crate::compare::{done, ensure, Case, Outcome};
@@ -41,6 +41,7 @@ fn examples() -> Vec<(Vec<u8>, Check)> {
         let nothing = format!("kind={kind}\na=7\nsegs=2\nsize=3\nsize=4\nrows=2\nrow=1/2\nrow=3/1\nrefs=0\n");
         list.push((nothing.into_bytes(), Box::new(all_zero)));
     }
+    list.push((sized_sheet(), Box::new(lowest_rows)));
     for (text, number) in verdicts() {
         list.push((text, Box::new(move |bytes| verdict(bytes, number))));
     }
@@ -119,6 +120,26 @@ fn table_line(kind: Kind, want: [u64; 4], bytes: &[u8]) -> Outcome {
         Kind::Space => [misses, volume, optmem, wsmem],
     };
     ensure(got == want, || format!("the table's line {h} of kind {kind:?}: got {got:?}, wanted {want:?}"))
+}
+
+/// The run of the listing at rows with optmem and load 12 and 14, three times 13 and 12, twice 18 and 6.
+fn sized_sheet() -> Vec<u8> {
+    let rows = [(0, 1), (1, 2), (3, 5), (2, 3), (1, 1), (2, 1)].map(|(h, d)| Row { h, d }).to_vec();
+    reference::write(&Sheet { kind: Kind::Space, a: 1, sizes: vec![1, 3], rows, refs: vec![0, 1, 0, 1, 1, 0] })
+}
+
+/// Sizing gives the first of the rows of least load.
+fn lowest_rows(bytes: &[u8]) -> Outcome {
+    for (ceiling, want) in [(17, 1), (18, 4), (13, 1), (12, 0), (u64::MAX, 4)] {
+        let mut row = u64::MAX;
+        done("size", calls::size(bytes, ceiling, &mut row))?;
+        ensure(row == want, || format!("size: row {row} for the ceiling {ceiling}, wanted {want}"))?;
+    }
+    for ceiling in [0, 11] {
+        let returned = calls::size(bytes, ceiling, &mut 0);
+        ensure(returned == 12, || format!("size: got {returned} for the ceiling {ceiling}, wanted 12"))?;
+    }
+    Ok(())
 }
 
 /// P10.

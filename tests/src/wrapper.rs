@@ -70,9 +70,7 @@ impl Case<'_> {
         let margin = reference::margin(sheet, sheet.rows[row], reference);
         self.safe("margin", segtrace::margin(bytes, number, reference), margin)?;
         let ceiling = all[row][reference::OPTMEM].saturating_sub(self.prng.next() & 1);
-        let size = segtrace::size(bytes, ceiling).map_err(Refusal::number);
-        self.tally.note(size.err().unwrap_or(0));
-        ensure(reference::sizing_is_right(all, ceiling, size), || format!("wrapper, size: {size:?} for {ceiling}"))
+        self.safe("size", segtrace::size(bytes, ceiling), reference::size(all, ceiling))
     }
 
     /// A function that writes bytes into a place: long, exact, and short by one.

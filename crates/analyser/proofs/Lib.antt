@@ -4,7 +4,6 @@ pub mod Entries
 pub mod Handed
 pub mod MarginResults
 pub mod MarginSigns
-pub mod Outcomes
 pub mod Printing
 pub mod Results
 pub mod RoundTrips

@@ -1,24 +1,24 @@
--- What the sizing call may answer: 1 to 6, 12. Which of several rows with the least load it gives is free. Assumes nothing.
+-- What the sizing call answers: 1 to 6, 12. Assumes nothing.
 use Prim.Native.Nat.{ℕ}
-use mathlib.Core.Path.{_≡_}
-use mathlib.Core.Logic.{_⊎_}
-use Rattle.model.specs.Sheets.{SheetValue, Sized, NoneFits}
+use mathlib.Core.List.{List}
+use mathlib.Core.Option.{Option, none, some}
+use Rattle.model.specs.Sizing.{sizedRow}
 use Rattle.model.specs.declared.Refusal.{Refusal}
 use Rattle.model.specs.declared.Refusal.the-variants.{NoRowFits}
 use Rattle.model.specs.declared.Verdict.the-variants.{Accepted, Refused}
-use Rattle.sheet.specs.Reading.{Outcome, accepted, rejected}
+use Rattle.sheet.specs.Reading.{readSheet}
+use Rattle.analyser.specs.Answers.{onSheet}
 use Rattle.analyser.specs.declared.sizing.SizingAnswer.{SizingAnswer}
 
 -- no row: 0 beside the refusal
 abbrev pub noSize : Refusal → SizingAnswer
 noSize r = record { verdict = Refused r; row = 0 }
 
--- a row that is within the ceiling and of the least load among such rows; or 12, where every row's optmem exceeds the ceiling
-abbrev pub SizingFor : SheetValue → ℕ → SizingAnswer → Type 0
-SizingFor v ceiling r =
-    ((r .verdict ≡ Accepted) × Sized v ceiling (r .row)) ⊎ ((r ≡ noSize NoRowFits) × NoneFits v ceiling)
+-- the row that sizing gives; 12 where there is none
+abbrev pub sizing : Option ℕ → SizingAnswer
+sizing none = noSize NoRowFits
+sizing (some r) = record { verdict = Accepted; row = r }
 
--- by what reading comes to
-abbrev pub SizingOf : Outcome → ℕ → SizingAnswer → Type 0
-SizingOf (rejected q) ceiling r = r ≡ noSize q
-SizingOf (accepted v) ceiling r = SizingFor v ceiling r
+-- the row for the sheet that the bytes stand for
+unfoldable pub sizeAnswer : List ℕ → ℕ → SizingAnswer
+sizeAnswer s ceiling = onSheet (readSheet s) noSize (λ v. sizing (sizedRow v ceiling))

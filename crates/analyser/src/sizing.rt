@@ -1,13 +1,13 @@
 // Sizing: the row to run at where memory has a ceiling.
-// What may be answered is written in specs/Sizing.antt; nothing is assumed.
+// What is answered is written in specs/Sizing.antt; nothing is assumed.
 use model::Refusal;
 use model::Sheet;
 use model::Verdict;
 ghost use mathlib.Core.Path.{_≡_};
-ghost use Rattle.sheet.specs.Reading.{readSheet};
+ghost use Rattle.model.specs.Sizing.{sizedRow};
 ghost use Rattle.model.specs.Values.{valueOf};
 ghost use Rattle.analyser.specs.Answers.{Standing};
-ghost use Rattle.analyser.specs.Sizing.{noSize, SizingFor, SizingOf};
+ghost use Rattle.analyser.specs.Sizing.{noSize, sizing, sizeAnswer};
 
 // A row; 0 where the call is refused.
 pub struct SizingAnswer {
@@ -25,30 +25,39 @@ fn no_size(why: Refusal) -> SizingAnswer
     }
 }
 
-// The last row of an accepted sheet with optmem within the ceiling, or 12: load never rises from a row to the next, so its load is the
-// least.
+// The row that sizing gives of an accepted sheet, or 12. Along the rows optmem never falls, so the first row beyond the ceiling ends the
+// pass; `row` is the lowest with the least load of those before row i.
 fn sheet_size(s: Sheet, ceiling: u64) -> SizingAnswer
     requires { ⌜ Standing s ⌝ }
-    ensures { λ r. ⌜ SizingFor (valueOf s) ceiling r ⌝ }
+    ensures { λ r. ⌜ r ≡ sizing (sizedRow (valueOf s) ceiling) ⌝ }
 {
     let all = crate::all_figures(s);
-    let mut left = s.rows;
-    while 0 < left {
-        left -= 1;
-        let f = all[left];
-        if f.optmem.0 <= ceiling {
-            return SizingAnswer {
-                verdict: Verdict::Accepted,
-                row: left,
-            };
+    let rows = s.rows;
+    let mut row = 0;
+    let mut i = 0;
+    while i < rows {
+        let f = all[i];
+        if ceiling < f.optmem.0 {
+            break;
         }
+        let least = all[row];
+        if f.load.0 < least.load.0 {
+            row = i;
+        }
+        i += 1;
     }
-    no_size(Refusal::NoRowFits)
+    if i == 0 {
+        return no_size(Refusal::NoRowFits);
+    }
+    SizingAnswer {
+        verdict: Verdict::Accepted,
+        row: row,
+    }
 }
 
-// A row with optmem within the ceiling and the least load among such rows: refused with 1 to 6, 12.
+// The lowest row with the least load among the rows with optmem within the ceiling: refused with 1 to 6, 12.
 pub fn size(bytes: &[u8], ceiling: u64) -> SizingAnswer
-    ensures { λ r. ⌜ SizingOf (readSheet (now (bytes .entry))) ceiling r ⌝ }
+    ensures { λ r. ⌜ r ≡ sizeAnswer (now (bytes .entry)) ceiling ⌝ }
 {
     let answer = sheet::reading::read(bytes);
     let verdict = answer.verdict;

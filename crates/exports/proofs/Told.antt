@@ -7,11 +7,8 @@ use Rattle.model.specs.declared.PlaceAnswer.{PlaceAnswer}
 use Rattle.model.specs.declared.Refusal.{Refusal}
 use Rattle.model.specs.declared.Verdict.{Verdict}
 use Rattle.model.specs.declared.Verdict.the-variants.{Accepted, Refused}
-use Rattle.sheet.specs.Reading.{Outcome}
 use Rattle.analyser.specs.Answers.{Result, refuses, PlaceLeft}
-use Rattle.analyser.specs.Sizing.{SizingOf}
-use Rattle.analyser.specs.declared.sizing.SizingAnswer.{SizingAnswer}
-use Rattle.exports.specs.Exported.{orOld, PlaceCall, SizeCall}
+use Rattle.exports.specs.Exported.{orOld, PlaceCall}
 
 -- a call with an answer R, which has a verdict and a value: the answer is the one that is due
 module _ {R A : Type 0} (verdict : R → Verdict) (value : R → A) (answer due : R) (e : answer ≡ due) (old : A) where
@@ -40,9 +37,3 @@ place-call answer a t =
 pub place-refused : {result : Result} {place : List ℕ} {written returned : ℕ} {q : Refusal} → result ≡ refuses q → returned ≡ numberOf q
     → PlaceCall result place place written written returned
 place-refused e h = rw e (record { returned-is = h; place-is = refl; written-is = refl })
-
--- the sizing call, from what was told of its answer
-pub size-call : {outcome : Outcome} {ceiling row row' returned : ℕ} (answer : SizingAnswer) → SizingOf outcome ceiling answer
-    → (returned ≡ verdictNumber (answer .verdict)) × (row' ≡ orOld (answer .verdict) (answer .row) row)
-    → SizeCall outcome ceiling row row' returned
-size-call answer p t = record { answer = answer; permitted = p; returned-is = t .0; row-is = t .1 }

@@ -6,12 +6,10 @@ use Rattle.model.specs.Refusals.{verdictNumber}
 use Rattle.model.specs.declared.RowFigures.{RowFigures}
 use Rattle.model.specs.declared.Verdict.{Verdict}
 use Rattle.model.specs.declared.Verdict.the-variants.{Accepted, Refused}
-use Rattle.sheet.specs.Reading.{Outcome, readSheet}
+use Rattle.sheet.specs.Reading.{readSheet}
 use Rattle.sheet.specs.Writing.{sheetText}
 use Rattle.schedule.specs.declared.PriceAnswer.{PriceAnswer}
 use Rattle.analyser.specs.Answers.{Result, gives, refuses, onSheet, answerFor, placeFor}
-use Rattle.analyser.specs.Sizing.{SizingOf}
-use Rattle.analyser.specs.declared.sizing.SizingAnswer.{SizingAnswer}
 use Rattle.records.specs.Listed.{rowRecords}
 
 -- a lent value after a call: the new one, or where the call is refused the old one
@@ -46,10 +44,3 @@ pub record PlaceCall (result : Result) (place place' : List ℕ) (written writte
   pub returned-is : returned ≡ verdictNumber (answerFor result place .verdict)
   pub place-is : place' ≡ placeFor result place
   pub written-is : written' ≡ orOld (answerFor result place .verdict) (answerFor result place .length) written
-
--- the sizing call: some answer that sizing may give, and the lent number after it
-pub record SizeCall (outcome : Outcome) (ceiling row row' returned : ℕ) : Type 0 where
-  pub answer : SizingAnswer
-  pub permitted : SizingOf outcome ceiling answer
-  pub returned-is : returned ≡ verdictNumber (answer .verdict)
-  pub row-is : row' ≡ orOld (answer .verdict) (answer .row) row

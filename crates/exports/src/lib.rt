@@ -17,7 +17,8 @@ ghost use Rattle.sheet.specs.Reading.{readSheet};
 ghost use Rattle.sheet.specs.Answers.{answerOf};
 ghost use Rattle.analyser.specs.Answers.{figuresAnswer, listingResult, scheduleResult, pricing};
 ghost use Rattle.analyser.specs.Margins.{marginAnswer};
-ghost use Rattle.exports.specs.Exported.{orOld, figureList, figureLists, priceList, rewriteResult, rowsResult, PlaceCall, SizeCall};
+ghost use Rattle.analyser.specs.Sizing.{sizeAnswer};
+ghost use Rattle.exports.specs.Exported.{orOld, figureList, figureLists, priceList, rewriteResult, rowsResult, PlaceCall};
 
 // Whether the bytes are a sheet: 1 to 6.
 #[no_mangle]
@@ -217,10 +218,12 @@ pub extern "C" fn segtrace_margin(sheet: &[u8], row: u64, reference: u64, margin
     }
 }
 
-// A row with optmem within the ceiling and the least load among such rows: 1 to 6, 12.
+// The lowest row with the least load among the rows with optmem within the ceiling: 1 to 6, 12.
 #[no_mangle]
 pub extern "C" fn segtrace_size(sheet: &[u8], ceiling: u64, row: &mut u64) -> u64
-    ensures { λ r. ⌜ SizeCall (readSheet (now (sheet .entry))) ceiling (now (row .entry)) (now (row .exit)) r ⌝ }
+    ensures { λ r. ⌜ (r ≡ verdictNumber (sizeAnswer (now (sheet .entry)) ceiling .verdict))
+        × (now (row .exit) ≡ orOld (sizeAnswer (now (sheet .entry)) ceiling .verdict)
+        (sizeAnswer (now (sheet .entry)) ceiling .row) (now (row .entry))) ⌝ }
 {
     let answer = analyser::sizing::size(sheet, ceiling);
     let verdict = answer.verdict;

@@ -15,6 +15,8 @@ pub mod LowerBound
 pub mod Margins
 pub mod Optimal
 pub mod Relation
+pub mod Sizing
+pub mod SizingExamples
 pub mod Sums
 pub mod Tables
 pub mod Touches

@@ -7,6 +7,7 @@ pub mod Refusals
 pub mod Rows
 pub mod Schedules
 pub mod Sheets
+pub mod Sizing
 pub mod Sums
 pub mod Traces
 pub mod Values

@@ -1,4 +1,4 @@
--- What a sheet says, its limits, and what sizing may answer. Assumes nothing.
+-- What a sheet says, and its limits. Assumes nothing.
 use Prim.Native.Nat.{ℕ, suc, _*_, _≤_, _<_}
 use mathlib.Core.Bool.{Bool, false}
 use mathlib.Core.List.{List}
@@ -83,13 +83,3 @@ rowOptmem s r = optmem (traceOf s) (rowAt s r .h) (rowAt s r .d)
 
 abbrev pub rowLoad : SheetValue → ℕ → ℕ
 rowLoad s r = load (traceOf s) (rowAt s r .h) (rowAt s r .d)
-
--- what sizing may answer: a row with optmem within the ceiling and with the least load among such rows
-pub record Sized (s : SheetValue) (ceiling r : ℕ) : Type 0 where
-  pub is-row : r < length (s .rows)
-  pub within : rowOptmem s r ≤ ceiling
-  pub least : (q : ℕ) → q < length (s .rows) → rowOptmem s q ≤ ceiling → rowLoad s r ≤ rowLoad s q
-
--- every row's optmem exceeds the ceiling
-abbrev pub NoneFits : SheetValue → ℕ → Type 0
-NoneFits s ceiling = (q : ℕ) → q < length (s .rows) → ceiling < rowOptmem s q

@@ -1,7 +1,7 @@
 -- `exports::segtrace_size` meets its contract: the verdict of the sizing decides. Assumes nothing.
 use borrow.Author.Needs.{needs}
 use mathlib.Core.Path.{refl}
-use Rattle.exports.proofs.Told.{accepted-tells, refused-tells, size-call}
+use Rattle.exports.proofs.Told.{accepted-tells, refused-tells}
 use Rattle.exports.proofs.segtrace_size.Statement.{statement}
 use Rattle.exports.proofs.segtrace_size.Tie as tie
 
@@ -20,14 +20,13 @@ number-requires c κs = search needs
 returns : tie.Need-returns
 returns c =
     let r = c .before .before in
-    size-call (r .size .result) (r .size .ensures)
-    (accepted-tells (λ a. a .verdict) (λ a. a .row) (r .size .result) _ refl _ (cc) refl)
+    accepted-tells (λ a. a .verdict) (λ a. a .row) (r .size .result) _ (r .size .ensures) _ (cc) refl
 
 returns-2 : tie.Need-returns-2
 returns-2 c =
     let r = c .before .before .before .before in
-    size-call (r .size .result) (r .size .ensures)
-    (refused-tells (λ a. a .verdict) (λ a. a .row) (r .size .result) _ refl _ (c .before .before .verdict .given .1) (c .number .ensures))
+    refused-tells (λ a. a .verdict) (λ a. a .row) (r .size .result) _ (r .size .ensures) _
+    (c .before .before .verdict .given .1) (c .number .ensures)
 
 pub segtrace-size-spec : {M : Type 1} → statement M
 segtrace-size-spec =

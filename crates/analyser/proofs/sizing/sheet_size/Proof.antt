@@ -1,29 +1,28 @@
--- `sizing::sheet_size` meets its contract. The loop's invariant: each row from `left` on exceeds the ceiling. The measure is `left`.
--- Assumes nothing.
-use mathlib.Core.Path.{_≡_, refl}
-use mathlib.Core.Logic.{inl, inr}
+-- `sizing::sheet_size` meets its contract. The loop's invariant: the first i rows are within the ceiling, and `row` is the lowest of them
+-- with the least load. The measure is the rows that are left. Assumes nothing.
+use Prim.Native.Nat.{_-_, _<_}
+use mathlib.Core.Path.{_∙_}
+use mathlib.Core.Logic.{inl, inr, ⊎-elim}
 use borrow.Author.Needs.{needs}
 use native.Mathlib.Omega.{arith}
+use lib.ListN.{length}
 use Rattle.model.specs.Values.{valueOf}
-use Rattle.analyser.proofs.Sizes.{Beyond, beyond-start, beyond-step, sized-last, none-fits}
+use Rattle.analyser.proofs.Sizes.{memoryAt, RowsPassed, passed-none, passed-row, sized-answer, none-answer}
 use Rattle.analyser.proofs.Standings.{rows-counted}
 use Rattle.analyser.proofs.sizing.sheet_size.Statement.{statement}
 use Rattle.analyser.proofs.sizing.sheet_size.Tie as tie
 
 abbrev Inv-loop : tie.InvT-loop
-Inv-loop ceiling all left₀ left = Beyond ceiling all left₀ left
+Inv-loop ceiling all rows row₀ i₀ row i = RowsPassed ceiling all rows row i
 
 abbrev μ-loop : tie.MeasureT-loop
-μ-loop ceiling all left₀ left = left
+μ-loop ceiling all rows row₀ i₀ row i = rows - i
 
 all-figures-requires : tie.Need-all-figures-requires Inv-loop μ-loop
 all-figures-requires c κs = search needs
 
 loop-holds : tie.Need-loop-holds Inv-loop μ-loop
-loop-holds c = beyond-start _ _ _
-
-sub-left : tie.Need-sub-left Inv-loop μ-loop
-sub-left c = omega arith
+loop-holds c = passed-none _ _ _
 
 mul-f : tie.Need-mul-f Inv-loop μ-loop
 mul-f c = omega (arith, c .before .before .before .pre)
@@ -31,39 +30,51 @@ mul-f c = omega (arith, c .before .before .before .pre)
 array-copy-out-f : tie.Need-array-copy-out-f Inv-loop μ-loop
 array-copy-out-f c = omega (arith, c .before .before .before .pre)
 
-returns : tie.Need-returns Inv-loop μ-loop
-returns c =
-    let l = c .before .before .before in
-    let a = l .before .before in
-    let s = a .before in
-    inl (
-      refl,
-      sized-last (valueOf (s .args .s)) (s .pre .valid) _ _ (a .all-figures .ensures) _ (l .loop-test .taken)
-          (rw (rows-counted (s .args .s) (s .pre)) (l .before .loop .inv)) (omega (arith, c .if1 .taken)),
-    )
+mul-least : tie.Need-mul-least Inv-loop μ-loop
+mul-least c = let l = c .before .before .before in omega (arith, l .loop-test, l .before .loop .inv, l .before .before .before .pre)
+
+array-copy-out-least : tie.Need-array-copy-out-least Inv-loop μ-loop
+array-copy-out-least c =
+    let l = c .before .before .before in omega (arith, l .loop-test, l .before .loop .inv, l .before .before .before .pre)
+
+add-i : tie.Need-add-i Inv-loop μ-loop
+add-i c = let l = c .before .before .before .before .before .before .before in omega (arith, l .loop-test, l .before .before .before .pre)
 
 loop-less : tie.Need-loop-less Inv-loop μ-loop
-loop-less c = omega arith
+loop-less c = let l = c .before .before .before .before .before .before .before in omega (arith, l .loop-test)
 
 loop-again : tie.Need-loop-again Inv-loop μ-loop
 loop-again c =
-    let l = c .before .before .before in
-    beyond-step _ _ _ _ (l .loop-test .taken) (l .before .loop .inv) (c .if1 .left)
+    let e = c .before .before .before .before in
+    let l = e .before .before .before in
+    passed-row _ _ _ _ _ (l .before .loop .inv) (l .loop-test .taken) (e .if1 .left) _
+    (⊎-elim (λ w. inl (w .0 .taken, w .1)) (λ w. inr (w .0 .left, w .1)) (c .if2 .came))
 
 no-size-requires : tie.Need-no-size-requires Inv-loop μ-loop
 no-size-requires c κs = search needs
 
+-- the loop ends at the rows' end or at a row beyond the ceiling
+ended : (c : tie.Left-loop Inv-loop μ-loop)
+    → c .before .loop .i < length (valueOf (c .before .before .before .args .s) .rows)
+    → c .before .before .before .args .ceiling < memoryAt (c .before .before .all-figures .result) (c .before .loop .i)
+ended c lt =
+    let s = c .before .before .before in
+    ⊎-elim (λ w. absurd (omega (arith, w .left, rows-counted (s .args .s) (s .pre)))) (λ w. w .3 .taken) (c .loop-test .came)
+
+returns : tie.Need-returns Inv-loop μ-loop
+returns c =
+    let k = c .before .before .before in
+    let s = k .before .before in
+    c .no-size .ensures
+    ∙ none-answer (valueOf (s .args .s)) (s .pre .valid) _ _ (k .before .all-figures .ensures) (k .loop .row) (k .loop .i)
+    (rw (rows-counted (s .args .s) (s .pre)) (k .loop .inv)) (ended (c .before .before)) (c .before .if3 .taken)
+
 returns-2 : tie.Need-returns-2 Inv-loop μ-loop
 returns-2 c =
-    let l = c .before in
-    let a = l .before .before in
-    let s = a .before in
-    let none : l .before .loop .left ≡ 0 = omega arith in
-    inr (
-      c .no-size .ensures,
-      none-fits (valueOf (s .args .s)) (s .pre .valid) _ _ (a .all-figures .ensures)
-          (rw (rows-counted (s .args .s) (s .pre)) (rw none at (l .before .loop .inv))),
-    )
+    let k = c .before .before in
+    let s = k .before .before in
+    sized-answer (valueOf (s .args .s)) (s .pre .valid) _ _ (k .before .all-figures .ensures) (k .loop .row) (k .loop .i)
+    (rw (rows-counted (s .args .s) (s .pre)) (k .loop .inv)) (ended (c .before)) (omega (arith, c .if3 .left))
 
 pub sheet-size-spec : {M : Type 1} → statement M
 sheet-size-spec =
@@ -73,11 +84,13 @@ sheet-size-spec =
     μ-loop
     all-figures-requires
     loop-holds
-    sub-left
     mul-f
     array-copy-out-f
-    returns
+    mul-least
+    array-copy-out-least
+    add-i
     loop-less
     loop-again
     no-size-requires
+    returns
     returns-2)

@@ -1,7 +1,9 @@
 -- `sizing::size` meets its contract: what the sheet reads as decides. Assumes nothing.
+use mathlib.Core.Path.{sym, _∙_}
 use borrow.Author.Needs.{needs}
-use Rattle.analyser.proofs.Outcomes.{read-accepted, sizing-refused}
-use Rattle.analyser.proofs.Standings.{stands}
+use Rattle.model.specs.Sizing.{sizedRow}
+use Rattle.analyser.specs.Sizing.{noSize, sizing, sizeAnswer}
+use Rattle.analyser.proofs.Standings.{on-refused, on-accepted, stands}
 use Rattle.analyser.proofs.sizing.size.Statement.{statement}
 use Rattle.analyser.proofs.sizing.size.Tie as tie
 
@@ -23,14 +25,20 @@ sheet-size-requires c κs =
     stands _ (r .read .result) (r .read .ensures) (cc)
 
 returns : tie.Need-returns
+unfolding sizeAnswer
 returns c =
     let r = c .before .before .before .before .before in
-    sizing-refused _ (r .read .result) (r .read .ensures) _ (c .no-size .ensures) (cc)
+    let a = r .before .before .args in
+    c .no-size .ensures
+    ∙ sym (on-refused _ (r .read .result) (r .read .ensures) _ (cc) noSize (λ v. sizing (sizedRow v (a .ceiling))))
 
 returns-2 : tie.Need-returns-2
+unfolding sizeAnswer
 returns-2 c =
     let r = c .before .before .before .before in
-    rw (read-accepted _ (r .read .result) (r .read .ensures) (cc)) (c .sheet-size .ensures)
+    let a = r .before .before .args in
+    c .sheet-size .ensures
+    ∙ sym (on-accepted _ (r .read .result) (r .read .ensures) (cc) noSize (λ v. sizing (sizedRow v (a .ceiling))))
 
 pub size-spec : {M : Type 1} → statement M
 size-spec =
