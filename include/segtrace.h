@@ -1,7 +1,7 @@
 /*
  * The segment trace analyser as a library: link libexports.a, which `rt staticlib exports` makes.
  *
- * Every call returns 0, or the number of the refusal, 1 to 15 (README.md lists them; where several apply, the first that the call's
+ * Every call returns 0, or the number of the refusal (README.md lists them; where several apply, the first that the call's
  * comment names). A refused call writes nothing: every lent place, number and recorder is as it was. No call keeps a pointer or
  * allocates. Lent places overlap nothing else. A pointer that comes with a length may be NULL where the length is 0; no other may be
  * NULL. A call uses less than SEGTRACE_STACK_BYTES of stack, which is not proved; tests/calls.c measures it (46 KB).
@@ -76,6 +76,16 @@ uint64_t segtrace_margin(const uint8_t *sheet, size_t sheet_length, uint64_t row
 
 /* The lowest row with the least load among the rows with optmem within the ceiling: 1 to 6, 12. */
 uint64_t segtrace_size(const uint8_t *sheet, size_t sheet_length, uint64_t ceiling, uint64_t *row);
+
+/* The largest rate and the largest minimum of the loading tariff, in cents. */
+enum { SEGTRACE_MAX_RATE = 9999, SEGTRACE_MAX_MINIMUM = 99999 };
+
+/*
+ * The bill of a row in cents: the started thousands of its optmem at one rate and those of its load at another, raised to the minimum
+ * where it is lower: 1 to 6, 7, 18.
+ */
+uint64_t segtrace_bill(const uint8_t *sheet, size_t sheet_length, uint64_t row, uint64_t memory_rate, uint64_t load_rate,
+                       uint64_t minimum, uint64_t *cents);
 
 /*
  * A recorder: filled by segtrace_start, and then handed to the calls below. With any other numbers in it a call still returns and does

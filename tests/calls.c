@@ -83,7 +83,7 @@ static void make_sheet(void)
 /* Every call on the largest sheet. */
 static void *every_call(void *unused)
 {
-    uint64_t figures[SEGTRACE_FIGURES], price[SEGTRACE_PRICE], written, row;
+    uint64_t figures[SEGTRACE_FIGURES], price[SEGTRACE_PRICE], written, row, cents;
     int64_t margin;
     static segtrace_recorder r;
     expect("check", segtrace_check(sheet, sheet_length), 0);
@@ -95,6 +95,7 @@ static void *every_call(void *unused)
     expect("price", segtrace_price(sheet, sheet_length, 63, schedule, sizeof schedule, price), 0);
     expect("margin", segtrace_margin(sheet, sheet_length, 63, 2048, &margin), 0);
     expect("size", segtrace_size(sheet, sheet_length, UINT64_MAX, &row), 0);
+    expect("bill", segtrace_bill(sheet, sheet_length, 63, 9999, 9999, 99999, &cents), 0);
     expect("start", segtrace_start(sheet, sheet_length, &r), 0);
     expect("touch", segtrace_touch(&r, 0), 0);
     expect("touch_all", segtrace_touch_all(&r, segments, 2047), 0);

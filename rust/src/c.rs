@@ -57,6 +57,17 @@ extern "C" {
         price: *mut u64,
     ) -> u64;
 
+    /// The bill of a row.
+    pub fn segtrace_bill(
+        sheet: *const u8,
+        sheet_length: usize,
+        row: u64,
+        memory_rate: u64,
+        load_rate: u64,
+        minimum: u64,
+        cents: *mut u64,
+    ) -> u64;
+
     /// The margin of a reference.
     pub fn segtrace_margin(sheet: *const u8, sheet_length: usize, row: u64, reference: u64, margin: *mut i64) -> u64;
 

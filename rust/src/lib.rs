@@ -99,6 +99,24 @@ pub struct Price {
     pub total: u64,
 }
 
+/// The loading tariff, in cents.
+#[derive(Clone, Copy, Debug, Default, PartialEq, Eq)]
+pub struct Tariff {
+    /// For each started 1,000 units of optmem.
+    pub memory_rate: u64,
+    /// For each started 1,000 load units.
+    pub load_rate: u64,
+    /// What a bill is raised to where it is lower.
+    pub minimum: u64,
+}
+
+impl Tariff {
+    /// The largest rate.
+    pub const MAX_RATE: u64 = 9_999;
+    /// The largest minimum.
+    pub const MAX_MINIMUM: u64 = 99_999;
+}
+
 // In each call below the pointers come from slices and references, so they are valid, and the lent ones overlap nothing else.
 
 /// Whether the bytes are a sheet: 1 to 6.
@@ -172,4 +190,14 @@ pub fn size(sheet: &[u8], ceiling: u64) -> Result<u64, Refusal> {
     let mut row = 0;
     Refusal::answer(unsafe { c::segtrace_size(sheet.as_ptr(), sheet.len(), ceiling, &mut row) })?;
     Ok(row)
+}
+
+/// The bill of a row in cents: 1 to 6, 7, 18.
+pub fn bill(sheet: &[u8], row: u64, tariff: Tariff) -> Result<u64, Refusal> {
+    let Tariff { memory_rate, load_rate, minimum } = tariff;
+    let mut cents = 0;
+    Refusal::answer(unsafe {
+        c::segtrace_bill(sheet.as_ptr(), sheet.len(), row, memory_rate, load_rate, minimum, &mut cents)
+    })?;
+    Ok(cents)
 }

@@ -36,11 +36,13 @@ pub enum Refusal {
     NoSuchReference,
     /// The reference is a first touch and has no margin.
     FirstTouch,
+    /// A rate or the minimum of a tariff lies outside its range.
+    TariffOutOfRange = 18,
 }
 
 impl Refusal {
     /// All refusals, in the order of their numbers.
-    pub const ALL: [Refusal; 15] = [
+    pub const ALL: [Refusal; 16] = [
         Refusal::SheetTooLong,
         Refusal::LineMalformed,
         Refusal::ValueMalformed,
@@ -56,9 +58,10 @@ impl Refusal {
         Refusal::RecorderFull,
         Refusal::NoSuchReference,
         Refusal::FirstTouch,
+        Refusal::TariffOutOfRange,
     ];
 
-    /// The number of the refusal, 1 to 15.
+    /// The number of the refusal.
     pub fn number(self) -> u64 {
         self as u64
     }
@@ -96,6 +99,7 @@ impl fmt::Display for Refusal {
             Refusal::RecorderFull => "the recorder has 2,048 references",
             Refusal::NoSuchReference => "there is no such reference",
             Refusal::FirstTouch => "a first touch has no margin",
+            Refusal::TariffOutOfRange => "a rate or the minimum lies outside its range",
         })
     }
 }

@@ -59,6 +59,13 @@ pub fn size(sheet: &[u8], ceiling: u64, row: &mut u64) -> u64 {
     })
 }
 
+pub fn bill(sheet: &[u8], row: u64, [memory_rate, load_rate, minimum]: [u64; 3], cents: &mut u64) -> u64 {
+    wrong::list(Call::Bill, from_mut(cents), |cents| unsafe {
+        let cents = cents.as_mut_ptr();
+        c::segtrace_bill(sheet.as_ptr(), sheet.len(), row, memory_rate, load_rate, minimum, cents)
+    })
+}
+
 pub fn start(sheet: &[u8], recorder: &mut Recorder) -> u64 {
     wrong::start(recorder, |Recorder { head, counts, sizes, h, d, last, sums }| unsafe {
         c::segtrace_recorder_start(

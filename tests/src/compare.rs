@@ -45,6 +45,8 @@ impl Case<'_> {
         self.list_call::<u64, 3>("price", Err(number), |out| calls::price(bytes, row, &schedule, out))?;
         self.list_call::<i64, 1>("margin", Err(number), |[out]| calls::margin(bytes, row, reference, out))?;
         self.list_call::<u64, 1>("size", Err(number), |[out]| calls::size(bytes, ceiling, out))?;
+        let rates = generate::rates(&mut self.prng);
+        self.list_call::<u64, 1>("bill", Err(number), |[out]| calls::bill(bytes, row, rates, out))?;
         self.start_refused(number)?;
         self.wrapper_refused(number, row, reference, ceiling, &schedule)
     }
@@ -79,6 +81,7 @@ impl Case<'_> {
         self.schedules(sheet, &all)?;
         self.margins(sheet)?;
         self.sizing(&all)?;
+        self.bills(sheet, &all)?;
         if sheet.sizes.len() <= enumerate::MOST_SEGS && sheet.refs.len() <= enumerate::MOST_REFS {
             self.demand_three(sheet)?;
         }
@@ -261,6 +264,25 @@ impl Case<'_> {
                 .map_err(|message| format!("{message} (ceiling {ceiling})"))?;
         }
         Ok(())
+    }
+
+    /// Bills of rows at rates and minimums in range, at its ends and beyond them, and with the minimum at the charge and beside it.
+    fn bills(&mut self, sheet: &Sheet, all: &[Figures]) -> Outcome {
+        let bytes = self.bytes;
+        for row in self.some_rows(sheet, 4) {
+            let rates = generate::rates(&mut self.prng);
+            let [memory_rate, load_rate, _] = rates;
+            let charge = reference::bill(&all[row], [memory_rate, load_rate, 0]).unwrap_or(0);
+            for minimum in [rates[2], charge.saturating_sub(1), charge, charge + 1] {
+                let rates = [memory_rate, load_rate, minimum];
+                let cents = reference::bill(&all[row], rates);
+                let want = cents.as_ref().map(std::array::from_ref).map_err(|&number| number);
+                self.list_call("bill", want, |[out]| calls::bill(bytes, row as u64, rates, out))
+                    .map_err(|message| format!("{message} (row {row}, rates and minimum {rates:?})"))?;
+            }
+        }
+        let (row, rates) = (self.no_row(sheet), generate::rates(&mut self.prng));
+        self.list_call::<u64, 1>("bill", Err(7), |[out]| calls::bill(bytes, row, rates, out))
     }
 
     // ---- Calls with lent places ----

@@ -310,6 +310,15 @@ fn common_divisor(x: u64, y: u64) -> u64 {
     }
 }
 
+/// Two rates and a minimum, now and then one out of range.
+pub fn rates(prng: &mut Prng) -> [u64; 3] {
+    [9_999, 9_999, 99_999].map(|most| match prng.below(40) {
+        0 => most + 1,
+        1 => prng.pick(&[1 << 16, 1 << 32, u64::MAX - 1, u64::MAX]),
+        _ => prng.any_size(0, most),
+    })
+}
+
 // ---- Damaged sheets ----
 
 /// The bytes of a sheet with one to three damages. Some of them leave it a sheet.

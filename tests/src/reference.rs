@@ -296,6 +296,15 @@ pub fn size(all: &[Figures], ceiling: u64) -> Result<u64, u64> {
     Ok(row.expect("a row of the least load") as u64)
 }
 
+/// The bill of a row's figures by two rates and a minimum. 18: one of them is out of range.
+pub fn bill(figures: &Figures, [memory_rate, load_rate, minimum]: [u64; 3]) -> Result<u64, u64> {
+    if memory_rate > 9_999 || load_rate > 9_999 || minimum > 99_999 {
+        return Err(18);
+    }
+    let started = |units: u64| units / 1_000 + u64::from(units % 1_000 > 0);
+    Ok((started(figures[OPTMEM]) * memory_rate + started(figures[LOAD]) * load_rate).max(minimum))
+}
+
 // ---- Schedules ----
 
 /// Which of the 256 segments are held in a step.

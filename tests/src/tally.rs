@@ -4,19 +4,22 @@
 pub struct Tally {
     calls: u64,
     /// For each number: the calls refused with it, and the sheets that had such a call.
-    refused: [u64; 16],
-    sheets: [u64; 16],
-    reached: [bool; 16],
+    refused: [u64; NUMBERS],
+    sheets: [u64; NUMBERS],
+    reached: [bool; NUMBERS],
 }
+
+/// One more than the largest number of a refusal.
+const NUMBERS: usize = 19;
 
 impl Tally {
     /// The numbers that every whole run must reach.
-    const REQUIRED: [usize; 15] = [1, 2, 3, 4, 5, 6, 7, 8, 9, 10, 11, 12, 13, 14, 15];
+    const REQUIRED: [usize; 16] = [1, 2, 3, 4, 5, 6, 7, 8, 9, 10, 11, 12, 13, 14, 15, 18];
 
     /// Notes a compared call of this sheet and the number that it returned.
     pub fn note(&mut self, number: u64) {
         self.calls += 1;
-        if (1..16).contains(&number) {
+        if (1..NUMBERS as u64).contains(&number) {
             self.refused[number as usize] += 1;
             self.reached[number as usize] = true;
         }
@@ -38,7 +41,7 @@ impl Tally {
     /// Adds what another thread counted.
     pub fn add(&mut self, other: &Tally) {
         self.calls += other.calls;
-        for number in 0..16 {
+        for number in 0..NUMBERS {
             self.refused[number] += other.refused[number];
             self.sheets[number] += other.sheets[number];
         }
@@ -50,7 +53,8 @@ impl Tally {
 
     /// A line for each number with its calls and its sheets.
     pub fn lines(&self) -> String {
-        let lines: Vec<String> = (1..16)
+        let lines: Vec<String> = Self::REQUIRED
+            .into_iter()
             .map(|number| {
                 format!("  {number:>2}: {:>10} calls, {:>9} sheets", self.refused[number], self.sheets[number])
             })

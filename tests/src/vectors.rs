@@ -42,6 +42,9 @@ fn examples() -> Vec<(Vec<u8>, Check)> {
         list.push((nothing.into_bytes(), Box::new(all_zero)));
     }
     list.push((sized_sheet(), Box::new(lowest_rows)));
+    for (sheet, rates, cents) in bills() {
+        list.push((sheet, Box::new(move |bytes| bill(bytes, rates, cents))));
+    }
     for (text, number) in verdicts() {
         list.push((text, Box::new(move |bytes| verdict(bytes, number))));
     }
@@ -138,6 +141,52 @@ fn lowest_rows(bytes: &[u8]) -> Outcome {
     for ceiling in [0, 11] {
         let returned = calls::size(bytes, ceiling, &mut 0);
         ensure(returned == 12, || format!("size: got {returned} for the ceiling {ceiling}, wanted 12"))?;
+    }
+    Ok(())
+}
+
+/// Sheets, two rates and a minimum, and the bill of row 0. One touch of size z has optmem z and load 1 + a * z.
+fn bills() -> Vec<(Vec<u8>, [u64; 3], u64)> {
+    let touch = |a: u64, z: u64| (a, vec![z], vec![0]);
+    let nothing = (0, vec![1], vec![]);
+    let largest = (255, vec![4_095, 4_095], (0..2_048).map(|step| step % 2).collect());
+    let list = [
+        (nothing.clone(), [7, 5, 0], 0),
+        (nothing, [7, 5, 3], 3),
+        (touch(0, 1), [7, 5, 0], 7 + 5),
+        (touch(0, 999), [7, 5, 0], 7 + 5),
+        (touch(0, 1_000), [7, 5, 0], 7 + 5),
+        (touch(0, 1_001), [7, 5, 0], 2 * 7 + 5),
+        (touch(1, 998), [7, 5, 0], 7 + 5),
+        (touch(1, 999), [7, 5, 0], 7 + 5),
+        (touch(1, 1_000), [7, 5, 0], 7 + 2 * 5),
+        (touch(1, 1_000), [0, 5, 0], 2 * 5),
+        (touch(1, 1_000), [7, 0, 0], 7),
+        (touch(1, 1_000), [7, 5, 16], 17),
+        (touch(1, 1_000), [7, 5, 17], 17),
+        (touch(1, 1_000), [7, 5, 18], 18),
+        (largest.clone(), [9_999, 9_999, 0], 21_467_473_038),
+        (largest, [9_999, 9_999, 99_999], 21_467_473_038),
+    ];
+    let rows = vec![Row { h: 0, d: 1 }];
+    let sheet = |(a, sizes, refs)| Sheet { kind: Kind::Space, a, sizes, rows: rows.clone(), refs };
+    list.map(|(parts, rates, cents)| (reference::write(&sheet(parts)), rates, cents)).to_vec()
+}
+
+fn bill(bytes: &[u8], rates: [u64; 3], want: u64) -> Outcome {
+    let mut cents = u64::MAX;
+    done("bill", calls::bill(bytes, 0, rates, &mut cents))?;
+    ensure(cents == want, || format!("bill: {cents} cents, wanted {want}"))?;
+    // Each number out of range is 18, and 7 comes first.
+    for place in 0..3 {
+        let mut odd = rates;
+        odd[place] = if place == 2 { 100_000 } else { 10_000 };
+        for (row, number) in [(0, 18), (1, 7)] {
+            let returned = calls::bill(bytes, row, odd, &mut cents);
+            ensure((returned, cents) == (number, want), || {
+                format!("bill: got {returned} at {odd:?}, wanted {number}")
+            })?;
+        }
     }
     Ok(())
 }

@@ -1,6 +1,7 @@
 //! The safe functions of the crate `segtrace`, compared with the reference.
 
 use crate::compare::{ensure, Case, Outcome};
+use crate::generate;
 use crate::reference::{self, Figures, Sheet, STEP};
 use segtrace::Refusal;
 use std::fmt::Debug;
@@ -42,6 +43,7 @@ impl Case<'_> {
         self.safe("price", segtrace::price(bytes, row, schedule), Err(number))?;
         self.safe("margin", segtrace::margin(bytes, row, reference), Err(number))?;
         self.safe("size", segtrace::size(bytes, ceiling), Err(number))?;
+        self.safe("bill", segtrace::bill(bytes, row, segtrace::Tariff::default()), Err(number))?;
         self.safe("Recorder::start", segtrace::Recorder::start(bytes).map(|_| ()), Err(number))?;
         ensure(out == [7; 40] && records == [OLD; 3], || "wrapper: a refused call changed its place".to_string())
     }
@@ -70,7 +72,12 @@ impl Case<'_> {
         let margin = reference::margin(sheet, sheet.rows[row], reference);
         self.safe("margin", segtrace::margin(bytes, number, reference), margin)?;
         let ceiling = all[row][reference::OPTMEM].saturating_sub(self.prng.next() & 1);
-        self.safe("size", segtrace::size(bytes, ceiling), reference::size(all, ceiling))
+        self.safe("size", segtrace::size(bytes, ceiling), reference::size(all, ceiling))?;
+        let rates = generate::rates(&mut self.prng);
+        let [memory_rate, load_rate, minimum] = rates;
+        let tariff = segtrace::Tariff { memory_rate, load_rate, minimum };
+        self.safe("bill", segtrace::bill(bytes, number, tariff), reference::bill(&all[row], rates))?;
+        self.safe("bill", segtrace::bill(bytes, no_row, tariff), Err(7))
     }
 
     /// A function that writes bytes into a place: long, exact, and short by one.

@@ -15,6 +15,7 @@ pub enum Call {
     Price,
     Margin,
     Size,
+    Bill,
     Start,
     Touch,
     TouchAll,
@@ -77,11 +78,11 @@ const PLACE_WAYS: [Way; 9] = [
     Way::Length,
     Way::LengthRefused,
 ];
-const LIST_CALLS: [Call; 5] = [Call::Figures, Call::Price, Call::Margin, Call::Size, Call::FiguresNow];
+const LIST_CALLS: [Call; 6] = [Call::Figures, Call::Price, Call::Margin, Call::Size, Call::Bill, Call::FiguresNow];
 const LIST_WAYS: [Way; 5] = [Way::OtherNumber, Way::Refused(7), Way::Idle, Way::LastItem, Way::ItemRefused];
 
 /// Wrong ways of single calls.
-const OTHERS: [(Call, Way); 29] = [
+const OTHERS: [(Call, Way); 31] = [
     (Call::Check, Way::OtherNumber),
     (Call::Check, Way::NotRefused(5)),
     (Call::Check, Way::Refused(6)),
@@ -91,6 +92,8 @@ const OTHERS: [(Call, Way); 29] = [
     (Call::Margin, Way::NotRefused(15)),
     (Call::Size, Way::Refused(12)),
     (Call::Size, Way::RowZero),
+    (Call::Bill, Way::NotRefused(18)),
+    (Call::Bill, Way::Refused(18)),
     (Call::Start, Way::OtherNumber),
     (Call::Start, Way::Idle),
     (Call::Start, Way::OneReference),

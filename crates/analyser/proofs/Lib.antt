@@ -1,4 +1,5 @@
 pub mod Alone
+pub mod BillResults
 pub mod Demand
 pub mod Entries
 pub mod Handed

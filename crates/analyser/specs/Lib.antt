@@ -1,4 +1,5 @@
 pub mod Answers
+pub mod Billing
 pub mod Demand
 pub mod Margins
 pub mod Recording

@@ -1,6 +1,7 @@
 // The public calls of the segment trace analyser, on bytes. None relies on a caller's check: each refuses for itself, and a refused call
 // gives zeros and changes nothing.
 // What each call answers is written in specs/ here and in the crates below; nothing is assumed.
+pub mod billing;
 pub mod margins;
 pub mod recording;
 pub mod sizing;
@@ -66,7 +67,7 @@ fn no_figures(why: Refusal) -> FiguresAnswer
 }
 
 // The figures of a row of an accepted sheet: those of the sheet with this row alone, for which the pass has one look at a reuse.
-fn row_alone(s: Sheet, row: usize) -> RowFigures
+pub(crate) fn row_alone(s: Sheet, row: usize) -> RowFigures
     requires { ⌜ Standing s × (row < s .rows) ⌝ }
     ensures { λ r. ⌜ r ≡ figuresAt (valueOf s) row ⌝ }
 {

@@ -16,6 +16,7 @@ ghost use Rattle.sheet.specs.Parts.{Put};
 ghost use Rattle.sheet.specs.Reading.{readSheet};
 ghost use Rattle.sheet.specs.Answers.{answerOf};
 ghost use Rattle.analyser.specs.Answers.{figuresAnswer, listingResult, scheduleResult, pricing};
+ghost use Rattle.analyser.specs.Billing.{billAnswer};
 ghost use Rattle.analyser.specs.Margins.{marginAnswer};
 ghost use Rattle.analyser.specs.Sizing.{sizeAnswer};
 ghost use Rattle.exports.specs.Exported.{orOld, figureList, figureLists, priceList, rewriteResult, rowsResult, PlaceCall};
@@ -230,6 +231,31 @@ pub extern "C" fn segtrace_size(sheet: &[u8], ceiling: u64, row: &mut u64) -> u6
     match verdict {
         Verdict::Accepted => {
             *row = answer.row as u64;
+            0
+        }
+        Verdict::Refused(why) => model::number(why),
+    }
+}
+
+// The bill of a row in cents, at two rates and a minimum: 1 to 6, 7, 18.
+#[no_mangle]
+pub extern "C" fn segtrace_bill(
+    sheet: &[u8],
+    row: u64,
+    memory_rate: u64,
+    load_rate: u64,
+    minimum: u64,
+    cents: &mut u64,
+) -> u64
+    ensures { λ r. ⌜ (r ≡ verdictNumber (billAnswer (now (sheet .entry)) row «memory_rate» «load_rate» minimum .verdict))
+        × (now (cents .exit) ≡ orOld (billAnswer (now (sheet .entry)) row «memory_rate» «load_rate» minimum .verdict)
+        (billAnswer (now (sheet .entry)) row «memory_rate» «load_rate» minimum .cents .0) (now (cents .entry))) ⌝ }
+{
+    let answer = analyser::billing::bill(sheet, row as usize, memory_rate, load_rate, minimum);
+    let verdict = answer.verdict;
+    match verdict {
+        Verdict::Accepted => {
+            *cents = answer.cents.0;
             0
         }
         Verdict::Refused(why) => model::number(why),

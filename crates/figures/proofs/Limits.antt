@@ -9,7 +9,8 @@ use lib.Dec.{ltb}
 use borrow.Author.Tests.{ltb-true}
 use Rattle.model.specs.Sums.{sum}
 use Rattle.model.specs.Traces.{Trace, segs, steps, entry, sizeOf, swapOf, unitOf, touching, overTouches, overSegments, unreferenced}
-use Rattle.model.specs.Figures.{refCost, refVolume, isReuse, ofTime, retentionOf, spaceOf, smaller, wsmem, wsspace, wsocc}
+use Rattle.model.specs.Figures.{refCost, refVolume, isReuse, ofTime, retentionOf, spaceOf, kept, misses, volume, load, optmem}
+use Rattle.model.specs.Figures.{smaller, wsmem, wsspace, wsocc}
 use Rattle.model.specs.Sheets.{SheetValue, Valid, traceOf}
 use Rattle.model.specs.Sheets.{largestA, mostSegs, largestSize, largestPrice, mostRefs}
 use Rattle.model.specs.declared.Kind.{Kind}
@@ -22,10 +23,13 @@ use Rattle.figures.specs.Sweep.{summed, byKind, largestSwap, retentionBo
 use Rattle.figures.proofs.Filed.{filed-below, ended-below}
 use Rattle.figures.proofs.Sweeps.{bucketBy, space-of, summed-buckets, summed-ends}
 
--- a number that may be left out
+-- one of two numbers, or one that may be left out
+either-within : (b : Bool) (x y m : ℕ) → x ≤ m → y ≤ m → cond b x y ≤ m
+either-within true x y m l r = l
+either-within false x y m l r = r
+
 left-out : (b : Bool) (x m : ℕ) → x ≤ m → cond b x 0 ≤ m
-left-out true x m le = le
-left-out false x m le = omega arith
+left-out b x m le = either-within b x 0 m le (omega arith)
 
 -- a sum over touches of terms within m
 touches-within : (T : Trace) (m : ℕ) (g : ℕ → ℕ → ℕ) → ((t i : ℕ) → t < steps T → i < segs T → g t i ≤ m) → overTouches T g ≤ steps T * m
@@ -127,6 +131,43 @@ module _ (s : SheetValue) (v : Valid s) where
         arith,
         touches-within T largestSize (λ t i. sizeOf T i) (λ t i lt l. v .size-within i l),
         product-within (steps T) largestSize mostRefs largestSize (v .refs-within) (omega arith),
+      )
+
+  -- optmem and load, at any prices
+  pub optmem-within : (h d : ℕ) → optmem (traceOf s) h d < 2 ^ 40
+  unfolding optmem
+  optmem-within h d =
+      let T = traceOf s in
+      omega (
+        arith,
+        cost-within,
+        touches-within T retentionBound (λ t i. cond (kept T h d t i) (retentionOf T t i) 0)
+            (λ t i lt l.
+            left-out (kept T h d t i) (retentionOf T t i) retentionBound (retention-within t i (omega (arith, v .refs-within)) l)),
+        product-within (steps T) retentionBound mostRefs retentionBound (v .refs-within) (omega arith),
+      )
+
+  missed-within : (h d : ℕ) → volume (traceOf s) h d ≤ mostRefs * largestSize
+  unfolding volume
+  missed-within h d =
+      let T = traceOf s in
+      omega (
+        arith,
+        touches-within T largestSize (λ t i. cond (kept T h d t i) 0 (sizeOf T i))
+            (λ t i lt l. either-within (kept T h d t i) 0 (sizeOf T i) largestSize (omega arith) (v .size-within i l)),
+        product-within (steps T) largestSize mostRefs largestSize (v .refs-within) (omega arith),
+      )
+
+  pub load-within : (h d : ℕ) → load (traceOf s) h d < 2 ^ 40
+  unfolding load misses
+  load-within h d =
+      let T = traceOf s in
+      omega (
+        arith,
+        v .refs-within,
+        touches-within T 1 (λ t i. cond (kept T h d t i) 0 1)
+            (λ t i lt l. either-within (kept T h d t i) 0 1 1 (omega arith) (omega arith)),
+        product-within (s .a) (volume T h d) largestA (mostRefs * largestSize) (v .a-within) (missed-within h d),
       )
 
   module _ (h d : ℕ) (fit : d ≤ largestPrice) where

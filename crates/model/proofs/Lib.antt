@@ -1,6 +1,7 @@
 pub mod Ascent
 pub mod Bits
 pub mod Bounds
+pub mod Charges
 pub mod Demand
 pub mod DoubleSums
 pub mod Empty
@@ -19,4 +20,5 @@ pub mod Sizing
 pub mod SizingExamples
 pub mod Sums
 pub mod Tables
+pub mod TariffExamples
 pub mod Touches

@@ -9,5 +9,6 @@ pub mod Schedules
 pub mod Sheets
 pub mod Sizing
 pub mod Sums
+pub mod Tariff
 pub mod Traces
 pub mod Values

@@ -1,9 +1,9 @@
--- The numbers for a refusal, as document 01 lists them, and for what a call answers. Assumes nothing.
+-- The numbers for a refusal, as documents 01 and 02 list them, and for what a call answers. Assumes nothing.
 use Prim.Native.Nat.{ℕ}
 use Rattle.model.specs.declared.Refusal.{Refusal}
 use Rattle.model.specs.declared.Verdict.{Verdict}
 use Rattle.model.specs.declared.Verdict.the-variants.{Accepted, Refused}
-use Rattle.model.specs.declared.Refusal.the-variants.{SheetTooLong, LineMalformed, ValueMalformed, OutOfRange, ThresholdNotAbove, BytesAfterEnd, NoSuchRow, ScheduleLength, TouchedNotHeld, HeldNotBefore, PlaceTooShort, NoRowFits, RecorderFull, NoSuchReference, FirstTouch}
+use Rattle.model.specs.declared.Refusal.the-variants.{SheetTooLong, LineMalformed, ValueMalformed, OutOfRange, ThresholdNotAbove, BytesAfterEnd, NoSuchRow, ScheduleLength, TouchedNotHeld, HeldNotBefore, PlaceTooShort, NoRowFits, RecorderFull, NoSuchReference, FirstTouch, TariffOutOfRange}
 
 -- the number of a refusal
 abbrev pub numberOf : Refusal → ℕ
@@ -22,6 +22,7 @@ numberOf NoRowFits = 12
 numberOf RecorderFull = 13
 numberOf NoSuchReference = 14
 numberOf FirstTouch = 15
+numberOf TariffOutOfRange = 18
 
 -- the number of what a call answers: 0 where it was carried out, else that of the refusal
 abbrev pub verdictNumber : Verdict → ℕ

@@ -1,5 +1,7 @@
 // A sheet by value with its limits, the cost rules of the segment trace analyser as functions on numbers, and the numbers of its refusals.
 // What each means is written in specs/; nothing is assumed.
+pub mod tariff;
+
 ghost use mathlib.Core.Path.{_≡_};
 ghost use Prim.Native.Nat.{_+_, _*_, _<_, _^_};
 ghost use Rattle.model.specs.Costs.{swapCost, unitCost, retention, keeps, totalCost, marginOf};
@@ -137,7 +139,7 @@ impl RowFigures {
     }
 }
 
-// Why a call refuses, a name for each number of the list in document 01.
+// Why a call refuses, a name for each number of the lists in documents 01 and 02.
 pub enum Refusal {
     SheetTooLong,
     LineMalformed,
@@ -154,6 +156,7 @@ pub enum Refusal {
     RecorderFull,
     NoSuchReference,
     FirstTouch,
+    TariffOutOfRange,
 }
 
 // Whether a call was carried out, or why it was refused.
@@ -188,6 +191,7 @@ pub fn number(r: Refusal) -> u64
         Refusal::RecorderFull => 13,
         Refusal::NoSuchReference => 14,
         Refusal::FirstTouch => 15,
+        Refusal::TariffOutOfRange => 18,
     }
 }
 
@@ -273,7 +277,7 @@ pub fn margin(priced_retention: u64, priced_swap: u64) -> i64
     (priced_swap as i64) - (priced_retention as i64)
 }
 
-// The total of an amount of memory and an amount of load at a row's prices: the one place where the two units meet.
+// The total of an amount of memory and an amount of load at a row's prices: with the tariff's bill the one place where the two units meet.
 pub fn total(row: PriceRow, memory: MemoryUnits, load: LoadUnits) -> u64
     requires { ⌜ (memory .0 < 2 ^ 47) × (load .0 < 2 ^ 47) ⌝ }
     ensures { λ r. ⌜ r ≡ totalCost (row .h) (row .d) (memory .0) (load .0) ⌝ }

@@ -1,0 +1,54 @@
+-- `billing::bill` meets its contract: what the sheet reads as decides. Assumes nothing.
+use mathlib.Core.Path.{sym, _∙_}
+use borrow.Author.Needs.{needs}
+use Rattle.analyser.specs.Billing.{noBill, billFor, tariffOf, billAnswer}
+use Rattle.analyser.proofs.Standings.{on-refused, on-accepted, stands}
+use Rattle.analyser.proofs.billing.bill.Statement.{statement}
+use Rattle.analyser.proofs.billing.bill.Tie as tie
+
+read-requires : tie.Need-read-requires
+read-requires c κs = search needs
+
+enum-known-verdict : tie.Need-enum-known-verdict
+enum-known-verdict c = search needs
+
+no-bill-requires : tie.Need-no-bill-requires
+no-bill-requires c κs = search needs
+
+enum-told : tie.Need-enum-told
+enum-told c = search needs
+
+sheet-bill-requires : tie.Need-sheet-bill-requires
+sheet-bill-requires c κs =
+    let r = c .before .before .before in
+    stands _ (r .read .result) (r .read .ensures) (cc)
+
+returns : tie.Need-returns
+unfolding billAnswer
+returns c =
+    let r = c .before .before .before .before .before in
+    let a = r .before .before .args in
+    let t = tariffOf (a .memory-rate) (a .load-rate) (a .minimum) in
+    c .no-bill .ensures
+    ∙ sym (on-refused _ (r .read .result) (r .read .ensures) _ (cc) noBill (λ v. billFor v (a .row) t))
+
+returns-2 : tie.Need-returns-2
+unfolding billAnswer
+returns-2 c =
+    let r = c .before .before .before .before in
+    let a = r .before .before .args in
+    let t = tariffOf (a .memory-rate) (a .load-rate) (a .minimum) in
+    c .sheet-bill .ensures
+    ∙ sym (on-accepted _ (r .read .result) (r .read .ensures) (cc) noBill (λ v. billFor v (a .row) t))
+
+pub bill-spec : {M : Type 1} → statement M
+bill-spec =
+    tie.close
+    (tie.spec
+    read-requires
+    enum-known-verdict
+    no-bill-requires
+    enum-told
+    sheet-bill-requires
+    returns
+    returns-2)

@@ -1,0 +1,34 @@
+-- `exports::segtrace_bill` meets its contract: the verdict of the bill decides. Assumes nothing.
+use borrow.Author.Needs.{needs}
+use mathlib.Core.Path.{refl}
+use Rattle.exports.proofs.Told.{accepted-tells, refused-tells}
+use Rattle.exports.proofs.segtrace_bill.Statement.{statement}
+use Rattle.exports.proofs.segtrace_bill.Tie as tie
+
+bill-requires : tie.Need-bill-requires
+bill-requires c κs = search needs
+
+enum-told : tie.Need-enum-told
+enum-told c = search needs
+
+enum-known-verdict : tie.Need-enum-known-verdict
+enum-known-verdict c = search needs
+
+number-requires : tie.Need-number-requires
+number-requires c κs = search needs
+
+returns : tie.Need-returns
+returns c =
+    let r = c .before .before in
+    accepted-tells (λ a. a .verdict) (λ a. a .cents .0) (r .bill .result) _ (r .bill .ensures) _ (cc) refl
+
+returns-2 : tie.Need-returns-2
+returns-2 c =
+    let r = c .before .before .before .before in
+    refused-tells (λ a. a .verdict) (λ a. a .cents .0) (r .bill .result) _ (r .bill .ensures) _
+    (c .before .before .verdict .given .1) (c .number .ensures)
+
+pub segtrace-bill-spec : {M : Type 1} → statement M
+segtrace-bill-spec =
+    tie.close
+    (tie.spec bill-requires enum-told enum-known-verdict number-requires returns returns-2)
