@@ -17,12 +17,14 @@ extern "C" {
 #endif
 
 /*
- * The most bytes of a sheet, of a listing and of a schedule; the most rows and references; more stack than a call uses. That no listing is
- * longer is proved (`listing-most`, crates/report/proofs/ListingMost.antt): each figure with as many digits as it can have.
+ * The most bytes of a sheet, of a listing, of two pages and of a schedule; the most rows and references; more stack than a call uses.
+ * That no listing is longer is proved (`listing-most`, crates/report/proofs/ListingMost.antt): each figure with as many digits as it can
+ * have.
  */
 enum {
     SEGTRACE_SHEET_BYTES = 20012,
     SEGTRACE_LISTING_BYTES = 11547,
+    SEGTRACE_PAGE_BYTES = 8760,
     SEGTRACE_SCHEDULE_BYTES = 65536,
     SEGTRACE_ROWS = 64,
     SEGTRACE_REFERENCES = 2048,
@@ -62,6 +64,10 @@ uint64_t segtrace_all_figures(const uint8_t *sheet, size_t sheet_length, uint64_
 
 /* The listing at the front of `out`, and its length: 1 to 6, 11. */
 uint64_t segtrace_listing(const uint8_t *sheet, size_t sheet_length, uint8_t *out, size_t out_length, uint64_t *written);
+
+/* The page for the binder, 60 lines of 72 characters and a line feed, at the front of `out`, two pages where there are more than 58 rows,
+   and their length, 4380 or 8760: 1 to 6, 11. */
+uint64_t segtrace_page(const uint8_t *sheet, size_t sheet_length, uint8_t *out, size_t out_length, uint64_t *written);
 
 /* The optimal schedule of a row, 32 bytes a step, at the front of `out`, and its length: 1 to 6, 7, 11. */
 uint64_t segtrace_optimal_schedule(const uint8_t *sheet, size_t sheet_length, uint64_t row, uint8_t *out, size_t out_length,

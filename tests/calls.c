@@ -14,7 +14,7 @@
 
 static uint8_t sheet[SEGTRACE_SHEET_BYTES];
 static size_t sheet_length;
-static uint8_t listing[SEGTRACE_LISTING_BYTES], schedule[SEGTRACE_SCHEDULE_BYTES], again[SEGTRACE_SHEET_BYTES];
+static uint8_t listing[SEGTRACE_LISTING_BYTES], page[SEGTRACE_PAGE_BYTES], schedule[SEGTRACE_SCHEDULE_BYTES], again[SEGTRACE_SHEET_BYTES];
 static uint64_t all[SEGTRACE_ROWS * SEGTRACE_FIGURES];
 static uint16_t segments[SEGTRACE_REFERENCES];
 
@@ -49,6 +49,7 @@ static void without_pointers(void)
     expect("rewrite, no place", segtrace_rewrite(one, one_length, NULL, 0, &written), 11);
     expect("all_figures, no place", segtrace_all_figures(one, one_length, NULL, 0, &written), 11);
     expect("listing, no place", segtrace_listing(one, one_length, NULL, 0, &written), 11);
+    expect("page, no place", segtrace_page(one, one_length, NULL, 0, &written), 11);
     expect("optimal_schedule, no place", segtrace_optimal_schedule(one, one_length, 0, NULL, 0, &written), 11);
     expect("price, no schedule", segtrace_price(one, one_length, 0, NULL, 0, price), 8);
     expect("written", written, 7);
@@ -91,6 +92,7 @@ static void *every_call(void *unused)
     expect("figures", segtrace_figures(sheet, sheet_length, 63, figures), 0);
     expect("all_figures", segtrace_all_figures(sheet, sheet_length, all, sizeof all / sizeof *all, &written), 0);
     expect("listing", segtrace_listing(sheet, sheet_length, listing, sizeof listing, &written), 0);
+    expect("page", segtrace_page(sheet, sheet_length, page, sizeof page, &written), 0);
     expect("optimal_schedule", segtrace_optimal_schedule(sheet, sheet_length, 63, schedule, sizeof schedule, &written), 0);
     expect("price", segtrace_price(sheet, sheet_length, 63, schedule, sizeof schedule, price), 0);
     expect("margin", segtrace_margin(sheet, sheet_length, 63, 2048, &margin), 0);

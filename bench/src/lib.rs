@@ -6,12 +6,14 @@
 mod digits;
 pub mod figures;
 pub mod listing;
+pub mod page;
 pub mod recorder;
 pub mod schedule;
 pub mod sheet;
 
 pub use figures::{all_figures, margin, row_figures, size, Figures};
 pub use listing::{listing, listing_of};
+pub use page::page;
 pub use recorder::Recorder;
 pub use schedule::{optimal_schedule, price, Price};
 pub use sheet::{Kind, Sheet};

@@ -17,6 +17,7 @@ const READING: &str = "reading (check)";
 const FIGURES: &str = "figures of one row, from bytes";
 const ALL_FIGURES: &str = "all figures, from bytes";
 const LISTING: &str = "listing, from bytes";
+const PAGE: &str = "page, from bytes";
 
 /// No call to be measured.
 const NONE: Option<fn(usize)> = None;
@@ -159,7 +160,7 @@ impl Table {
         self.recorder(&bytes, &read);
     }
 
-    /// Reading, figures and the listing, each from the bytes of a sheet.
+    /// Reading, figures, the listing and the page, each from the bytes of a sheet.
     fn figures(&self, bytes: &[Vec<u8>], row: u64) {
         let count = bytes.len();
         let mut sheet = Sheet::empty();
@@ -203,6 +204,16 @@ impl Table {
             },
             Some(|number: usize| {
                 segtrace::listing(black_box(&bytes[number]), black_box(&mut other_text)).expect("room");
+            }),
+        );
+        self.line(
+            PAGE,
+            count,
+            |number| {
+                plain::page(black_box(&bytes[number]), black_box(&mut text)).expect("room");
+            },
+            Some(|number: usize| {
+                segtrace::page(black_box(&bytes[number]), black_box(&mut other_text)).expect("room");
             }),
         );
     }
@@ -312,6 +323,8 @@ fn same_answers(bytes: &[Vec<u8>], read: &[Sheet], row: u64, schedules: &[Vec<u8
         let (mut ours, mut theirs) = (vec![0; 16_384], vec![0; 16_384]);
         let length = plain::listing(bytes, &mut ours).expect("room");
         assert!(segtrace::listing(bytes, &mut theirs) == Ok(length) && ours == theirs, "the listings differ");
+        let length = plain::page(bytes, &mut ours).expect("room");
+        assert!(segtrace::page(bytes, &mut theirs) == Ok(length) && ours == theirs, "the pages differ");
         let mut schedule = vec![0; wanted.len()];
         assert!(segtrace::optimal_schedule(bytes, row, &mut schedule) == Ok(wanted.len()), "the lengths differ");
         assert!(&schedule == wanted, "the schedules differ");

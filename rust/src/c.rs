@@ -37,6 +37,15 @@ extern "C" {
         written: *mut u64,
     ) -> u64;
 
+    /// The page for the binder.
+    pub fn segtrace_page(
+        sheet: *const u8,
+        sheet_length: usize,
+        out: *mut u8,
+        out_length: usize,
+        written: *mut u64,
+    ) -> u64;
+
     /// The optimal schedule of a row.
     pub fn segtrace_optimal_schedule(
         sheet: *const u8,

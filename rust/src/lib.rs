@@ -26,6 +26,8 @@ pub use refusal::Refusal;
 pub const SHEET_BYTES: usize = 20_012;
 /// The most bytes of a listing.
 pub const LISTING_BYTES: usize = 11_547;
+/// The most bytes of a page for the binder: two pages.
+pub const PAGE_BYTES: usize = 8_760;
 /// The most bytes of a schedule.
 pub const SCHEDULE_BYTES: usize = 65_536;
 /// The most rows of a sheet.
@@ -155,6 +157,16 @@ pub fn listing(sheet: &[u8], out: &mut [u8]) -> Result<usize, Refusal> {
     let mut written = 0;
     Refusal::answer(unsafe {
         c::segtrace_listing(sheet.as_ptr(), sheet.len(), out.as_mut_ptr(), out.len(), &mut written)
+    })?;
+    Ok(written as usize)
+}
+
+/// The page for the binder, 60 lines of 72 characters and a line feed, at the front of `out`; two pages where there are more than 58 rows.
+/// Gives the length, 4,380 or 8,760: 1 to 6, 11.
+pub fn page(sheet: &[u8], out: &mut [u8]) -> Result<usize, Refusal> {
+    let mut written = 0;
+    Refusal::answer(unsafe {
+        c::segtrace_page(sheet.as_ptr(), sheet.len(), out.as_mut_ptr(), out.len(), &mut written)
     })?;
     Ok(written as usize)
 }

@@ -34,6 +34,12 @@ pub fn listing(sheet: &[u8], out: &mut [u8], written: &mut u64) -> u64 {
     })
 }
 
+pub fn page(sheet: &[u8], out: &mut [u8], written: &mut u64) -> u64 {
+    wrong::lent(Call::Page, out, written, |out, written| unsafe {
+        c::segtrace_page(sheet.as_ptr(), sheet.len(), out.as_mut_ptr(), out.len(), written)
+    })
+}
+
 pub fn optimal_schedule(sheet: &[u8], row: u64, out: &mut [u8], written: &mut u64) -> u64 {
     wrong::lent(Call::OptimalSchedule, out, written, |out, written| unsafe {
         c::segtrace_optimal_schedule(sheet.as_ptr(), sheet.len(), row, out.as_mut_ptr(), out.len(), written)

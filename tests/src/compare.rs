@@ -39,6 +39,7 @@ impl Case<'_> {
         self.list_call::<u64, 11>("figures", Err(number), |out| calls::figures(bytes, row, out))?;
         self.call::<u64>("all_figures", Err(number), |out, written| calls::all_figures(bytes, out, written))?;
         self.call::<u8>("listing", Err(number), |out, written| calls::listing(bytes, out, written))?;
+        self.call::<u8>("page", Err(number), |out, written| calls::page(bytes, out, written))?;
         self.call::<u8>("optimal_schedule", Err(number), |out, written| {
             calls::optimal_schedule(bytes, row, out, written)
         })?;
@@ -76,6 +77,7 @@ impl Case<'_> {
         self.call("rewrite", Ok(bytes), |out, written| calls::rewrite(bytes, out, written))?;
         let listing = reference::listing(sheet, &all);
         self.call("listing", Ok(&listing), |out, written| calls::listing(bytes, out, written))?;
+        self.call("page", Ok(&reference::page(sheet, &all)), |out, written| calls::page(bytes, out, written))?;
         self.call("all_figures", Ok(all.as_flattened()), |out, written| calls::all_figures(bytes, out, written))?;
         self.figures(sheet, &all)?;
         self.schedules(sheet, &all)?;

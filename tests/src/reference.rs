@@ -276,6 +276,24 @@ pub fn listing(sheet: &Sheet, all: &[Figures]) -> Vec<u8> {
     text.into_bytes()
 }
 
+/// The page for the binder, and a second one for rows 58 to 63.
+pub fn page(sheet: &Sheet, all: &[Figures]) -> Vec<u8> {
+    let kind = if sheet.kind == Kind::Space { "space" } else { "time" };
+    let aligned = |fields: [String; 6]| {
+        let [h, d, misses, volume, load, mean] = fields;
+        format!("{h:>7}  {d:>7}  {misses:>8}  {volume:>12}  {load:>12}  {mean:>12}")
+    };
+    let mut text = String::new();
+    for rows in all.chunks(58) {
+        let mut lines = vec![format!("kind={kind} a={}", sheet.a)];
+        lines.push(aligned(["h", "d", "misses", "volume", "load", "mean"].map(String::from)));
+        lines.extend(rows.iter().map(|row| aligned([0, 1, 2, 3, 4, 10].map(|item| row[item].to_string()))));
+        lines.resize(60, String::new());
+        lines.iter().for_each(|line| text += &format!("{line:<72}\n"));
+    }
+    text.into_bytes()
+}
+
 /// The margin of a reference at a row. 14: it is not between 1 and refs. 15: it is a first touch.
 pub fn margin(sheet: &Sheet, row: Row, reference: u64) -> Result<i64, u64> {
     if reference < 1 || reference > sheet.refs.len() as u64 {

@@ -39,6 +39,7 @@ impl Case<'_> {
         self.safe("figures", segtrace::figures(bytes, row), Err(number))?;
         self.safe("all_figures", segtrace::all_figures(bytes, &mut records), Err(number))?;
         self.safe("listing", segtrace::listing(bytes, &mut out), Err(number))?;
+        self.safe("page", segtrace::page(bytes, &mut out), Err(number))?;
         self.safe("optimal_schedule", segtrace::optimal_schedule(bytes, row, &mut out), Err(number))?;
         self.safe("price", segtrace::price(bytes, row, schedule), Err(number))?;
         self.safe("margin", segtrace::margin(bytes, row, reference), Err(number))?;
@@ -57,6 +58,7 @@ impl Case<'_> {
         self.safe("check", segtrace::check(bytes), Ok(()))?;
         self.text("rewrite", bytes, |out| segtrace::rewrite(bytes, out))?;
         self.text("listing", &reference::listing(sheet, all), |out| segtrace::listing(bytes, out))?;
+        self.text("page", &reference::page(sheet, all), |out| segtrace::page(bytes, out))?;
         self.records(all)?;
         let (row, no_row) = (self.some_row(sheet), self.no_row(sheet));
         let number = row as u64;

@@ -11,6 +11,7 @@ pub enum Call {
     Figures,
     AllFigures,
     Listing,
+    Page,
     OptimalSchedule,
     Price,
     Margin,
@@ -66,7 +67,7 @@ pub enum Way {
 }
 
 /// Wrong ways of every call with a lent place, and of every call with a list of fixed length.
-const PLACE_CALLS: [Call; 4] = [Call::Rewrite, Call::AllFigures, Call::Listing, Call::OptimalSchedule];
+const PLACE_CALLS: [Call; 5] = [Call::Rewrite, Call::AllFigures, Call::Listing, Call::Page, Call::OptimalSchedule];
 const PLACE_WAYS: [Way; 9] = [
     Way::OtherNumber,
     Way::Refused(11),

@@ -12,7 +12,8 @@ use Rattle.model.specs.Demand.{rowSchedule}
 use Rattle.model.specs.Places.{placed, placeAnswer, nothingPlaced}
 use Rattle.model.specs.Rows.{zeroFigures}
 use Rattle.model.specs.Schedules.{optimalSchedule, optimalByte}
-use Rattle.model.specs.Sheets.{SheetValue, traceOf, rowAt, mostRows}
+use Rattle.model.specs.Sheets.{SheetValue, Valid, traceOf, rowAt, mostRows}
+use Rattle.model.specs.declared.Kind.{Kind}
 use Rattle.model.specs.declared.PlaceAnswer.{PlaceAnswer}
 use Rattle.model.specs.declared.Refusal.the-variants.{NoSuchRow, PlaceTooShort}
 use Rattle.model.specs.declared.RowFigures.{RowFigures}
@@ -22,6 +23,8 @@ use Rattle.sheet.proofs.Placing.{place-short}
 use Rattle.model.specs.Sums.{tabulate}
 use Rattle.figures.specs.Rows.{figuresAt, allFigures}
 use Rattle.report.specs.Listing.{listing, listingOf}
+use Rattle.page.specs.Page.{pages, pagesOf, Fits}
+use Rattle.page.proofs.Fitting.{every-field-fits}
 use Rattle.schedule.specs.Checking.{noPrice, priceAnswer}
 use Rattle.analyser.specs.Answers.{PlaceLeft, gives, scheduleFor, priceFor}
 
@@ -72,6 +75,19 @@ pub text-fits : (text place : List ℕ) {n : ℕ} → length text ≡ n → n �
     → (_≡_ {A = PlaceAnswer} (record { verdict = Accepted; length = n }) (placeAnswer text place)) × (text ++ drop n place ≡ placed text place)
 unfolding placed placeAnswer
 text-fits text place e fits = let h = le-leb (length text) (length place) (omega arith) in (rw (h, e), rw (h, e))
+
+-- the page of a sheet from its kind, its a and the figures of all rows
+pub page-is : (v : SheetValue) {kind : Kind} {a : ℕ} (rows : ℕ) → v .kind ≡ kind → v .a ≡ a → length (v .rows) ≡ rows
+    → length (v .rows) ≤ mostRows → pages kind a (take rows (allFigures v)) ≡ pagesOf v
+unfolding pagesOf
+page-is v rows k a c most = rw (← k, ← a, ← c, figures-front v most)
+
+-- and every field of it fits
+pub page-fits : (v : SheetValue) → Valid v → {rows : ℕ} {all : List RowFigures} → length (v .rows) ≡ rows → all ≡ allFigures v
+    → (r : ℕ) → r < rows → Fits (getD all r zeroFigures)
+page-fits v ok {rows} c e r lt =
+    let here : r < length (v .rows) = omega (arith, c) in
+    rw (e, figures-at v r zeroFigures here (ok .rows-within)) (every-field-fits v ok r here)
 
 -- the optimal schedule has 32 bytes for each reference
 pub schedule-length : (v : SheetValue) (r : ℕ) → length (rowSchedule v r) ≡ 32 * length (v .refs)

@@ -126,6 +126,14 @@ module _ (s : Sheet) (c : Standing s) where
   pub listing-of : listing (s .refs) (s .segs) (take (s .rows) (allFigures (valueOf s))) ≡ listingOf (valueOf s)
   listing-of = listing-is (valueOf s) (s .refs) (s .segs) (s .rows) refs-counted segs-counted rows-counted (c .valid .rows-within)
 
+  pub kind-is : valueOf s .kind ≡ s .kind
+  unfolding valueOf
+  kind-is = refl
+
+  pub a-is : valueOf s .a ≡ s .a
+  unfolding valueOf
+  a-is = refl
+
   pub row-of : (r : ℕ) → r < s .rows → rowAt (valueOf s) r ≡ getD (s .prices) r (record { h = 0; d = 0 })
   unfolding valueOf
   row-of r lt = getD-take (s .rows) (s .prices) r (record { h = 0; d = 0 }) lt

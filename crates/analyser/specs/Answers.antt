@@ -18,6 +18,7 @@ use Rattle.model.specs.declared.Sheet.{Sheet}
 use Rattle.figures.specs.Rows.{noFigures, figuresOf}
 use Rattle.figures.specs.declared.FiguresAnswer.{FiguresAnswer}
 use Rattle.report.specs.Listing.{listingOf, refusedText}
+use Rattle.page.specs.Page.{pagesOf}
 use Rattle.schedule.specs.Checking.{noPrice, priceAnswer}
 use Rattle.schedule.specs.declared.PriceAnswer.{PriceAnswer}
 
@@ -72,6 +73,10 @@ listingResult s = onSheet (readSheet s) refuses (λ v. gives (listingOf v))
 -- with its number (`numberOf`)
 unfoldable pub printedText : List ℕ → List ℕ
 printedText s = onSheet (readSheet s) refusedText listingOf
+
+-- the page for the binder of the sheet that the bytes stand for: 1 to 6, then 11 by the place (request F-2)
+unfoldable pub pageResult : List ℕ → Result
+pageResult s = onSheet (readSheet s) refuses (λ v. gives (pagesOf v))
 
 -- the optimal schedule of row r of a sheet: 7 where there is no such row
 unfoldable pub scheduleFor : SheetValue → ℕ → Result

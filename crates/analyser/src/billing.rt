@@ -1,10 +1,10 @@
 // Billing: what a run at a row costs by the loading tariff.
 // What is answered is written in specs/Billing.antt; nothing is assumed.
 use model::Refusal;
+use model::Sheet;
 use model::Verdict;
 use model::tariff::Cents;
 use model::tariff::Tariff;
-use model::Sheet;
 ghost use mathlib.Core.Path.{_≡_};
 ghost use Prim.Native.Nat.{_<_};
 ghost use Rattle.model.specs.Values.{valueOf};

@@ -25,8 +25,9 @@ ghost use Rattle.model.specs.Values.{valueOf};
 ghost use Rattle.sheet.specs.Answers.{answerOf};
 ghost use Rattle.figures.specs.Rows.{noFigures, figuresAt, figuresOf, allFigures};
 ghost use Rattle.report.specs.Listing.{listingOf};
+ghost use Rattle.page.specs.Page.{pagesOf};
 ghost use Rattle.schedule.specs.Checking.{noPrice};
-ghost use Rattle.analyser.specs.Answers.{Standing, PlaceLeft, gives, writeResult, figuresAnswer, listingResult, printedText, scheduleFor, scheduleResult, priceFor, pricing};
+ghost use Rattle.analyser.specs.Answers.{Standing, PlaceLeft, gives, writeResult, figuresAnswer, listingResult, pageResult, printedText, scheduleFor, scheduleResult, priceFor, pricing};
 
 // The sheet that a run of bytes stands for, or the refusal (1 to 6) and the empty sheet.
 pub fn read(bytes: &[u8]) -> SheetAnswer
@@ -159,6 +160,29 @@ pub fn printed(bytes: &[u8], out: &mut [u8]) -> PlaceAnswer
     match verdict {
         Verdict::Refused(why) => report::write_refusal(why, out),
         Verdict::Accepted => sheet_listing(s, out),
+    }
+}
+
+// The page or the two pages of an accepted sheet into a lent place, or 11.
+fn sheet_page(s: Sheet, out: &mut [u8]) -> PlaceAnswer
+    requires { ⌜ Standing s ⌝ }
+    ensures { λ r. ⌜ PlaceLeft (gives (pagesOf (valueOf s))) (now (out .entry)) (now (out .exit)) r ⌝ }
+{
+    let kind = s.kind;
+    let all = all_figures(s);
+    page::write(kind, s.a, all, s.rows, out)
+}
+
+// The page for the binder into a lent place, two where there are more than 58 rows, then its old contents: refused with 1 to 6, 11.
+pub fn page(bytes: &[u8], out: &mut [u8]) -> PlaceAnswer
+    ensures { λ r. ⌜ PlaceLeft (pageResult (now (bytes .entry))) (now (out .entry)) (now (out .exit)) r ⌝ }
+{
+    let answer = sheet::reading::read(bytes);
+    let verdict = answer.verdict;
+    let s = answer.sheet;
+    match verdict {
+        Verdict::Refused(why) => nothing(why),
+        Verdict::Accepted => sheet_page(s, out),
     }
 }
 

@@ -15,7 +15,7 @@ ghost use Rattle.model.specs.Refusals.{verdictNumber};
 ghost use Rattle.sheet.specs.Parts.{Put};
 ghost use Rattle.sheet.specs.Reading.{readSheet};
 ghost use Rattle.sheet.specs.Answers.{answerOf};
-ghost use Rattle.analyser.specs.Answers.{figuresAnswer, listingResult, scheduleResult, pricing};
+ghost use Rattle.analyser.specs.Answers.{figuresAnswer, listingResult, pageResult, scheduleResult, pricing};
 ghost use Rattle.analyser.specs.Billing.{billAnswer};
 ghost use Rattle.analyser.specs.Margins.{marginAnswer};
 ghost use Rattle.analyser.specs.Sizing.{sizeAnswer};
@@ -158,6 +158,15 @@ pub extern "C" fn segtrace_listing(sheet: &[u8], out: &mut [u8], written: &mut u
         (now (written .entry)) (now (written .exit)) r ⌝ }
 {
     tell(analyser::listing(sheet, out), written)
+}
+
+// The page for the binder, or two pages, and their length: 1 to 6, 11.
+#[no_mangle]
+pub extern "C" fn segtrace_page(sheet: &[u8], out: &mut [u8], written: &mut u64) -> u64
+    ensures { λ r. ⌜ PlaceCall (pageResult (now (sheet .entry))) (now (out .entry)) (now (out .exit))
+        (now (written .entry)) (now (written .exit)) r ⌝ }
+{
+    tell(analyser::page(sheet, out), written)
 }
 
 // The optimal schedule of a row, and its length: 1 to 6, 7, 11.

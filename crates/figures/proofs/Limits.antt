@@ -32,7 +32,7 @@ left-out : (b : Bool) (x m : ℕ) → x ≤ m → cond b x 0 ≤ m
 left-out b x m le = either-within b x 0 m le (omega arith)
 
 -- a sum over touches of terms within m
-touches-within : (T : Trace) (m : ℕ) (g : ℕ → ℕ → ℕ) → ((t i : ℕ) → t < steps T → i < segs T → g t i ≤ m) → overTouches T g ≤ steps T * m
+pub touches-within : (T : Trace) (m : ℕ) (g : ℕ → ℕ → ℕ) → ((t i : ℕ) → t < steps T → i < segs T → g t i ≤ m) → overTouches T g ≤ steps T * m
 unfolding touching
 touches-within T m g le = sum-within (steps T) m (touching T g) (λ t lt. go t lt (ltb (entry T t) (segs T)) refl)
   where
@@ -41,7 +41,7 @@ touches-within T m g le = sum-within (steps T) m (touching T g) (λ t lt. go t l
     go t lt false e = rw e (omega arith)
 
 module _ (s : SheetValue) (v : Valid s) where
-  units-within : (i : ℕ) → i < segs (traceOf s) → unitOf (traceOf s) i ≤ largestSize
+  pub units-within : (i : ℕ) → i < segs (traceOf s) → unitOf (traceOf s) i ≤ largestSize
   units-within i lt = unit-within (s .kind) (sizeOf (traceOf s) i) largestSize (omega arith) (v .size-within i lt)
 
   swap-within : (i : ℕ) → i < segs (traceOf s) → swapOf (traceOf s) i ≤ largestSwap
@@ -172,17 +172,15 @@ module _ (s : SheetValue) (v : Valid s) where
 
   module _ (h d : ℕ) (fit : d ≤ largestPrice) where
     -- the smaller value is within d × R, so what a touch adds to wsocc is within d × (u − 1) × z
-    occupied-within : (t i : ℕ) → t ≤ mostRefs → i < segs (traceOf s)
-        → byKind (s .kind) (sizeOf (traceOf s) i * smaller (traceOf s) h d t i) (smaller (traceOf s) h d t i)
-        ≤ largestPrice * retentionBound
+    pub occupied-space : (t i : ℕ) → byKind (s .kind) (sizeOf (traceOf s) i * smaller (traceOf s) h d t i) (smaller (traceOf s) h d t i)
+        ≤ d * spaceOf (traceOf s) t i
     unfolding smaller
-    occupied-within t i le lt =
+    occupied-space t i =
         let T = traceOf s in
         omega (
           arith,
           item (s .kind) (isReuse (unreferenced T t i)) (retentionOf T t i) (h * swapOf T i) (sizeOf T i),
           ap (λ n. d * n) (space-of (s .kind) (sizeOf T i) (unreferenced T t i)),
-          product-within d (spaceOf T t i) largestPrice retentionBound fit (times-within t i (sizeOf T i) le (v .size-within i lt)),
         )
       where
         item : (kind : Kind) (b : Bool) (R hw z : ℕ)
@@ -193,6 +191,18 @@ module _ (s : SheetValue) (v : Valid s) where
         item Time false R hw z = omega arith
         item Space true R hw z = omega arith
         item Space false R hw z = omega arith
+
+    -- and so within the largest price times the largest retention
+    occupied-within : (t i : ℕ) → t ≤ mostRefs → i < segs (traceOf s)
+        → byKind (s .kind) (sizeOf (traceOf s) i * smaller (traceOf s) h d t i) (smaller (traceOf s) h d t i)
+        ≤ largestPrice * retentionBound
+    occupied-within t i le lt =
+        let T = traceOf s in
+        omega (
+          arith,
+          occupied-space t i,
+          product-within d (spaceOf T t i) largestPrice retentionBound fit (times-within t i (sizeOf T i) le (v .size-within i lt)),
+        )
 
     -- the references' cost or volume, and S over all touches and end intervals
     total-within : (S : ℕ → ℕ → ℕ) (base : ℕ) → base ≤ mostRefs * largestSize

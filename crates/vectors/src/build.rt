@@ -51,6 +51,23 @@ pub fn largest(place: &mut [u8]) -> usize {
     repeat(place, touches, b"ref=255\n", 2048)
 }
 
+// Puts a sheet with so many rows and one reference into a place and gives its length.
+pub fn with_rows(place: &mut [u8], rows: u8) -> usize {
+    let head = put(place, 0, b"kind=space\na=1\nsegs=1\nsize=3\nrows=");
+    let count = [48 + rows / 10 % 10, 48 + rows % 10];
+    let mut next = put(place, head, &count);
+    next = put(place, next, b"\n");
+    let mut r: u8 = 0;
+    while r < rows {
+        next = put(place, next, b"row=1");
+        let digits = [48 + r / 10 % 10, 48 + r % 10];
+        next = put(place, next, &digits);
+        next = put(place, next, b"/7\n");
+        r += 1;
+    }
+    put(place, next, b"refs=1\nref=0\n")
+}
+
 // Puts a part, a number of 19,000 digits and another part into a place and gives their length.
 pub fn long_number(place: &mut [u8], before: &[u8], after: &[u8]) -> usize {
     let digits = put(place, 0, before);

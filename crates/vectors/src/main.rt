@@ -1,14 +1,16 @@
 // A test program: answers of the public calls, compared with what the documents say and not proved. For a sheet it prints the number of
 // its refusal, 0 where it is accepted; for the tables of document 002 their columns; for a schedule the refusal and what is answered; last the
-// digits of numbers.
+// digits of numbers, and lines of pages.
 mod build;
 mod show;
 
 use build::largest;
 use build::long_number;
+use build::with_rows;
 use show::digits;
 use show::memory;
 use show::occupancy;
+use show::page;
 use show::price;
 use show::schedule;
 use show::sheet;
@@ -31,6 +33,7 @@ fn main() {
     prices_of_schedules();
     schedule_places();
     powers_of_ten();
+    pages();
 }
 
 fn examples() {
@@ -598,4 +601,22 @@ fn powers_of_ten() {
     digits(power - 1);
     digits(power);
     digits(18446744073709551615);
+}
+
+// Pages of 57, 58, 59 and 64 rows.
+fn pages() {
+    rows_on_pages(b"57 rows", 57);
+    rows_on_pages(b"58 rows", 58);
+    rows_on_pages(b"59 rows", 59);
+    rows_on_pages(b"64 rows", 64);
+    page(b"no sheet", b"kind=");
+}
+
+// The page of a sheet with so many rows.
+fn rows_on_pages(label: &[u8], rows: u8) {
+    let mut bytes = [0u8; 1024];
+    let n = with_rows(&mut bytes, rows);
+    if n <= bytes.len() {
+        page(label, &bytes[..n]);
+    }
 }

@@ -87,6 +87,38 @@ fn unchanged(place: &[u8]) -> u64 {
     n
 }
 
+// A line of a page of so many bytes, counted from 0; nothing where there is no such line.
+fn line(place: &[u8], length: usize, k: usize) {
+    if k < 120 {
+        let start = 73 * k;
+        let after = start + 73;
+        if after <= length {
+            if after <= place.len() {
+                io::write_all(STDOUT_FILENO, &place[start..after]);
+            }
+        }
+    }
+}
+
+// What writing the page answers: the refusal and the length, and the lines at which pages begin and end.
+pub fn page(text: &[u8], bytes: &[u8]) {
+    let mut place = [46u8; 8760];
+    let answer = analyser::page(bytes, &mut place);
+    let verdict = answer.verdict;
+    label(text);
+    value(model::verdict_number(verdict));
+    value(answer.length as u64);
+    end();
+    line(&place, answer.length, 0);
+    line(&place, answer.length, 1);
+    line(&place, answer.length, 2);
+    line(&place, answer.length, 59);
+    line(&place, answer.length, 60);
+    line(&place, answer.length, 61);
+    line(&place, answer.length, 62);
+    line(&place, answer.length, 67);
+}
+
 // The digits that the number writer writes.
 pub fn digits(n: u64) {
     let mut place = [0u8; 20];

@@ -1,0 +1,55 @@
+-- `analyser::page` meets its contract: what the sheet reads as decides. Assumes nothing.
+use borrow.Author.Needs.{needs}
+use Rattle.page.specs.Page.{pagesOf}
+use Rattle.analyser.specs.Answers.{gives, refuses, pageResult}
+use Rattle.analyser.proofs.Standings.{result-refused, on-accepted, stands}
+use Rattle.analyser.proofs.page.Statement.{statement}
+use Rattle.analyser.proofs.page.Tie as tie
+
+read-requires : tie.Need-read-requires
+read-requires c κs = search needs
+
+enum-known-verdict : tie.Need-enum-known-verdict
+enum-known-verdict c = search needs
+
+nothing-requires : tie.Need-nothing-requires
+nothing-requires c κs = search needs
+
+enum-told : tie.Need-enum-told
+enum-told c = search needs
+
+sheet-page-requires : tie.Need-sheet-page-requires
+sheet-page-requires c κs =
+    let r = c .before .before .before .before in
+    stands _ (r .read .result) (r .read .ensures) (cc)
+
+returns : tie.Need-returns
+unfolding pageResult
+returns c =
+    let r = c .before .before .before .before .before in
+    let a = c .before .before .before .before .before .before .before .before .args in
+    result-refused (a .bytes .now) (r .read .result) (r .read .ensures) (a .out .now) (λ v. gives (pagesOf v)) (c .nothing .ensures) (cc)
+
+same-length : tie.Need-same-length
+same-length c = search needs
+
+returns-2 : tie.Need-returns-2
+unfolding pageResult
+returns-2 c =
+    let r = c .before .before .before .before .before .before .before in
+    let a = c .before .before .before .before .before .before .before .before .before .before .args in
+    rw (on-accepted (a .bytes .now) (r .read .result) (r .read .ensures) (cc) refuses (λ v. gives (pagesOf v)))
+    (c .before .before .sheet-page .ensures)
+
+pub page-spec : {M : Type 1} → statement M
+page-spec =
+    tie.close
+    (tie.spec
+    read-requires
+    enum-known-verdict
+    nothing-requires
+    enum-told
+    sheet-page-requires
+    returns
+    same-length
+    returns-2)

@@ -1,0 +1,66 @@
+-- `page::put_blanks` meets its contract. The loop's invariant: `i` blanks are put from `at` on. Assumes nothing.
+use mathlib.Core.Path.{_≡_, refl, ap}
+use Prim.Native.Nat.{_+_, _-_, _≤_}
+use native.Mathlib.Nat.{add-zero}
+use native.Mathlib.Omega.{arith}
+use lib.ListN.{length, length-set}
+use Rattle.sheet.specs.Parts.{Put}
+use Rattle.sheet.proofs.Putting.{put-nothing, put-same}
+use Rattle.page.specs.Page.{blanks}
+use Rattle.page.proofs.Blanks.{blanks-next}
+use borrow.Author.Needs.{needs}
+use Rattle.page.proofs.put_blanks.Statement.{statement}
+use Rattle.page.proofs.put_blanks.Tie as tie
+
+abbrev Inv-loop : tie.InvT-loop
+Inv-loop n out₀ at i₀ out i = (i ≤ n) × (length out ≡ length out₀) × Put (blanks i) at out₀ (at + i) out
+
+abbrev μ-loop : tie.MeasureT-loop
+μ-loop n out₀ at i₀ out i = n - i
+
+loop-holds : tie.Need-loop-holds Inv-loop μ-loop
+loop-holds c = (omega arith, refl, rw add-zero (put-nothing _ _ (omega arith)))
+
+add-out : tie.Need-add-out Inv-loop μ-loop
+add-out c = search needs
+
+slice-write-out : tie.Need-slice-write-out Inv-loop μ-loop
+slice-write-out c = search needs
+
+add-i : tie.Need-add-i Inv-loop μ-loop
+add-i c = search needs
+
+loop-less : tie.Need-loop-less Inv-loop μ-loop
+loop-less c = search needs
+
+loop-again : tie.Need-loop-again Inv-loop μ-loop
+loop-again c =
+    let l = c .before .loop in (omega arith, simp length-set (l .inv .1), blanks-next _ _ _ _ (omega arith) (l .inv .2))
+
+add-result : tie.Need-add-result Inv-loop μ-loop
+add-result c = search needs
+
+same-length : tie.Need-same-length Inv-loop μ-loop
+same-length c = search needs
+
+returns : tie.Need-returns Inv-loop μ-loop
+returns c =
+    let l = c .before .loop in
+    let e : l .i ≡ c .before .before .args .n = omega arith in
+    (put-same (ap (λ k. blanks k) e) (l .inv .2), omega arith)
+
+pub put-blanks-spec : {M : Type 1} → statement M
+put-blanks-spec =
+    tie.close
+    (tie.spec
+    Inv-loop
+    μ-loop
+    loop-holds
+    add-out
+    slice-write-out
+    add-i
+    loop-less
+    loop-again
+    add-result
+    same-length
+    returns)

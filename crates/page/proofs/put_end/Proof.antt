@@ -1,0 +1,27 @@
+-- `page::put_end` meets its contract: the blanks are put, and then the line feed. Assumes nothing.
+use native.Mathlib.Omega.{arith}
+use Rattle.sheet.proofs.Putting.{put-then, put-byte}
+use borrow.Author.Needs.{needs}
+use Rattle.page.proofs.put_end.Statement.{statement}
+use Rattle.page.proofs.put_end.Tie as tie
+
+put-blanks-requires : tie.Need-put-blanks-requires
+put-blanks-requires c κs = search needs
+
+slice-write-out : tie.Need-slice-write-out
+slice-write-out c = search needs
+
+add-result : tie.Need-add-result
+add-result c = search needs
+
+same-length : tie.Need-same-length
+same-length c = search needs
+
+returns : tie.Need-returns
+returns c =
+    let b = c .before .before .put-blanks in
+    (put-then (b .ensures .0) (put-byte 10 (b .result) _ (omega arith)), omega arith)
+
+pub put-end-spec : {M : Type 1} → statement M
+put-end-spec =
+    tie.close (tie.spec put-blanks-requires slice-write-out add-result same-length returns)

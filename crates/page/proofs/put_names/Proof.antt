@@ -1,0 +1,22 @@
+-- `page::put_names` meets its contract: the line is the text that is put. Assumes nothing.
+use native.Mathlib.Omega.{arith}
+use Rattle.page.specs.Page.{namesLine, pageLine, columns}
+use borrow.Author.Needs.{needs}
+use Rattle.page.proofs.put_names.Statement.{statement}
+use Rattle.page.proofs.put_names.Tie as tie
+
+slice-aggregate-put : tie.Need-slice-aggregate-put
+slice-aggregate-put c = search needs
+
+put-requires : tie.Need-put-requires
+put-requires c κs = search needs
+
+same-length : tie.Need-same-length
+same-length c = search needs
+
+returns : tie.Need-returns
+unfolding namesLine pageLine columns
+returns c = let p = c .before .before .put .ensures in (p, omega (arith, p .ends))
+
+pub put-names-spec : {M : Type 1} → statement M
+put-names-spec = tie.close (tie.spec slice-aggregate-put put-requires same-length returns)

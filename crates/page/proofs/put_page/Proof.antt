@@ -1,0 +1,54 @@
+-- `page::put_page` meets its contract: its parts are put one after another. Assumes nothing.
+use native.Mathlib.Omega.{arith}
+use Rattle.sheet.proofs.Putting.{put-then, put-same}
+use Rattle.page.proofs.Parts.{page-parts}
+use borrow.Author.Needs.{needs}
+use Rattle.page.proofs.put_page.Statement.{statement}
+use Rattle.page.proofs.put_page.Tie as tie
+
+put-title-requires : tie.Need-put-title-requires
+put-title-requires c κs = search needs
+
+put-names-requires : tie.Need-put-names-requires
+put-names-requires c κs = search needs
+
+put-rows-requires : tie.Need-put-rows-requires
+put-rows-requires c κs = search needs
+
+sub-put-blank-lines : tie.Need-sub-put-blank-lines
+sub-put-blank-lines c = search needs
+
+sub-put-blank-lines-2 : tie.Need-sub-put-blank-lines-2
+sub-put-blank-lines-2 c = search needs
+
+put-blank-lines-requires : tie.Need-put-blank-lines-requires
+put-blank-lines-requires c κs = search needs
+
+same-length : tie.Need-same-length
+same-length c = search needs
+
+returns : tie.Need-returns
+returns c =
+    let b = c .before .before in
+    let r = b .before .before .before .before in
+    let n = r .before .before .before .before in
+    let t = n .before .before .before .before in
+    let s = t .before .before .before in
+    let a = s .args in
+    let q = put-then (t .put-title .ensures .0)
+    (put-then (n .put-names .ensures .0) (put-then (r .put-rows .ensures .0) (b .put-blank-lines .ensures .0))) in
+    let p = page-parts (a .kind) (a .a) (a .figures) (a .first) (a .end) (omega (arith, s .pre)) (omega (arith, s .pre, s .good)) in
+    (put-same p q, omega arith)
+
+pub put-page-spec : {M : Type 1} → statement M
+put-page-spec =
+    tie.close
+    (tie.spec
+    put-title-requires
+    put-names-requires
+    put-rows-requires
+    sub-put-blank-lines
+    sub-put-blank-lines-2
+    put-blank-lines-requires
+    same-length
+    returns)

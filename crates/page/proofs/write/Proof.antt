@@ -1,0 +1,46 @@
+-- `page::write` meets its contract: a place that is too short stays, and else the pages are put at its front. Assumes nothing.
+use mathlib.Core.Path.{sym, _∙_}
+use Prim.Native.Nat.{_≤_}
+use native.Mathlib.Omega.{arith}
+use lib.ListN.{length}
+use Rattle.sheet.proofs.Placing.{place-short, place-put}
+use Rattle.page.proofs.Lines.{pages-least, pages-two, taken-length}
+use borrow.Author.Needs.{needs}
+use Rattle.page.proofs.write.Statement.{statement}
+use Rattle.page.proofs.write.Tie as tie
+
+pages-length-requires : tie.Need-pages-length-requires
+pages-length-requires c κs = search needs
+
+returns : tie.Need-returns
+returns c =
+    let s = c .before .before .before in
+    let a = s .args in
+    let room : a .rows ≤ length (a .figures) = omega (arith, s .pre, s .good) in
+    let l = taken-length (a .kind) (a .a) (a .figures) (a .rows) (omega (arith, s .good)) (s .pre .0) room (s .pre .1) in
+    place-short _ _ (omega (arith, l, c .before .pages-length .ensures, c .if1 .taken))
+
+put-pages-requires : tie.Need-put-pages-requires
+put-pages-requires c κs =
+    let s = c .before .before .before .before in
+    let p = c .before .before .pages-length in (
+      s .pre .0,
+      s .pre .1,
+      omega (arith, pages-least (s .args .rows), p .ensures),
+      (λ l. omega (arith, pages-two (s .args .rows) l, p .ensures)),
+    )
+
+same-length : tie.Need-same-length
+same-length c = search needs
+
+returns-2 : tie.Need-returns-2
+returns-2 c =
+    let s = c .before .before .before .before .before .before .before in
+    let a = s .args in
+    let room : a .rows ≤ length (a .figures) = omega (arith, s .pre, s .good) in
+    let l = taken-length (a .kind) (a .a) (a .figures) (a .rows) (omega (arith, s .good)) (s .pre .0) room (s .pre .1) in
+    place-put _ _ _ _ _ (c .before .before .before .before .before .pages-length .ensures ∙ sym l) (c .before .before .put-pages .ensures)
+
+pub write-spec : {M : Type 1} → statement M
+write-spec =
+    tie.close (tie.spec pages-length-requires returns put-pages-requires same-length returns-2)
