@@ -7,18 +7,6 @@ use Rattle.analyser.proofs.Standings.{on-refused, on-accepted, stands}
 use Rattle.analyser.proofs.figures.Statement.{statement}
 use Rattle.analyser.proofs.figures.Tie as tie
 
-read-requires : tie.Need-read-requires
-read-requires c κs = search needs
-
-enum-known-verdict : tie.Need-enum-known-verdict
-enum-known-verdict c = search needs
-
-no-figures-requires : tie.Need-no-figures-requires
-no-figures-requires c κs = search needs
-
-enum-told : tie.Need-enum-told
-enum-told c = search needs
-
 sheet-figures-requires : tie.Need-sheet-figures-requires
 sheet-figures-requires c κs =
     let r = c .before .before .before in
@@ -42,10 +30,10 @@ pub figures-spec : {M : Type 1} → statement M
 figures-spec =
     tie.close
     (tie.spec
-    read-requires
-    enum-known-verdict
-    no-figures-requires
-    enum-told
+    (λ c κs. search needs)
+    (λ c. search needs)
+    (λ c κs. search needs)
+    (λ c. search needs)
     sheet-figures-requires
     returns
     returns-2)

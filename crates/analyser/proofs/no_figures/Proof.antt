@@ -3,11 +3,8 @@ use borrow.Author.Needs.{needs}
 use Rattle.analyser.proofs.no_figures.Statement.{statement}
 use Rattle.analyser.proofs.no_figures.Tie as tie
 
-zero-requires : tie.Need-zero-requires
-zero-requires c κs = search needs
-
 returns : tie.Need-returns
 returns c = cc
 
 pub no-figures-spec : {M : Type 1} → statement M
-no-figures-spec = tie.close (tie.spec zero-requires returns)
+no-figures-spec = tie.close (tie.spec (λ c κs. search needs) returns)

@@ -5,18 +5,6 @@ use Rattle.analyser.proofs.Standings.{result-refused, on-accepted, stan
 use Rattle.analyser.proofs.optimal_schedule.Statement.{statement}
 use Rattle.analyser.proofs.optimal_schedule.Tie as tie
 
-read-requires : tie.Need-read-requires
-read-requires c κs = search needs
-
-enum-known-verdict : tie.Need-enum-known-verdict
-enum-known-verdict c = search needs
-
-nothing-requires : tie.Need-nothing-requires
-nothing-requires c κs = search needs
-
-enum-told : tie.Need-enum-told
-enum-told c = search needs
-
 sheet-schedule-requires : tie.Need-sheet-schedule-requires
 sheet-schedule-requires c κs =
     let r = c .before .before .before .before in
@@ -28,9 +16,6 @@ returns c =
     let r = c .before .before .before .before .before in
     let a = c .before .before .before .before .before .before .before .before .args in
     result-refused (a .bytes .now) (r .read .result) (r .read .ensures) (a .out .now) (λ v. scheduleFor v (a .row)) (c .nothing .ensures) (cc)
-
-same-length : tie.Need-same-length
-same-length c = search needs
 
 returns-2 : tie.Need-returns-2
 unfolding scheduleResult
@@ -44,11 +29,11 @@ pub optimal-schedule-spec : {M : Type 1} → statement M
 optimal-schedule-spec =
     tie.close
     (tie.spec
-    read-requires
-    enum-known-verdict
-    nothing-requires
-    enum-told
+    (λ c κs. search needs)
+    (λ c. search needs)
+    (λ c κs. search needs)
+    (λ c. search needs)
     sheet-schedule-requires
     returns
-    same-length
+    (λ c. search needs)
     returns-2)

@@ -7,18 +7,6 @@ use Rattle.analyser.proofs.Standings.{on-refused, on-accepted, stands}
 use Rattle.analyser.proofs.price.Statement.{statement}
 use Rattle.analyser.proofs.price.Tie as tie
 
-read-requires : tie.Need-read-requires
-read-requires c κs = search needs
-
-enum-known-verdict : tie.Need-enum-known-verdict
-enum-known-verdict c = search needs
-
-no-price-requires : tie.Need-no-price-requires
-no-price-requires c κs = search needs
-
-enum-told : tie.Need-enum-told
-enum-told c = search needs
-
 sheet-price-requires : tie.Need-sheet-price-requires
 sheet-price-requires c κs =
     let r = c .before .before .before in
@@ -42,10 +30,10 @@ pub price-spec : {M : Type 1} → statement M
 price-spec =
     tie.close
     (tie.spec
-    read-requires
-    enum-known-verdict
-    no-price-requires
-    enum-told
+    (λ c κs. search needs)
+    (λ c. search needs)
+    (λ c κs. search needs)
+    (λ c. search needs)
     sheet-price-requires
     returns
     returns-2)

@@ -7,25 +7,10 @@ use Rattle.analyser.proofs.Standings.{text-refused, on-accepted, stands
 use Rattle.analyser.proofs.printed.Statement.{statement}
 use Rattle.analyser.proofs.printed.Tie as tie
 
-read-requires : tie.Need-read-requires
-read-requires c κs = search needs
-
-enum-known-verdict : tie.Need-enum-known-verdict
-enum-known-verdict c = search needs
-
-write-refusal-requires : tie.Need-write-refusal-requires
-write-refusal-requires c κs = search needs
-
-enum-told : tie.Need-enum-told
-enum-told c = search needs
-
 sheet-listing-requires : tie.Need-sheet-listing-requires
 sheet-listing-requires c κs =
     let r = c .before .before .before .before in
     stands _ (r .read .result) (r .read .ensures) (cc)
-
-same-length : tie.Need-same-length
-same-length c = search needs
 
 returns : tie.Need-returns
 unfolding printedText
@@ -34,9 +19,6 @@ returns c =
     let a = r .before .before .before .args in
     text-refused (a .bytes .now) (r .read .result) (r .read .ensures) refusedText listingOf (text-left (c .before .before .write-refusal .ensures))
     (c .before .before .before .before .before .verdict .given .1)
-
-same-length-2 : tie.Need-same-length-2
-same-length-2 c = search needs
 
 returns-2 : tie.Need-returns-2
 unfolding printedText
@@ -50,12 +32,12 @@ pub printed-spec : {M : Type 1} → statement M
 printed-spec =
     tie.close
     (tie.spec
-    read-requires
-    enum-known-verdict
-    write-refusal-requires
-    enum-told
+    (λ c κs. search needs)
+    (λ c. search needs)
+    (λ c κs. search needs)
+    (λ c. search needs)
     sheet-listing-requires
-    same-length
+    (λ c. search needs)
     returns
-    same-length-2
+    (λ c. search needs)
     returns-2)

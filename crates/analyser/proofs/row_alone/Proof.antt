@@ -14,20 +14,8 @@ use Rattle.analyser.proofs.Standings.{rows-counted, row-of}
 use Rattle.analyser.proofs.row_alone.Statement.{statement}
 use Rattle.analyser.proofs.row_alone.Tie as tie
 
-mul-price : tie.Need-mul-price
-mul-price c = search needs
-
-array-copy-out-price : tie.Need-array-copy-out-price
-array-copy-out-price c = search needs
-
-array-share-prefix-sizes : tie.Need-array-share-prefix-sizes
-array-share-prefix-sizes c = search needs
-
 slice-aggregate-figures : tie.Need-slice-aggregate-figures
 slice-aggregate-figures c = sym (length-take-le _ _ (omega (arith, c .before .before .before .before .before .pre .0)))
-
-array-share-prefix-touches : tie.Need-array-share-prefix-touches
-array-share-prefix-touches c = search needs
 
 slice-aggregate-figures-2 : tie.Need-slice-aggregate-figures-2
 slice-aggregate-figures-2 c = sym (length-take-le _ _ (omega (arith, c .before .before .before .before .before .before .pre .0)))
@@ -38,9 +26,6 @@ figures-requires c κs =
     let s = c .before .before .before .before .before .before in
     let n = rows-counted (s .args .s) (s .pre .0) in
     (omega arith, rw (row-of (s .args .s) (s .pre .0) (s .args .row) (s .pre .1)) at (alone-valid (valueOf (s .args .s)) (s .pre .0 .valid) (s .args .row) (omega (arith, s .pre .1))))
-
-array-copy-out-result : tie.Need-array-copy-out-result
-array-copy-out-result c = search needs
 
 returns : tie.Need-returns
 unfolding valueOf
@@ -56,12 +41,12 @@ pub row-alone-spec : {M : Type 1} → statement M
 row-alone-spec =
     tie.close
     (tie.spec
-    mul-price
-    array-copy-out-price
-    array-share-prefix-sizes
+    (λ c. search needs)
+    (λ c. search needs)
+    (λ c. search needs)
     slice-aggregate-figures
-    array-share-prefix-touches
+    (λ c. search needs)
     slice-aggregate-figures-2
     figures-requires
-    array-copy-out-result
+    (λ c. search needs)
     returns)

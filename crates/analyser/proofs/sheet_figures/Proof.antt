@@ -9,18 +9,12 @@ use Rattle.analyser.proofs.Standings.{rows-counted}
 use Rattle.analyser.proofs.sheet_figures.Statement.{statement}
 use Rattle.analyser.proofs.sheet_figures.Tie as tie
 
-no-figures-requires : tie.Need-no-figures-requires
-no-figures-requires c κs = search needs
-
 returns : tie.Need-returns
 unfolding figuresOf
 returns c =
     let s = c .before .before .before in
     let n = rows-counted (s .args .s) (s .pre) in
     rw (le-ltb (s .args .row) (length (valueOf (s .args .s) .rows)) (omega (arith, c .before .if1 .taken))) (c .no-figures .ensures)
-
-row-alone-requires : tie.Need-row-alone-requires
-row-alone-requires c κs = search needs
 
 returns-2 : tie.Need-returns-2
 unfolding figuresOf
@@ -30,4 +24,4 @@ returns-2 c =
     rw (lt-ltb (s .args .row) (length (valueOf (s .args .s) .rows)) (omega (arith, c .before .if1 .left)), c .row-alone .ensures)
 
 pub sheet-figures-spec : {M : Type 1} → statement M
-sheet-figures-spec = tie.close (tie.spec no-figures-requires returns row-alone-requires returns-2)
+sheet-figures-spec = tie.close (tie.spec (λ c κs. search needs) returns (λ c κs. search needs) returns-2)

@@ -7,17 +7,11 @@ use Rattle.analyser.proofs.Standings.{listing-of}
 use Rattle.analyser.proofs.sheet_listing.Statement.{statement}
 use Rattle.analyser.proofs.sheet_listing.Tie as tie
 
-all-figures-requires : tie.Need-all-figures-requires
-all-figures-requires c κs = search needs
-
 write-requires : tie.Need-write-requires
 write-requires c κs =
     let f = c .before in
     let b = f .before .before in
     (b .pre .rows-within, rw (f .all-figures .ensures, listing-of (b .args .s) (b .pre)) (listing-most (valueOf (b .args .s)) (b .pre .valid)))
-
-same-length : tie.Need-same-length
-same-length c = search needs
 
 returns : tie.Need-returns
 returns c =
@@ -25,4 +19,4 @@ returns c =
     text-left (rw (c .before .before .before .before .all-figures .ensures, listing-of (b .args .s) (b .pre)) at (c .before .before .write .ensures))
 
 pub sheet-listing-spec : {M : Type 1} → statement M
-sheet-listing-spec = tie.close (tie.spec all-figures-requires write-requires same-length returns)
+sheet-listing-spec = tie.close (tie.spec (λ c κs. search needs) write-requires (λ c. search needs) returns)

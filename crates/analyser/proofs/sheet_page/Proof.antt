@@ -6,17 +6,11 @@ use Rattle.analyser.proofs.Standings.{kind-is, a-is, rows-counted}
 use Rattle.analyser.proofs.sheet_page.Statement.{statement}
 use Rattle.analyser.proofs.sheet_page.Tie as tie
 
-all-figures-requires : tie.Need-all-figures-requires
-all-figures-requires c κs = search needs
-
 write-requires : tie.Need-write-requires
 write-requires c κs =
     let f = c .before .all-figures .ensures in
     let b = c .before .before .before in
     (b .pre .rows-within, page-fits (valueOf (b .args .s)) (b .pre .valid) (rows-counted (b .args .s) (b .pre)) f)
-
-same-length : tie.Need-same-length
-same-length c = search needs
 
 returns : tie.Need-returns
 returns c =
@@ -26,4 +20,4 @@ returns c =
     text-left (rw (c .before .before .before .before .all-figures .ensures, l) at (c .before .before .write .ensures))
 
 pub sheet-page-spec : {M : Type 1} → statement M
-sheet-page-spec = tie.close (tie.spec all-figures-requires write-requires same-length returns)
+sheet-page-spec = tie.close (tie.spec (λ c κs. search needs) write-requires (λ c. search needs) returns)

@@ -10,21 +10,12 @@ use Rattle.analyser.proofs.Standings.{valid-limits, rows-counted, row-o
 use Rattle.analyser.proofs.sheet_price.Statement.{statement}
 use Rattle.analyser.proofs.sheet_price.Tie as tie
 
-no-price-requires : tie.Need-no-price-requires
-no-price-requires c κs = search needs
-
 returns : tie.Need-returns
 returns c =
     let s = c .before .before .before .before in
     let n = rows-counted (s .args .s) (s .pre) in
     c .no-price .ensures
     ∙ sym (price-no-row (valueOf (s .args .s)) (s .args .row) (s .args .schedule .now) (omega (arith, c .before .if1 .taken)))
-
-mul-price : tie.Need-mul-price
-mul-price c = search needs
-
-array-copy-out-price : tie.Need-array-copy-out-price
-array-copy-out-price c = search needs
 
 array-share-prefix-sizes : tie.Need-array-share-prefix-sizes
 array-share-prefix-sizes c = omega (arith, c .before .before .before .before .before .before .before .pre)
@@ -55,10 +46,10 @@ pub sheet-price-spec : {M : Type 1} → statement M
 sheet-price-spec =
     tie.close
     (tie.spec
-    no-price-requires
+    (λ c κs. search needs)
     returns
-    mul-price
-    array-copy-out-price
+    (λ c. search needs)
+    (λ c. search needs)
     array-share-prefix-sizes
     slice-aggregate-price
     array-share-prefix-touches

@@ -11,18 +11,12 @@ use Rattle.analyser.proofs.Standings.{valid-limits, rows-counted, refs-
 use Rattle.analyser.proofs.sheet_schedule.Statement.{statement}
 use Rattle.analyser.proofs.sheet_schedule.Tie as tie
 
-nothing-requires : tie.Need-nothing-requires
-nothing-requires c κs = search needs
-
 returns : tie.Need-returns
 returns c =
     let s = c .before .before .before .before in
     let n = rows-counted (s .args .s) (s .pre) in
     rw (c .nothing .ensures)
     (schedule-no-row (valueOf (s .args .s)) (s .args .row) (s .args .out .now) (omega (arith, c .before .if1 .taken)))
-
-nothing-requires-2 : tie.Need-nothing-requires-2
-nothing-requires-2 c κs = search needs
 
 returns-2 : tie.Need-returns-2
 returns-2 c =
@@ -32,12 +26,6 @@ returns-2 c =
     rw (c .nothing2 .ensures)
     (schedule-short (valueOf (s .args .s)) (s .args .row) (s .args .out .now)
     (omega (arith, c .before .before .if1 .left)) (omega (arith, c .before .if2 .taken)))
-
-mul-write-optimal : tie.Need-mul-write-optimal
-mul-write-optimal c = search needs
-
-array-copy-out-write-optimal : tie.Need-array-copy-out-write-optimal
-array-copy-out-write-optimal c = search needs
 
 array-share-prefix-sizes : tie.Need-array-share-prefix-sizes
 array-share-prefix-sizes c = omega (arith, c .before .before .before .before .before .before .before .before .pre)
@@ -64,9 +52,6 @@ of-steps-requires c κs = omega (arith, c .before .before .before .before .befor
 length-requires : tie.Need-length-requires
 length-requires c κs = omega (arith, c .of-steps .ensures, c .before .before .before .before .before .before .before .before .before .before .before .before .before .before .before .pre)
 
-same-length : tie.Need-same-length
-same-length c = search needs
-
 returns-3 : tie.Need-returns-3
 unfolding valueOf
 returns-3 c =
@@ -86,12 +71,12 @@ pub sheet-schedule-spec : {M : Type 1} → statement M
 sheet-schedule-spec =
     tie.close
     (tie.spec
-    nothing-requires
+    (λ c κs. search needs)
     returns
-    nothing-requires-2
+    (λ c κs. search needs)
     returns-2
-    mul-write-optimal
-    array-copy-out-write-optimal
+    (λ c. search needs)
+    (λ c. search needs)
     array-share-prefix-sizes
     slice-aggregate-write-optimal
     array-share-prefix-touches
@@ -99,5 +84,5 @@ sheet-schedule-spec =
     write-optimal-requires
     of-steps-requires
     length-requires
-    same-length
+    (λ c. search needs)
     returns-3)

@@ -45,12 +45,6 @@ returns : tie.Need-returns Inv-loop μ-loop
 unfolding valueFrom
 returns c = (omega arith, ((λ h. absurd (omega arith)), refl))
 
-shared-slice-read-first : tie.Need-shared-slice-read-first Inv-loop μ-loop
-shared-slice-read-first c = search needs
-
-is-digit-requires : tie.Need-is-digit-requires Inv-loop μ-loop
-is-digit-requires c κs = search needs
-
 returns-2 : tie.Need-returns-2 Inv-loop μ-loop
 unfolding valueFrom
 returns-2 c = (omega arith, ((λ h. absurd (omega arith)), refl))
@@ -70,12 +64,6 @@ cast-v c = omega (arith, first-bounds (c .before))
 loop-holds : tie.Need-loop-holds Inv-loop μ-loop
 loop-holds c = led-start _ (c .before .before .before .before .if1 .left) (first-digit (c .before)) (c .if3 .left)
 
-shared-slice-read-b : tie.Need-shared-slice-read-b Inv-loop μ-loop
-shared-slice-read-b c = search needs
-
-is-digit-requires-2 : tie.Need-is-digit-requires-2 Inv-loop μ-loop
-is-digit-requires-2 c κs = search needs
-
 returns-4 : tie.Need-returns-4 Inv-loop μ-loop
 returns-4 c = led-gives _ _ _ (c .before .before .before .before .loop .inv)
 
@@ -94,12 +82,6 @@ add-v c =
     let d = c .before .before .before in
     omega (arith, led-room _ _ _ (d .before .loop .inv) (d .loop-test .taken), next-bounds c)
 
-add-i : tie.Need-add-i Inv-loop μ-loop
-add-i c = search needs
-
-loop-less : tie.Need-loop-less Inv-loop μ-loop
-loop-less c = search needs
-
 loop-again : tie.Need-loop-again Inv-loop μ-loop
 loop-again c =
     let d = c .before .before .before in led-step _ _ _ (d .before .loop .inv) (d .loop-test .taken) (next-digit c)
@@ -114,21 +96,21 @@ front-spec =
     Inv-loop
     μ-loop
     returns
-    shared-slice-read-first
-    is-digit-requires
+    (λ c. search needs)
+    (λ c κs. search needs)
     returns-2
     returns-3
     sub-v
     cast-v
     loop-holds
-    shared-slice-read-b
-    is-digit-requires-2
+    (λ c. search needs)
+    (λ c κs. search needs)
     returns-4
     mul-v
     sub-v-2
     cast-v-2
     add-v
-    add-i
-    loop-less
+    (λ c. search needs)
+    (λ c. search needs)
     loop-again
     returns-5)

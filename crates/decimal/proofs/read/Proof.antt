@@ -18,17 +18,11 @@ Inv-loop s lo hi v₀ i₀ v i = Scanned s hi v i
 abbrev μ-loop : tie.MeasureT-loop
 μ-loop s lo hi v₀ i₀ v i = length s - i
 
-begins-requires : tie.Need-begins-requires Inv-loop μ-loop
-begins-requires c κs = search needs
-
 returns : tie.Need-returns Inv-loop μ-loop
 returns c = sym (reading-none _ _ _ (c .before .begins .ensures ∙ rw (not-true (c .before .begins .result) (c .if1 .taken))))
 
 loop-holds : tie.Need-loop-holds Inv-loop μ-loop
 loop-holds c = scan-start _ _ (c .before .begins .ensures ∙ rw (not-false (c .before .begins .result) (c .if1 .left)))
-
-shared-slice-read-b : tie.Need-shared-slice-read-b Inv-loop μ-loop
-shared-slice-read-b c = search needs
 
 returns-2 : tie.Need-returns-2 Inv-loop μ-loop
 returns-2 c =
@@ -39,15 +33,6 @@ returns-3 : tie.Need-returns-3 Inv-loop μ-loop
 returns-3 c =
     let d = c .before .before .before in
     sym (scan-stop _ _ _ _ (d .before .loop .inv) _ (d .loop-test .taken) (above-digit _ (c .if3 .taken)))
-
-pushed-requires : tie.Need-pushed-requires Inv-loop μ-loop
-pushed-requires c κs = search needs
-
-add-i : tie.Need-add-i Inv-loop μ-loop
-add-i c = search needs
-
-loop-less : tie.Need-loop-less Inv-loop μ-loop
-loop-less c = search needs
 
 loop-again : tie.Need-loop-again Inv-loop μ-loop
 loop-again c =
@@ -65,9 +50,6 @@ returns-5 c =
     let d = c .before .before in
     sym (scan-out _ _ _ _ (d .before .loop .inv) _ (d .loop-test .left) (λ l u. omega arith))
 
-cast-t14 : tie.Need-cast-t14 Inv-loop μ-loop
-cast-t14 c = search needs
-
 returns-6 : tie.Need-returns-6 Inv-loop μ-loop
 returns-6 c =
     let d = c .before .before in
@@ -79,17 +61,17 @@ read-spec =
     (tie.spec
     Inv-loop
     μ-loop
-    begins-requires
+    (λ c κs. search needs)
     returns
     loop-holds
-    shared-slice-read-b
+    (λ c. search needs)
     returns-2
     returns-3
-    pushed-requires
-    add-i
-    loop-less
+    (λ c κs. search needs)
+    (λ c. search needs)
+    (λ c. search needs)
     loop-again
     returns-4
     returns-5
-    cast-t14
+    (λ c. search needs)
     returns-6)

@@ -41,12 +41,6 @@ returns c =
     let l = c .before .before .loop in
     written-exact (l .w) _ (l .inv .1) (l .inv .2) (omega (arith, l .inv .0, c .if1 .taken))
 
-add-w : tie.Need-add-w Inv-loop μ-loop
-add-w c = search needs
-
-loop-less : tie.Need-loop-less Inv-loop μ-loop
-loop-less c = search needs
-
 loop-again : tie.Need-loop-again Inv-loop μ-loop
 loop-again c =
     let l = c .before .before .loop in (
@@ -63,4 +57,4 @@ returns-2 c =
 
 pub width-spec : {M : Type 1} → statement M
 width-spec =
-    tie.close (tie.spec Inv-loop μ-loop loop-holds mul-power returns add-w loop-less loop-again returns-2)
+    tie.close (tie.spec Inv-loop μ-loop loop-holds mul-power returns (λ c. search needs) (λ c. search needs) loop-again returns-2)

@@ -24,33 +24,9 @@ abbrev μ-loop : tie.MeasureT-loop
 left-bound : (n k j : ℕ) → n < 10 ^ k → k ≡ j → n < 10 ^ j
 left-bound n k j h e = rw e at h
 
-width-requires : tie.Need-width-requires Inv-loop μ-loop
-width-requires c κs = search needs
-
 loop-holds : tie.Need-loop-holds Inv-loop μ-loop
 loop-holds c =
     let e = c .width .ensures in (refl, rw e (fill-start _ _ _ (c .before .before .pre)), rw e (written-below _))
-
-sub-left : tie.Need-sub-left Inv-loop μ-loop
-sub-left c = search needs
-
-add-put-pair : tie.Need-add-put-pair Inv-loop μ-loop
-add-put-pair c = search needs
-
-add-put-pair-2 : tie.Need-add-put-pair-2 Inv-loop μ-loop
-add-put-pair-2 c = search needs
-
-put-pair-requires : tie.Need-put-pair-requires Inv-loop μ-loop
-put-pair-requires c κs = search needs
-
-add-put-pair-3 : tie.Need-add-put-pair-3 Inv-loop μ-loop
-add-put-pair-3 c = search needs
-
-put-pair-requires-2 : tie.Need-put-pair-requires-2 Inv-loop μ-loop
-put-pair-requires-2 c κs = search needs
-
-loop-less : tie.Need-loop-less Inv-loop μ-loop
-loop-less c = search needs
 
 loop-again : tie.Need-loop-again Inv-loop μ-loop
 loop-again c =
@@ -61,9 +37,6 @@ loop-again c =
       fill-four _ _ _ _ _ _ (l .inv .1) (omega arith) (four .put-pair .ensures) (two .put-pair2 .ensures),
       rest-below _ _ _ (l .inv .2) (omega arith),
     )
-
-add-result : tie.Need-add-result Inv-loop μ-loop
-add-result c = search needs
 
 same-length : tie.Need-same-length Inv-loop μ-loop
 same-length c = c .before .before .loop .inv .0
@@ -77,12 +50,6 @@ cast-out c = omega (arith, left-bound _ _ 1 (c .before .before .before .loop .in
 add-out : tie.Need-add-out Inv-loop μ-loop
 add-out c = omega (arith, left-bound _ _ 1 (c .before .before .before .loop .inv .2) (omega arith))
 
-slice-write-out : tie.Need-slice-write-out Inv-loop μ-loop
-slice-write-out c = search needs
-
-add-result-2 : tie.Need-add-result-2 Inv-loop μ-loop
-add-result-2 c = search needs
-
 same-length-2 : tie.Need-same-length-2 Inv-loop μ-loop
 same-length-2 c = simp length-set (c .before .before .before .loop .inv .0)
 
@@ -94,35 +61,17 @@ returns-2 c =
 put-pair-requires-3 : tie.Need-put-pair-requires-3 Inv-loop μ-loop
 put-pair-requires-3 c κs = (omega (arith, left-bound _ _ 2 (c .before .before .before .before .before .loop .inv .2) (omega arith)), omega arith)
 
-add-result-3 : tie.Need-add-result-3 Inv-loop μ-loop
-add-result-3 c = search needs
-
-same-length-3 : tie.Need-same-length-3 Inv-loop μ-loop
-same-length-3 c = search needs
-
 returns-3 : tie.Need-returns-3 Inv-loop μ-loop
 returns-3 c =
     let l = c .before .before .before .before .before .before .before .before .loop in
     let b = left-bound _ _ 2 (l .inv .2) (omega arith) in
     (omega arith, fill-last-two _ _ _ _ _ (l .inv .1) (omega arith) b (c .before .before .put-pair3 .ensures))
 
-add-put-pair-4 : tie.Need-add-put-pair-4 Inv-loop μ-loop
-add-put-pair-4 c = search needs
-
-put-pair-requires-4 : tie.Need-put-pair-requires-4 Inv-loop μ-loop
-put-pair-requires-4 c κs = search needs
-
 cast-out-2 : tie.Need-cast-out-2 Inv-loop μ-loop
 cast-out-2 c = omega (arith, left-bound _ _ 3 (c .before .before .before .before .before .before .before .before .loop .inv .2) (omega arith))
 
 add-out-2 : tie.Need-add-out-2 Inv-loop μ-loop
 add-out-2 c = omega (arith, left-bound _ _ 3 (c .before .before .before .before .before .before .before .before .loop .inv .2) (omega arith))
-
-slice-write-out-2 : tie.Need-slice-write-out-2 Inv-loop μ-loop
-slice-write-out-2 c = search needs
-
-add-result-4 : tie.Need-add-result-4 Inv-loop μ-loop
-add-result-4 c = search needs
 
 same-length-4 : tie.Need-same-length-4 Inv-loop μ-loop
 same-length-4 c = simp length-set (search needs)
@@ -139,34 +88,34 @@ write-spec =
     (tie.spec
     Inv-loop
     μ-loop
-    width-requires
+    (λ c κs. search needs)
     loop-holds
-    sub-left
-    add-put-pair
-    add-put-pair-2
-    put-pair-requires
-    add-put-pair-3
-    put-pair-requires-2
-    loop-less
+    (λ c. search needs)
+    (λ c. search needs)
+    (λ c. search needs)
+    (λ c κs. search needs)
+    (λ c. search needs)
+    (λ c κs. search needs)
+    (λ c. search needs)
     loop-again
-    add-result
+    (λ c. search needs)
     same-length
     returns
     cast-out
     add-out
-    slice-write-out
-    add-result-2
+    (λ c. search needs)
+    (λ c. search needs)
     same-length-2
     returns-2
     put-pair-requires-3
-    add-result-3
-    same-length-3
+    (λ c. search needs)
+    (λ c. search needs)
     returns-3
-    add-put-pair-4
-    put-pair-requires-4
+    (λ c. search needs)
+    (λ c κs. search needs)
     cast-out-2
     add-out-2
-    slice-write-out-2
-    add-result-4
+    (λ c. search needs)
+    (λ c. search needs)
     same-length-4
     returns-4)

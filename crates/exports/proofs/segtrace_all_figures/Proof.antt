@@ -12,26 +12,11 @@ use Rattle.exports.proofs.Told.{place-call}
 use Rattle.exports.proofs.segtrace_all_figures.Statement.{statement}
 use Rattle.exports.proofs.segtrace_all_figures.Tie as tie
 
-all-records-requires : tie.Need-all-records-requires
-all-records-requires c κs = search needs
-
-enum-told : tie.Need-enum-told
-enum-told c = search needs
-
 put-rows-requires : tie.Need-put-rows-requires
 put-rows-requires c κs =
     let r = c .before .before .before .before .before in
     let f = found-fits _ (r .before .before .before .args .out .now) (r .all-records .result) (r .all-records .ensures) (cc) in
     (f .most, f .room)
-
-enum-known-verdict : tie.Need-enum-known-verdict
-enum-known-verdict c = search needs
-
-number-requires : tie.Need-number-requires
-number-requires c κs = search needs
-
-same-length : tie.Need-same-length
-same-length c = search needs
 
 returns : tie.Need-returns
 returns c =
@@ -53,11 +38,11 @@ pub segtrace-all-figures-spec : {M : Type 1} → statement M
 segtrace-all-figures-spec =
     tie.close
     (tie.spec
-    all-records-requires
-    enum-told
+    (λ c κs. search needs)
+    (λ c. search needs)
     put-rows-requires
-    enum-known-verdict
-    number-requires
-    same-length
+    (λ c. search needs)
+    (λ c κs. search needs)
+    (λ c. search needs)
     returns
     returns-2)

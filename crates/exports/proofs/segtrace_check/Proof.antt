@@ -5,14 +5,8 @@ use Rattle.model.specs.Refusals.{verdictNumber}
 use Rattle.exports.proofs.segtrace_check.Statement.{statement}
 use Rattle.exports.proofs.segtrace_check.Tie as tie
 
-read-requires : tie.Need-read-requires
-read-requires c κs = search needs
-
-verdict-number-requires : tie.Need-verdict-number-requires
-verdict-number-requires c κs = search needs
-
 returns : tie.Need-returns
 returns c = c .verdict-number .ensures ∙ ap (λ a. verdictNumber (a .verdict)) (c .before .read .ensures)
 
 pub segtrace-check-spec : {M : Type 1} → statement M
-segtrace-check-spec = tie.close (tie.spec read-requires verdict-number-requires returns)
+segtrace-check-spec = tie.close (tie.spec (λ c κs. search needs) (λ c κs. search needs) returns)

@@ -5,21 +5,6 @@ use Rattle.exports.proofs.Told.{accepted-tells, refused-tells}
 use Rattle.exports.proofs.segtrace_figures.Statement.{statement}
 use Rattle.exports.proofs.segtrace_figures.Tie as tie
 
-figures-requires : tie.Need-figures-requires
-figures-requires c κs = search needs
-
-enum-told : tie.Need-enum-told
-enum-told c = search needs
-
-numbers-requires : tie.Need-numbers-requires
-numbers-requires c κs = search needs
-
-enum-known-verdict : tie.Need-enum-known-verdict
-enum-known-verdict c = search needs
-
-number-requires : tie.Need-number-requires
-number-requires c κs = search needs
-
 returns : tie.Need-returns
 returns c =
     let r = c .before .before .before in
@@ -34,10 +19,10 @@ pub segtrace-figures-spec : {M : Type 1} → statement M
 segtrace-figures-spec =
     tie.close
     (tie.spec
-    figures-requires
-    enum-told
-    numbers-requires
-    enum-known-verdict
-    number-requires
+    (λ c κs. search needs)
+    (λ c. search needs)
+    (λ c κs. search needs)
+    (λ c. search needs)
+    (λ c κs. search needs)
     returns
     returns-2)

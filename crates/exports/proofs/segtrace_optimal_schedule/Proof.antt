@@ -4,15 +4,6 @@ use Rattle.exports.proofs.Told.{place-call}
 use Rattle.exports.proofs.segtrace_optimal_schedule.Statement.{statement}
 use Rattle.exports.proofs.segtrace_optimal_schedule.Tie as tie
 
-optimal-schedule-requires : tie.Need-optimal-schedule-requires
-optimal-schedule-requires c κs = search needs
-
-tell-requires : tie.Need-tell-requires
-tell-requires c κs = search needs
-
-same-length : tie.Need-same-length
-same-length c = search needs
-
 returns : tie.Need-returns
 returns c =
     let r = c .before .before .before .before in
@@ -20,4 +11,4 @@ returns c =
 
 pub segtrace-optimal-schedule-spec : {M : Type 1} → statement M
 segtrace-optimal-schedule-spec =
-    tie.close (tie.spec optimal-schedule-requires tell-requires same-length returns)
+    tie.close (tie.spec (λ c κs. search needs) (λ c κs. search needs) (λ c. search needs) returns)

@@ -4,19 +4,10 @@ use Rattle.exports.proofs.Told.{place-call}
 use Rattle.exports.proofs.segtrace_page.Statement.{statement}
 use Rattle.exports.proofs.segtrace_page.Tie as tie
 
-page-requires : tie.Need-page-requires
-page-requires c κs = search needs
-
-tell-requires : tie.Need-tell-requires
-tell-requires c κs = search needs
-
-same-length : tie.Need-same-length
-same-length c = search needs
-
 returns : tie.Need-returns
 returns c =
     let r = c .before .before .before .before in
     place-call (r .page .result) (r .page .ensures) (c .tell .ensures)
 
 pub segtrace-page-spec : {M : Type 1} → statement M
-segtrace-page-spec = tie.close (tie.spec page-requires tell-requires same-length returns)
+segtrace-page-spec = tie.close (tie.spec (λ c κs. search needs) (λ c κs. search needs) (λ c. search needs) returns)

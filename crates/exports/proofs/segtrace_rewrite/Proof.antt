@@ -8,27 +8,6 @@ use Rattle.exports.proofs.Told.{place-call, place-refused}
 use Rattle.exports.proofs.segtrace_rewrite.Statement.{statement}
 use Rattle.exports.proofs.segtrace_rewrite.Tie as tie
 
-read-requires : tie.Need-read-requires
-read-requires c κs = search needs
-
-enum-told : tie.Need-enum-told
-enum-told c = search needs
-
-write-requires : tie.Need-write-requires
-write-requires c κs = search needs
-
-tell-requires : tie.Need-tell-requires
-tell-requires c κs = search needs
-
-enum-known-verdict : tie.Need-enum-known-verdict
-enum-known-verdict c = search needs
-
-number-requires : tie.Need-number-requires
-number-requires c κs = search needs
-
-same-length : tie.Need-same-length
-same-length c = search needs
-
 returns : tie.Need-returns
 unfolding rewriteResult
 returns c =
@@ -49,12 +28,12 @@ pub segtrace-rewrite-spec : {M : Type 1} → statement M
 segtrace-rewrite-spec =
     tie.close
     (tie.spec
-    read-requires
-    enum-told
-    write-requires
-    tell-requires
-    enum-known-verdict
-    number-requires
-    same-length
+    (λ c κs. search needs)
+    (λ c. search needs)
+    (λ c κs. search needs)
+    (λ c κs. search needs)
+    (λ c. search needs)
+    (λ c κs. search needs)
+    (λ c. search needs)
     returns
     returns-2)

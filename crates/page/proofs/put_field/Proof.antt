@@ -7,24 +7,6 @@ use borrow.Author.Needs.{needs}
 use Rattle.page.proofs.put_field.Statement.{statement}
 use Rattle.page.proofs.put_field.Tie as tie
 
-width-requires : tie.Need-width-requires
-width-requires c κs = search needs
-
-sub-put-blanks : tie.Need-sub-put-blanks
-sub-put-blanks c = search needs
-
-add-put-blanks : tie.Need-add-put-blanks
-add-put-blanks c = search needs
-
-put-blanks-requires : tie.Need-put-blanks-requires
-put-blanks-requires c κs = search needs
-
-write-requires : tie.Need-write-requires
-write-requires c κs = search needs
-
-same-length : tie.Need-same-length
-same-length c = search needs
-
 returns : tie.Need-returns
 returns c =
     let w = c .before .before .write in
@@ -38,10 +20,10 @@ pub put-field-spec : {M : Type 1} → statement M
 put-field-spec =
     tie.close
     (tie.spec
-    width-requires
-    sub-put-blanks
-    add-put-blanks
-    put-blanks-requires
-    write-requires
-    same-length
+    (λ c κs. search needs)
+    (λ c. search needs)
+    (λ c. search needs)
+    (λ c κs. search needs)
+    (λ c κs. search needs)
+    (λ c. search needs)
     returns)

@@ -5,18 +5,9 @@ use borrow.Author.Needs.{needs}
 use Rattle.page.proofs.put_names.Statement.{statement}
 use Rattle.page.proofs.put_names.Tie as tie
 
-slice-aggregate-put : tie.Need-slice-aggregate-put
-slice-aggregate-put c = search needs
-
-put-requires : tie.Need-put-requires
-put-requires c κs = search needs
-
-same-length : tie.Need-same-length
-same-length c = search needs
-
 returns : tie.Need-returns
 unfolding namesLine pageLine columns
 returns c = let p = c .before .before .put .ensures in (p, omega (arith, p .ends))
 
 pub put-names-spec : {M : Type 1} → statement M
-put-names-spec = tie.close (tie.spec slice-aggregate-put put-requires same-length returns)
+put-names-spec = tie.close (tie.spec (λ c. search needs) (λ c κs. search needs) (λ c. search needs) returns)

@@ -6,27 +6,6 @@ use borrow.Author.Needs.{needs}
 use Rattle.page.proofs.put_page.Statement.{statement}
 use Rattle.page.proofs.put_page.Tie as tie
 
-put-title-requires : tie.Need-put-title-requires
-put-title-requires c κs = search needs
-
-put-names-requires : tie.Need-put-names-requires
-put-names-requires c κs = search needs
-
-put-rows-requires : tie.Need-put-rows-requires
-put-rows-requires c κs = search needs
-
-sub-put-blank-lines : tie.Need-sub-put-blank-lines
-sub-put-blank-lines c = search needs
-
-sub-put-blank-lines-2 : tie.Need-sub-put-blank-lines-2
-sub-put-blank-lines-2 c = search needs
-
-put-blank-lines-requires : tie.Need-put-blank-lines-requires
-put-blank-lines-requires c κs = search needs
-
-same-length : tie.Need-same-length
-same-length c = search needs
-
 returns : tie.Need-returns
 returns c =
     let b = c .before .before in
@@ -44,11 +23,11 @@ pub put-page-spec : {M : Type 1} → statement M
 put-page-spec =
     tie.close
     (tie.spec
-    put-title-requires
-    put-names-requires
-    put-rows-requires
-    sub-put-blank-lines
-    sub-put-blank-lines-2
-    put-blank-lines-requires
-    same-length
+    (λ c κs. search needs)
+    (λ c κs. search needs)
+    (λ c κs. search needs)
+    (λ c. search needs)
+    (λ c. search needs)
+    (λ c κs. search needs)
+    (λ c. search needs)
     returns)

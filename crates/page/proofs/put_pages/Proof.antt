@@ -9,9 +9,6 @@ use Rattle.page.proofs.put_pages.Tie as tie
 put-page-requires : tie.Need-put-page-requires
 put-page-requires c κs = (omega arith, omega arith, omega arith, c .before .before .before .pre .1, omega arith)
 
-same-length : tie.Need-same-length
-same-length c = search needs
-
 returns : tie.Need-returns
 returns c =
     let s = c .before .before .before .before .before .before in
@@ -29,9 +26,6 @@ put-page-requires-3 c κs =
     let p = c .before .before .before .put-page2 in
     (omega arith, omega arith, omega arith, s .pre .1, omega (arith, s .pre .3 (omega arith), p .ensures .1))
 
-same-length-2 : tie.Need-same-length-2
-same-length-2 c = search needs
-
 returns-2 : tie.Need-returns-2
 returns-2 c =
     let s = c .before .before .before .before .before .before .before .before .before .before in
@@ -44,9 +38,9 @@ put-pages-spec =
     tie.close
     (tie.spec
     put-page-requires
-    same-length
+    (λ c. search needs)
     returns
     put-page-requires-2
     put-page-requires-3
-    same-length-2
+    (λ c. search needs)
     returns-2)

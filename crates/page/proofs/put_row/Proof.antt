@@ -6,30 +6,9 @@ use borrow.Author.Needs.{needs}
 use Rattle.page.proofs.put_row.Statement.{statement}
 use Rattle.page.proofs.put_row.Tie as tie
 
-put-field-requires : tie.Need-put-field-requires
-put-field-requires c κs = search needs
-
-put-field-requires-2 : tie.Need-put-field-requires-2
-put-field-requires-2 c κs = search needs
-
-put-field-requires-3 : tie.Need-put-field-requires-3
-put-field-requires-3 c κs = search needs
-
-put-field-requires-4 : tie.Need-put-field-requires-4
-put-field-requires-4 c κs = search needs
-
-put-field-requires-5 : tie.Need-put-field-requires-5
-put-field-requires-5 c κs = search needs
-
-put-field-requires-6 : tie.Need-put-field-requires-6
-put-field-requires-6 c κs = search needs
-
 put-end-requires : tie.Need-put-end-requires
 put-end-requires c κs =
     omega (arith, c .before .before .before .before .before .before .before .before .before .before .before .before .before .before .before .before .before .before .before .before .before .before .before .before .before .before .pre .1)
-
-same-length : tie.Need-same-length
-same-length c = search needs
 
 returns : tie.Need-returns
 returns c =
@@ -50,12 +29,12 @@ pub put-row-spec : {M : Type 1} → statement M
 put-row-spec =
     tie.close
     (tie.spec
-    put-field-requires
-    put-field-requires-2
-    put-field-requires-3
-    put-field-requires-4
-    put-field-requires-5
-    put-field-requires-6
+    (λ c κs. search needs)
+    (λ c κs. search needs)
+    (λ c κs. search needs)
+    (λ c κs. search needs)
+    (λ c κs. search needs)
+    (λ c κs. search needs)
     put-end-requires
-    same-length
+    (λ c. search needs)
     returns)

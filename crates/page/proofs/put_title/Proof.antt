@@ -8,15 +8,9 @@ use borrow.Author.Needs.{needs}
 use Rattle.page.proofs.put_title.Statement.{statement}
 use Rattle.page.proofs.put_title.Tie as tie
 
-put-kind-requires : tie.Need-put-kind-requires
-put-kind-requires c κs = search needs
-
 write-requires : tie.Need-write-requires
 write-requires c κs =
     omega (arith, written-length 2 (c .before .before .before .before .before .before .args .a) (omega arith))
-
-add-put-end : tie.Need-add-put-end
-add-put-end c = search needs
 
 sub-put-end : tie.Need-sub-put-end
 sub-put-end c =
@@ -27,9 +21,6 @@ put-end-requires : tie.Need-put-end-requires
 put-end-requires c κs =
     let s = c .before .before .before .before .before .before .before .before .before .before in
     omega (arith, written-length 2 (s .args .a) (omega arith))
-
-same-length : tie.Need-same-length
-same-length c = search needs
 
 returns : tie.Need-returns
 returns c =
@@ -46,10 +37,10 @@ pub put-title-spec : {M : Type 1} → statement M
 put-title-spec =
     tie.close
     (tie.spec
-    put-kind-requires
+    (λ c κs. search needs)
     write-requires
-    add-put-end
+    (λ c. search needs)
     sub-put-end
     put-end-requires
-    same-length
+    (λ c. search needs)
     returns)

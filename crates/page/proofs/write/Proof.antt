@@ -9,9 +9,6 @@ use borrow.Author.Needs.{needs}
 use Rattle.page.proofs.write.Statement.{statement}
 use Rattle.page.proofs.write.Tie as tie
 
-pages-length-requires : tie.Need-pages-length-requires
-pages-length-requires c κs = search needs
-
 returns : tie.Need-returns
 returns c =
     let s = c .before .before .before in
@@ -30,9 +27,6 @@ put-pages-requires c κs =
       (λ l. omega (arith, pages-two (s .args .rows) l, p .ensures)),
     )
 
-same-length : tie.Need-same-length
-same-length c = search needs
-
 returns-2 : tie.Need-returns-2
 returns-2 c =
     let s = c .before .before .before .before .before .before .before in
@@ -43,4 +37,4 @@ returns-2 c =
 
 pub write-spec : {M : Type 1} → statement M
 write-spec =
-    tie.close (tie.spec pages-length-requires returns put-pages-requires same-length returns-2)
+    tie.close (tie.spec (λ c κs. search needs) returns put-pages-requires (λ c. search needs) returns-2)

@@ -6,18 +6,6 @@ use Rattle.records.specs.Listed.{noRecords, recordsFor, recordsFound}
 use Rattle.records.proofs.all_records.Statement.{statement}
 use Rattle.records.proofs.all_records.Tie as tie
 
-read-requires : tie.Need-read-requires
-read-requires c κs = search needs
-
-enum-known-verdict : tie.Need-enum-known-verdict
-enum-known-verdict c = search needs
-
-no-records-requires : tie.Need-no-records-requires
-no-records-requires c κs = search needs
-
-enum-told : tie.Need-enum-told
-enum-told c = search needs
-
 sheet-records-requires : tie.Need-sheet-records-requires
 sheet-records-requires c κs =
     let r = c .before .before .before in
@@ -41,10 +29,10 @@ pub all-records-spec : {M : Type 1} → statement M
 all-records-spec =
     tie.close
     (tie.spec
-    read-requires
-    enum-known-verdict
-    no-records-requires
-    enum-told
+    (λ c κs. search needs)
+    (λ c. search needs)
+    (λ c κs. search needs)
+    (λ c. search needs)
     sheet-records-requires
     returns
     returns-2)

@@ -8,12 +8,9 @@ use Rattle.records.specs.Listed.{noRecords}
 use Rattle.records.proofs.no_records.Statement.{statement}
 use Rattle.records.proofs.no_records.Tie as tie
 
-zero-requires : tie.Need-zero-requires
-zero-requires c κs = search needs
-
 returns : tie.Need-returns
 unfolding noRecords
 returns c = rw (c .zero .ensures, ← tabulate-const mostRows zeroFigures (λ i. zeroFigures) (λ j lt. refl))
 
 pub no-records-spec : {M : Type 1} → statement M
-no-records-spec = tie.close (tie.spec zero-requires returns)
+no-records-spec = tie.close (tie.spec (λ c κs. search needs) returns)

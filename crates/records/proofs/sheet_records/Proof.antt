@@ -9,18 +9,12 @@ use Rattle.records.specs.Listed.{sheetAnswer, recordsFor}
 use Rattle.records.proofs.sheet_records.Statement.{statement}
 use Rattle.records.proofs.sheet_records.Tie as tie
 
-no-records-requires : tie.Need-no-records-requires
-no-records-requires c κs = search needs
-
 returns : tie.Need-returns
 unfolding recordsFor
 returns c =
     let s = c .before .before .before in
     let n = rows-counted (s .args .s) (s .pre) in
     rw (lt-leb (length (valueOf (s .args .s) .rows)) (s .args .room) (omega (arith, c .before .if1 .taken))) (c .no-records .ensures)
-
-all-figures-requires : tie.Need-all-figures-requires
-all-figures-requires c κs = search needs
 
 returns-2 : tie.Need-returns-2
 unfolding recordsFor sheetAnswer
@@ -31,4 +25,4 @@ returns-2 c =
 
 pub sheet-records-spec : {M : Type 1} → statement M
 sheet-records-spec =
-    tie.close (tie.spec no-records-requires returns all-figures-requires returns-2)
+    tie.close (tie.spec (λ c κs. search needs) returns (λ c κs. search needs) returns-2)

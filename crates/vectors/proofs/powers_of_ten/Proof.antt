@@ -28,38 +28,14 @@ loop-holds c = (refl, omega arith)
 sub-digits : tie.Need-sub-digits Inv-loop μ-loop
 sub-digits c = let l = c .before .loop in omega (arith, l .inv .0, one-le-pow (l .k) 10 (omega arith))
 
-digits-requires : tie.Need-digits-requires Inv-loop μ-loop
-digits-requires c κs = search needs
-
-digits-requires-2 : tie.Need-digits-requires-2 Inv-loop μ-loop
-digits-requires-2 c κs = search needs
-
 mul-power : tie.Need-mul-power Inv-loop μ-loop
 mul-power c = let l = c .before .before .before .loop in omega (arith, l .inv .0, last-power (l .k) (omega arith))
-
-add-k : tie.Need-add-k Inv-loop μ-loop
-add-k c = search needs
-
-loop-less : tie.Need-loop-less Inv-loop μ-loop
-loop-less c = search needs
 
 loop-again : tie.Need-loop-again Inv-loop μ-loop
 loop-again c = let l = c .before .before .before .loop in (power-next (l .power) (l .k) (l .inv .0), omega arith)
 
 sub-digits-2 : tie.Need-sub-digits-2 Inv-loop μ-loop
 sub-digits-2 c = let l = c .before .loop in omega (arith, l .inv .0, one-le-pow (l .k) 10 (omega arith))
-
-digits-requires-3 : tie.Need-digits-requires-3 Inv-loop μ-loop
-digits-requires-3 c κs = search needs
-
-digits-requires-4 : tie.Need-digits-requires-4 Inv-loop μ-loop
-digits-requires-4 c κs = search needs
-
-digits-requires-5 : tie.Need-digits-requires-5 Inv-loop μ-loop
-digits-requires-5 c κs = search needs
-
-returns : tie.Need-returns Inv-loop μ-loop
-returns c = search needs
 
 pub powers-of-ten-spec : {M : Type 1} → statement M
 powers-of-ten-spec =
@@ -69,14 +45,14 @@ powers-of-ten-spec =
     μ-loop
     loop-holds
     sub-digits
-    digits-requires
-    digits-requires-2
+    (λ c κs. search needs)
+    (λ c κs. search needs)
     mul-power
-    add-k
-    loop-less
+    (λ c. search needs)
+    (λ c. search needs)
     loop-again
     sub-digits-2
-    digits-requires-3
-    digits-requires-4
-    digits-requires-5
-    returns)
+    (λ c κs. search needs)
+    (λ c κs. search needs)
+    (λ c κs. search needs)
+    (λ c. search needs))

@@ -6,18 +6,6 @@ use Rattle.analyser.proofs.Standings.{on-refused, on-accepted, stands}
 use Rattle.analyser.proofs.billing.bill.Statement.{statement}
 use Rattle.analyser.proofs.billing.bill.Tie as tie
 
-read-requires : tie.Need-read-requires
-read-requires c κs = search needs
-
-enum-known-verdict : tie.Need-enum-known-verdict
-enum-known-verdict c = search needs
-
-no-bill-requires : tie.Need-no-bill-requires
-no-bill-requires c κs = search needs
-
-enum-told : tie.Need-enum-told
-enum-told c = search needs
-
 sheet-bill-requires : tie.Need-sheet-bill-requires
 sheet-bill-requires c κs =
     let r = c .before .before .before in
@@ -45,10 +33,10 @@ pub bill-spec : {M : Type 1} → statement M
 bill-spec =
     tie.close
     (tie.spec
-    read-requires
-    enum-known-verdict
-    no-bill-requires
-    enum-told
+    (λ c κs. search needs)
+    (λ c. search needs)
+    (λ c κs. search needs)
+    (λ c. search needs)
     sheet-bill-requires
     returns
     returns-2)

@@ -9,21 +9,12 @@ use Rattle.analyser.proofs.Standings.{rows-counted}
 use Rattle.analyser.proofs.billing.sheet_bill.Statement.{statement}
 use Rattle.analyser.proofs.billing.sheet_bill.Tie as tie
 
-no-bill-requires : tie.Need-no-bill-requires
-no-bill-requires c κs = search needs
-
 returns : tie.Need-returns
 returns c =
     let s = c .before .before .before in
     let n = rows-counted (s .args .s) (s .pre) in
     c .no-bill .ensures
     ∙ sym (bill-no-row (valueOf (s .args .s)) (s .args .row) (s .args .tariff) (omega (arith, n, c .before .if1 .taken)))
-
-in-range-requires : tie.Need-in-range-requires
-in-range-requires c κs = search needs
-
-no-bill-requires-2 : tie.Need-no-bill-requires-2
-no-bill-requires-2 c κs = search needs
 
 returns-2 : tie.Need-returns-2
 returns-2 c =
@@ -34,9 +25,6 @@ returns-2 c =
     ∙ sym
     (bill-out-of-range (valueOf (s .args .s)) (s .args .row) (s .args .tariff) (omega (arith, n, e .if1 .left))
     (sym (c .before .before .in-range .ensures) ∙ not-true _ (c .before .if2 .taken)))
-
-row-alone-requires : tie.Need-row-alone-requires
-row-alone-requires c κs = search needs
 
 bill-requires : tie.Need-bill-requires
 bill-requires c κs =
@@ -61,11 +49,11 @@ pub sheet-bill-spec : {M : Type 1} → statement M
 sheet-bill-spec =
     tie.close
     (tie.spec
-    no-bill-requires
+    (λ c κs. search needs)
     returns
-    in-range-requires
-    no-bill-requires-2
+    (λ c κs. search needs)
+    (λ c κs. search needs)
     returns-2
-    row-alone-requires
+    (λ c κs. search needs)
     bill-requires
     returns-3)

@@ -6,18 +6,6 @@ use Rattle.analyser.proofs.Standings.{on-refused, on-accepted, stands}
 use Rattle.analyser.proofs.margins.margin.Statement.{statement}
 use Rattle.analyser.proofs.margins.margin.Tie as tie
 
-read-requires : tie.Need-read-requires
-read-requires c κs = search needs
-
-enum-known-verdict : tie.Need-enum-known-verdict
-enum-known-verdict c = search needs
-
-no-margin-requires : tie.Need-no-margin-requires
-no-margin-requires c κs = search needs
-
-enum-told : tie.Need-enum-told
-enum-told c = search needs
-
 sheet-margin-requires : tie.Need-sheet-margin-requires
 sheet-margin-requires c κs =
     let r = c .before .before .before in
@@ -43,10 +31,10 @@ pub margin-spec : {M : Type 1} → statement M
 margin-spec =
     tie.close
     (tie.spec
-    read-requires
-    enum-known-verdict
-    no-margin-requires
-    enum-told
+    (λ c κs. search needs)
+    (λ c. search needs)
+    (λ c κs. search needs)
+    (λ c. search needs)
     sheet-margin-requires
     returns
     returns-2)

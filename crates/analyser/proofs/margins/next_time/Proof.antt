@@ -6,14 +6,8 @@ use Rattle.analyser.proofs.margins.next_time.Tie as tie
 returns : tie.Need-returns
 returns c = rw (c .if1 .taken)
 
-add-t5 : tie.Need-add-t5
-add-t5 c = search needs
-
 returns-2 : tie.Need-returns-2
 returns-2 c = rw (c .before .before .if1 .left, c .before .if2 .taken)
 
-returns-3 : tie.Need-returns-3
-returns-3 c = search needs
-
 pub next-time-spec : {M : Type 1} → statement M
-next-time-spec = tie.close (tie.spec returns add-t5 returns-2 returns-3)
+next-time-spec = tie.close (tie.spec returns (λ c. search needs) returns-2 (λ c. search needs))

@@ -8,9 +8,6 @@ use Rattle.analyser.proofs.Standings.{rows-counted, refs-counted}
 use Rattle.analyser.proofs.margins.sheet_margin.Statement.{statement}
 use Rattle.analyser.proofs.margins.sheet_margin.Tie as tie
 
-no-margin-requires : tie.Need-no-margin-requires
-no-margin-requires c κs = search needs
-
 returns : tie.Need-returns
 returns c =
     let s = c .before .before .before in
@@ -18,18 +15,12 @@ returns c =
     c .no-margin .ensures
     ∙ sym (margin-no-row (valueOf (s .args .s)) (s .args .row) (s .args .reference) (omega (arith, c .before .if1 .taken)))
 
-no-margin-requires-2 : tie.Need-no-margin-requires-2
-no-margin-requires-2 c κs = search needs
-
 returns-2 : tie.Need-returns-2
 returns-2 c =
     let s = c .before .before .before .before in
     let n = rows-counted (s .args .s) (s .pre) in
     c .no-margin2 .ensures
     ∙ sym (margin-none (valueOf (s .args .s)) (s .args .row) (s .args .reference) (omega (arith, c .before .before .if1 .left)) (c .before .if2 .taken))
-
-no-margin-requires-3 : tie.Need-no-margin-requires-3
-no-margin-requires-3 c κs = search needs
 
 returns-3 : tie.Need-returns-3
 returns-3 c =
@@ -39,12 +30,6 @@ returns-3 c =
     let m = refs-counted (s .args .s) (s .pre) in
     c .no-margin3 .ensures
     ∙ sym (margin-beyond (valueOf (s .args .s)) (s .args .row) (s .args .reference) (omega (arith, l .if1 .left)) (omega (arith, c .before .if3 .taken)))
-
-sub-touch-margin : tie.Need-sub-touch-margin
-sub-touch-margin c = search needs
-
-touch-margin-requires : tie.Need-touch-margin-requires
-touch-margin-requires c κs = search needs
 
 returns-4 : tie.Need-returns-4
 returns-4 c =
@@ -60,12 +45,12 @@ pub sheet-margin-spec : {M : Type 1} → statement M
 sheet-margin-spec =
     tie.close
     (tie.spec
-    no-margin-requires
+    (λ c κs. search needs)
     returns
-    no-margin-requires-2
+    (λ c κs. search needs)
     returns-2
-    no-margin-requires-3
+    (λ c κs. search needs)
     returns-3
-    sub-touch-margin
-    touch-margin-requires
+    (λ c. search needs)
+    (λ c κs. search needs)
     returns-4)

@@ -13,12 +13,6 @@ use Rattle.analyser.proofs.TouchMargins.{first-touch, retention-room, s
 use Rattle.analyser.proofs.margins.touch_margin.Statement.{statement}
 use Rattle.analyser.proofs.margins.touch_margin.Tie as tie
 
-unreferenced-time-requires : tie.Need-unreferenced-time-requires
-unreferenced-time-requires c κs = search needs
-
-no-margin-requires : tie.Need-no-margin-requires
-no-margin-requires c κs = search needs
-
 returns : tie.Need-returns
 returns c =
     let u = c .before .before in
@@ -30,29 +24,11 @@ returns c =
 touched-segment : (c : tie.Start) → getD (c .args .t1 .touches) (c .args .t) 0 < 256
 touched-segment c = omega (arith, c .pre .0, entry-segment (c .args .t1) (c .pre .0) (c .args .t) (c .pre .2))
 
-mul-segment : tie.Need-mul-segment
-mul-segment c = search needs
-
-element-copy-out-segment : tie.Need-element-copy-out-segment
-element-copy-out-segment c = search needs
-
-cast-segment : tie.Need-cast-segment
-cast-segment c = search needs
-
 mul-z : tie.Need-mul-z
 mul-z c = omega (arith, touched-segment (c .before .before .before))
 
 element-copy-out-z : tie.Need-element-copy-out-z
 element-copy-out-z c = touched-segment (c .before .before .before)
-
-mul-price : tie.Need-mul-price
-mul-price c = search needs
-
-element-copy-out-price : tie.Need-element-copy-out-price
-element-copy-out-price c = search needs
-
-retention-cost-requires : tie.Need-retention-cost-requires
-retention-cost-requires c κs = search needs
 
 priced-requires : tie.Need-priced-requires
 priced-requires c κs =
@@ -64,9 +40,6 @@ priced-requires c κs =
       retention-room (s .args .t1) (s .pre .0) (s .args .row) (s .args .t) (s .pre .1) (s .pre .2) (u .unreferenced-time .result)
           (u .unreferenced-time .ensures),
     )
-
-swap-cost-requires : tie.Need-swap-cost-requires
-swap-cost-requires c κs = search needs
 
 priced-requires-2 : tie.Need-priced-requires-2
 priced-requires-2 c κs =
@@ -104,19 +77,19 @@ pub touch-margin-spec : {M : Type 1} → statement M
 touch-margin-spec =
     tie.close
     (tie.spec
-    unreferenced-time-requires
-    no-margin-requires
+    (λ c κs. search needs)
+    (λ c κs. search needs)
     returns
-    mul-segment
-    element-copy-out-segment
-    cast-segment
+    (λ c. search needs)
+    (λ c. search needs)
+    (λ c. search needs)
     mul-z
     element-copy-out-z
-    mul-price
-    element-copy-out-price
-    retention-cost-requires
+    (λ c. search needs)
+    (λ c. search needs)
+    (λ c κs. search needs)
     priced-requires
-    swap-cost-requires
+    (λ c κs. search needs)
     priced-requires-2
     margin-requires
     returns-2)

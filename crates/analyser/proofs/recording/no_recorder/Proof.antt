@@ -3,11 +3,8 @@ use borrow.Author.Needs.{needs}
 use Rattle.analyser.proofs.recording.no_recorder.Statement.{statement}
 use Rattle.analyser.proofs.recording.no_recorder.Tie as tie
 
-empty-requires : tie.Need-empty-requires
-empty-requires c κs = search needs
-
 returns : tie.Need-returns
 returns c = cc
 
 pub no-recorder-spec : {M : Type 1} → statement M
-no-recorder-spec = tie.close (tie.spec empty-requires returns)
+no-recorder-spec = tie.close (tie.spec (λ c κs. search needs) returns)

@@ -14,21 +14,6 @@ use Rattle.analyser.proofs.recording.start.Tie as tie
 started : Recorder → TouchAnswer
 started R = record { verdict = Accepted; recorder = R }
 
-read-requires : tie.Need-read-requires
-read-requires c κs = search needs
-
-enum-known-verdict : tie.Need-enum-known-verdict
-enum-known-verdict c = search needs
-
-no-recorder-requires : tie.Need-no-recorder-requires
-no-recorder-requires c κs = search needs
-
-enum-told : tie.Need-enum-told
-enum-told c = search needs
-
-start-requires : tie.Need-start-requires
-start-requires c κs = search needs
-
 returns : tie.Need-returns
 unfolding startAnswer
 returns c =
@@ -50,4 +35,4 @@ returns-2 c =
 pub start-spec : {M : Type 1} → statement M
 start-spec =
     tie.close
-    (tie.spec read-requires enum-known-verdict no-recorder-requires enum-told start-requires returns returns-2)
+    (tie.spec (λ c κs. search needs) (λ c. search needs) (λ c κs. search needs) (λ c. search needs) (λ c κs. search needs) returns returns-2)

@@ -18,9 +18,6 @@ Inv-loop ceiling all rows row₀ i₀ row i = RowsPassed ceiling all rows row i
 abbrev μ-loop : tie.MeasureT-loop
 μ-loop ceiling all rows row₀ i₀ row i = rows - i
 
-all-figures-requires : tie.Need-all-figures-requires Inv-loop μ-loop
-all-figures-requires c κs = search needs
-
 loop-holds : tie.Need-loop-holds Inv-loop μ-loop
 loop-holds c = passed-none _ _ _
 
@@ -49,9 +46,6 @@ loop-again c =
     let l = e .before .before .before in
     passed-row _ _ _ _ _ (l .before .loop .inv) (l .loop-test .taken) (e .if1 .left) _
     (⊎-elim (λ w. inl (w .0 .taken, w .1)) (λ w. inr (w .0 .left, w .1)) (c .if2 .came))
-
-no-size-requires : tie.Need-no-size-requires Inv-loop μ-loop
-no-size-requires c κs = search needs
 
 -- the loop ends at the rows' end or at a row beyond the ceiling
 ended : (c : tie.Left-loop Inv-loop μ-loop)
@@ -82,7 +76,7 @@ sheet-size-spec =
     (tie.spec
     Inv-loop
     μ-loop
-    all-figures-requires
+    (λ c κs. search needs)
     loop-holds
     mul-f
     array-copy-out-f
@@ -91,6 +85,6 @@ sheet-size-spec =
     add-i
     loop-less
     loop-again
-    no-size-requires
+    (λ c κs. search needs)
     returns
     returns-2)

@@ -7,18 +7,6 @@ use Rattle.analyser.proofs.Standings.{on-refused, on-accepted, stands}
 use Rattle.analyser.proofs.sizing.size.Statement.{statement}
 use Rattle.analyser.proofs.sizing.size.Tie as tie
 
-read-requires : tie.Need-read-requires
-read-requires c κs = search needs
-
-enum-known-verdict : tie.Need-enum-known-verdict
-enum-known-verdict c = search needs
-
-no-size-requires : tie.Need-no-size-requires
-no-size-requires c κs = search needs
-
-enum-told : tie.Need-enum-told
-enum-told c = search needs
-
 sheet-size-requires : tie.Need-sheet-size-requires
 sheet-size-requires c κs =
     let r = c .before .before .before in
@@ -44,10 +32,10 @@ pub size-spec : {M : Type 1} → statement M
 size-spec =
     tie.close
     (tie.spec
-    read-requires
-    enum-known-verdict
-    no-size-requires
-    enum-told
+    (λ c κs. search needs)
+    (λ c. search needs)
+    (λ c κs. search needs)
+    (λ c. search needs)
     sheet-size-requires
     returns
     returns-2)

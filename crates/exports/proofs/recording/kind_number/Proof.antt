@@ -3,17 +3,5 @@ use borrow.Author.Needs.{needs}
 use Rattle.exports.proofs.recording.kind_number.Statement.{statement}
 use Rattle.exports.proofs.recording.kind_number.Tie as tie
 
-enum-told : tie.Need-enum-told
-enum-told c = search needs
-
-enum-told-2 : tie.Need-enum-told-2
-enum-told-2 c = search needs
-
-returns : tie.Need-returns
-returns c = search needs
-
-returns-2 : tie.Need-returns-2
-returns-2 c = search needs
-
 pub kind-number-spec : {M : Type 1} → statement M
-kind-number-spec = tie.close (tie.spec enum-told enum-told-2 returns returns-2)
+kind-number-spec = tie.close (tie.spec (λ c. search needs) (λ c. search needs) (λ c. search needs) (λ c. search needs))

@@ -4,23 +4,8 @@ use borrow.Author.Needs.{needs}
 use Rattle.exports.proofs.recording.segtrace_recorder_start.Statement.{statement}
 use Rattle.exports.proofs.recording.segtrace_recorder_start.Tie as tie
 
-start-requires : tie.Need-start-requires
-start-requires c κs = search needs
-
 enum-told : tie.Need-enum-told
 enum-told c = search needs
-
-store-head-requires : tie.Need-store-head-requires
-store-head-requires c κs = search needs
-
-store-taken-requires : tie.Need-store-taken-requires
-store-taken-requires c κs = search needs
-
-enum-known-verdict : tie.Need-enum-known-verdict
-enum-known-verdict c = search needs
-
-number-requires : tie.Need-number-requires
-number-requires c κs = search needs
 
 returns : tie.Need-returns
 returns c =
@@ -37,11 +22,11 @@ pub segtrace-recorder-start-spec : {M : Type 1} → statement M
 segtrace-recorder-start-spec =
     tie.close
     (tie.spec
-    start-requires
+    (λ c κs. search needs)
     enum-told
-    store-head-requires
-    store-taken-requires
-    enum-known-verdict
-    number-requires
+    (λ c κs. search needs)
+    (λ c κs. search needs)
+    (λ c. search needs)
+    (λ c κs. search needs)
     returns
     returns-2)

@@ -6,15 +6,6 @@ use borrow.Author.Needs.{needs}
 use Rattle.exports.proofs.recording.store_head.Statement.{statement}
 use Rattle.exports.proofs.recording.store_head.Tie as tie
 
-split-requires : tie.Need-split-requires
-split-requires c κs = search needs
-
-kind-number-requires : tie.Need-kind-number-requires
-kind-number-requires c κs = search needs
-
-cast-t13 : tie.Need-cast-t13
-cast-t13 c = search needs
-
 returns : tie.Need-returns
 unfolding listsOf
 returns c =
@@ -27,4 +18,4 @@ returns c =
     }
 
 pub store-head-spec : {M : Type 1} → statement M
-store-head-spec = tie.close (tie.spec split-requires kind-number-requires cast-t13 returns)
+store-head-spec = tie.close (tie.spec (λ c κs. search needs) (λ c κs. search needs) (λ c. search needs) returns)

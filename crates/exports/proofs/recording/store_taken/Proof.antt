@@ -4,12 +4,9 @@ use Rattle.exports.specs.Recording.{listsOf}
 use Rattle.exports.proofs.recording.store_taken.Statement.{statement}
 use Rattle.exports.proofs.recording.store_taken.Tie as tie
 
-store-buckets-requires : tie.Need-store-buckets-requires
-store-buckets-requires c κs = search needs
-
 returns : tie.Need-returns
 unfolding listsOf
 returns c = search needs
 
 pub store-taken-spec : {M : Type 1} → statement M
-store-taken-spec = tie.close (tie.spec store-buckets-requires returns)
+store-taken-spec = tie.close (tie.spec (λ c κs. search needs) returns)

@@ -6,15 +6,9 @@ use Rattle.recorder.specs.Recorders.{emptyRecorder}
 use Rattle.recorder.proofs.Recorder.empty.Statement.{statement}
 use Rattle.recorder.proofs.Recorder.empty.Tie as tie
 
-untouched-requires : tie.Need-untouched-requires
-untouched-requires c κs = search needs
-
-empty-buckets-requires : tie.Need-empty-buckets-requires
-empty-buckets-requires c κs = search needs
-
 returns : tie.Need-returns
 unfolding emptyRecorder zeros zeroRows
 returns c = rw (c .empty-buckets .ensures, c .before .untouched .ensures) refl
 
 pub empty-spec : {M : Type 1} → statement M
-empty-spec = tie.close (tie.spec untouched-requires empty-buckets-requires returns)
+empty-spec = tie.close (tie.spec (λ c κs. search needs) (λ c κs. search needs) returns)

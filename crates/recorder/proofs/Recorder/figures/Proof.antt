@@ -5,12 +5,6 @@ use Rattle.recorder.proofs.Answers.{no-such-row, figured}
 use Rattle.recorder.proofs.Recorder.figures.Statement.{statement}
 use Rattle.recorder.proofs.Recorder.figures.Tie as tie
 
-least-requires : tie.Need-least-requires
-least-requires c κs = search needs
-
-zero-requires : tie.Need-zero-requires
-zero-requires c κs = search needs
-
 returns : tie.Need-returns
 returns c = no-such-row _ _ _ (c .zero .ensures) (omega (arith, c .before .if1 .taken, c .before .before .least .ensures))
 
@@ -21,4 +15,4 @@ returns-2 : tie.Need-returns-2
 returns-2 c = figured _ _ _ (omega (arith, c .before .if1 .left, c .before .before .least .ensures)) (c .row-now .ensures)
 
 pub figures-spec : {M : Type 1} → statement M
-figures-spec = tie.close (tie.spec least-requires zero-requires returns row-now-requires returns-2)
+figures-spec = tie.close (tie.spec (λ c κs. search needs) (λ c κs. search needs) returns row-now-requires returns-2)

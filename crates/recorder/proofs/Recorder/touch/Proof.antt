@@ -5,9 +5,6 @@ use Rattle.recorder.proofs.Answers.{out-of-range, full, accepted}
 use Rattle.recorder.proofs.Recorder.touch.Statement.{statement}
 use Rattle.recorder.proofs.Recorder.touch.Tie as tie
 
-least-requires : tie.Need-least-requires
-least-requires c κs = search needs
-
 returns : tie.Need-returns
 returns c = out-of-range _ _ (omega (arith, c .if1 .taken, c .before .least .ensures))
 
@@ -22,4 +19,4 @@ returns-3 c = let d = c .before in
     accepted _ _ _ (omega (arith, d .before .before .if1 .left, d .before .before .before .least .ensures)) (d .if2 .left) (c .take-one .ensures)
 
 pub touch-spec : {M : Type 1} → statement M
-touch-spec = tie.close (tie.spec least-requires returns returns-2 take-one-requires returns-3)
+touch-spec = tie.close (tie.spec (λ c κs. search needs) returns returns-2 take-one-requires returns-3)

@@ -5,15 +5,6 @@ use Rattle.recorder.proofs.Answers.{verdict-found, all-refused, all-acc
 use Rattle.recorder.proofs.Recorder.touch_all.Statement.{statement}
 use Rattle.recorder.proofs.Recorder.touch_all.Tie as tie
 
-least-requires : tie.Need-least-requires
-least-requires c κs = search needs
-
-acceptable-requires : tie.Need-acceptable-requires
-acceptable-requires c κs = search needs
-
-enum-known-verdict : tie.Need-enum-known-verdict
-enum-known-verdict c = search needs
-
 returns : tie.Need-returns
 returns c =
     let a = c .before .before .before in
@@ -36,4 +27,4 @@ returns-2 c =
 
 pub touch-all-spec : {M : Type 1} → statement M
 touch-all-spec =
-    tie.close (tie.spec least-requires acceptable-requires enum-known-verdict returns enum-told take-all-requires returns-2)
+    tie.close (tie.spec (λ c κs. search needs) (λ c κs. search needs) (λ c. search needs) returns enum-told take-all-requires returns-2)

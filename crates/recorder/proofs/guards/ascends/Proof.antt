@@ -27,12 +27,6 @@ loop-holds c = (omega arith, λ j lt. absurd (omega arith))
 in-order-requires : tie.Need-in-order-requires Inv-loop μ-loop
 in-order-requires c κs = (c .before .before .before .before .pre, c .loop-test .taken)
 
-add-i : tie.Need-add-i Inv-loop μ-loop
-add-i c = search needs
-
-loop-less : tie.Need-loop-less Inv-loop μ-loop
-loop-less c = search needs
-
 loop-again : tie.Need-loop-again Inv-loop μ-loop
 loop-again c = (omega arith, below-more _ _ (c .before .before .before .loop .inv .1) (c .before .in-order .ensures .sound (c .if1 .taken)))
 
@@ -60,8 +54,8 @@ ascends-spec =
     μ-loop
     loop-holds
     in-order-requires
-    add-i
-    loop-less
+    (λ c. search needs)
+    (λ c. search needs)
     loop-again
     returns
     returns-2)

@@ -4,17 +4,11 @@ use Rattle.recorder.proofs.Telling.{told-false}
 use Rattle.recorder.proofs.guards.file.Statement.{statement}
 use Rattle.recorder.proofs.guards.file.Tie as tie
 
-has-room-requires : tie.Need-has-room-requires
-has-room-requires c κs = search needs
-
 add-touch-requires : tie.Need-add-touch-requires
 add-touch-requires c κs = (c .before .has-room .ensures .sound (c .if1 .taken), c .before .before .pre)
-
-returns : tie.Need-returns
-returns c = search needs
 
 returns-2 : tie.Need-returns-2
 returns-2 c = λ w. absurd (told-false (c .before .has-room .ensures) (c .if1 .left) w)
 
 pub file-spec : {M : Type 1} → statement M
-file-spec = tie.close (tie.spec has-room-requires add-touch-requires returns returns-2)
+file-spec = tie.close (tie.spec (λ c κs. search needs) add-touch-requires (λ c. search needs) returns-2)

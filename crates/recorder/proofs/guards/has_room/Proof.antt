@@ -23,9 +23,6 @@ returns-5 c = tells-false (λ w. omega arith)
 returns-6 : tie.Need-returns-6
 returns-6 c = tells-false (λ w. omega arith)
 
-returns-7 : tie.Need-returns-7
-returns-7 c = search needs
-
 pub has-room-spec : {M : Type 1} → statement M
 has-room-spec =
-    tie.close (tie.spec returns returns-2 returns-3 returns-4 returns-5 returns-6 returns-7)
+    tie.close (tie.spec returns returns-2 returns-3 returns-4 returns-5 returns-6 (λ c. search needs))

@@ -48,18 +48,6 @@ last-length s = search needs
 few-segs : (c : tie.After-split) → c .before .before .before .least2 .result ≤ 256
 few-segs c = omega (arith, c .before .before .before .least2 .ensures)
 
-least-requires : tie.Need-least-requires
-least-requires c κs = search needs
-
-least-requires-2 : tie.Need-least-requires-2
-least-requires-2 c κs = search needs
-
-least-requires-3 : tie.Need-least-requires-3
-least-requires-3 c κs = search needs
-
-split-requires : tie.Need-split-requires
-split-requires c κs = search needs
-
 array-share-prefix-h : tie.Need-array-share-prefix-h
 array-share-prefix-h c = omega (arith, h-apart (apart c), few-rows (apart c))
 
@@ -91,9 +79,6 @@ paired c =
 ascends-requires : tie.Need-ascends-requires
 ascends-requires c κs = paired c
 
-empty-buckets-requires : tie.Need-empty-buckets-requires
-empty-buckets-requires c κs = search needs
-
 -- the split prices, from after the test of the rows
 abbrev tested : tie.After-ascends → tie.After-split
 tested c = apart (c .before .before .before .before)
@@ -102,12 +87,6 @@ returns : tie.Need-returns
 returns c =
     let t = c .before .before in
     λ v valid e. absurd (failed (t .ascends .ensures) (c .before .if1 .taken) (rows-ascend _ _ _ (rows-are (tested t)) v valid e))
-
-sized-requires : tie.Need-sized-requires
-sized-requires c κs = search needs
-
-empty-buckets-requires-2 : tie.Need-empty-buckets-requires-2
-empty-buckets-requires-2 c κs = search needs
 
 returns-2 : tie.Need-returns-2
 returns-2 c =
@@ -129,19 +108,10 @@ few-sizes c = omega (arith, slice-aggregate-sizes c, few-segs (apart (c .before 
 rates-requires : tie.Need-rates-requires
 rates-requires c κs = few-sizes (c .before .before .before .before .before)
 
-slice-aggregate-ends : tie.Need-slice-aggregate-ends
-slice-aggregate-ends c = search needs
-
-slice-aggregate-ends-2 : tie.Need-slice-aggregate-ends-2
-slice-aggregate-ends-2 c = search needs
-
 slice-aggregate-ends-3 : tie.Need-slice-aggregate-ends-3
 slice-aggregate-ends-3 c =
     let p = tested (c .before .before .before .before .before .before .before .before) in
     sym (last-length (p .before .before .before .before .before))
-
-cast-ends : tie.Need-cast-ends
-cast-ends c = search needs
 
 ends-requires : tie.Need-ends-requires
 ends-requires c κs =
@@ -182,10 +152,10 @@ pub ends-now-spec : {M : Type 1} → statement M
 ends-now-spec =
     tie.close
     (tie.spec
-    least-requires
-    least-requires-2
-    least-requires-3
-    split-requires
+    (λ c κs. search needs)
+    (λ c κs. search needs)
+    (λ c κs. search needs)
+    (λ c κs. search needs)
     array-share-prefix-h
     slice-aggregate-hs
     array-share-prefix-d
@@ -193,16 +163,16 @@ ends-now-spec =
     array-share-prefix-all-sizes
     slice-aggregate-sizes
     ascends-requires
-    empty-buckets-requires
+    (λ c κs. search needs)
     returns
-    sized-requires
-    empty-buckets-requires-2
+    (λ c κs. search needs)
+    (λ c κs. search needs)
     returns-2
     quotients-requires
     rates-requires
-    slice-aggregate-ends
-    slice-aggregate-ends-2
+    (λ c. search needs)
+    (λ c. search needs)
     slice-aggregate-ends-3
-    cast-ends
+    (λ c. search needs)
     ends-requires
     returns-3)

@@ -4,15 +4,9 @@ use borrow.Author.Needs.{needs}
 use Rattle.recorder.proofs.reading.occupancy.Statement.{statement}
 use Rattle.recorder.proofs.reading.occupancy.Tie as tie
 
-working-set-requires : tie.Need-working-set-requires
-working-set-requires c κs = search needs
-
-by-kind-requires : tie.Need-by-kind-requires
-by-kind-requires c κs = search needs
-
 returns : tie.Need-returns
 returns c = c .by-kind .ensures ∙ rw (c .before .working-set .ensures)
 
 pub occupancy-spec : {M : Type 1} → statement M
 occupancy-spec =
-    tie.close (tie.spec working-set-requires by-kind-requires returns)
+    tie.close (tie.spec (λ c κs. search needs) (λ c κs. search needs) returns)

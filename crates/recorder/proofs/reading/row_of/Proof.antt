@@ -6,32 +6,17 @@ use Rattle.recorder.proofs.Telling.{failed, passed}
 use Rattle.recorder.proofs.reading.row_of.Statement.{statement}
 use Rattle.recorder.proofs.reading.row_of.Tie as tie
 
-zero-requires : tie.Need-zero-requires
-zero-requires c κs = search needs
-
 returns : tie.Need-returns
 returns c = λ fits. absurd (omega (arith, c .before .if1 .taken, fits .refs-fit))
 
-zero-requires-2 : tie.Need-zero-requires-2
-zero-requires-2 c κs = search needs
-
 returns-2 : tie.Need-returns-2
 returns-2 c = λ fits. absurd (omega (arith, c .before .if2 .taken, fits .some-d))
-
-summable-requires : tie.Need-summable-requires
-summable-requires c κs = search needs
-
-zero-requires-3 : tie.Need-zero-requires-3
-zero-requires-3 c κs = search needs
 
 returns-3 : tie.Need-returns-3
 returns-3 c = λ fits. absurd (failed (c .before .before .summable .ensures) (c .before .if3 .taken) (summable-of fits))
 
 occupancy-requires : tie.Need-occupancy-requires
 occupancy-requires c κs = passed (c .before .summable .ensures) (c .if3 .left)
-
-zero-requires-4 : tie.Need-zero-requires-4
-zero-requires-4 c κs = search needs
 
 returns-4 : tie.Need-returns-4
 returns-4 c = λ fits. absurd (omega (arith, c .before .if4 .taken, c .before .before .occupancy .ensures, fits .wsocc-fits))
@@ -58,15 +43,15 @@ pub row-of-spec : {M : Type 1} → statement M
 row-of-spec =
     tie.close
     (tie.spec
-    zero-requires
+    (λ c κs. search needs)
     returns
-    zero-requires-2
+    (λ c κs. search needs)
     returns-2
-    summable-requires
-    zero-requires-3
+    (λ c κs. search needs)
+    (λ c κs. search needs)
     returns-3
     occupancy-requires
-    zero-requires-4
+    (λ c κs. search needs)
     returns-4
     row-figures-requires
     returns-5)

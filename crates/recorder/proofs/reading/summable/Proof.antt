@@ -11,20 +11,11 @@ returns c = tells-false (λ s. omega arith)
 returns-2 : tie.Need-returns-2
 returns-2 c = tells-false (λ s. omega arith)
 
-holds-requires : tie.Need-holds-requires
-holds-requires c κs = search needs
-
 returns-3 : tie.Need-returns-3
 returns-3 c = tells-false (λ s. failed (c .before .holds .ensures) (c .if3 .taken) (s .all-holds))
 
-holds-requires-2 : tie.Need-holds-requires-2
-holds-requires-2 c κs = search needs
-
 returns-4 : tie.Need-returns-4
 returns-4 c = tells-false (λ s. failed (c .before .holds2 .ensures) (c .if4 .taken) (s .kept-holds))
-
-holds-requires-3 : tie.Need-holds-requires-3
-holds-requires-3 c κs = search needs
 
 returns-5 : tie.Need-returns-5
 returns-5 c = tells-false (λ s. failed (c .before .holds3 .ensures) (c .if5 .taken) (s .ends-holds))
@@ -57,11 +48,11 @@ summable-spec =
     (tie.spec
     returns
     returns-2
-    holds-requires
+    (λ c κs. search needs)
     returns-3
-    holds-requires-2
+    (λ c κs. search needs)
     returns-4
-    holds-requires-3
+    (λ c κs. search needs)
     returns-5
     within-requires
     returns-6)

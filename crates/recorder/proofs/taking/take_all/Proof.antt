@@ -96,12 +96,6 @@ segment-within c = can (entry c) .segments (c .before .loop .t) (c .loop-test .t
 room : (c : tie.In-loop Inv-loop μ-loop) → c .before .loop .count < mostRefs
 room c = omega (arith, c .before .loop .inv .1, can (entry c) .room (c .before .loop .t) (c .loop-test .taken))
 
-least-requires : tie.Need-least-requires Inv-loop μ-loop
-least-requires c κs = search needs
-
-split-requires : tie.Need-split-requires Inv-loop μ-loop
-split-requires c κs = search needs
-
 array-share-prefix-h : tie.Need-array-share-prefix-h Inv-loop μ-loop
 array-share-prefix-h c = omega (arith, h-apart (c .before .before), few-rows (c .before .before))
 
@@ -125,9 +119,6 @@ paired c =
 
 quotients-requires : tie.Need-quotients-requires Inv-loop μ-loop
 quotients-requires c κs = paired (c .before)
-
-slice-aggregate-qs : tie.Need-slice-aggregate-qs Inv-loop μ-loop
-slice-aggregate-qs c = search needs
 
 slice-aggregate-rates : tie.Need-slice-aggregate-rates Inv-loop μ-loop
 slice-aggregate-rates c = search needs
@@ -154,12 +145,6 @@ row-count c = slice-aggregate-hs (quoted c .before .before .before)
 loop-holds : tie.Need-loop-holds Inv-loop μ-loop
 loop-holds c = (omega arith, omega arith, λ none. refl, λ v valid e. e ∙ ap recorderOf (sym (appended-none v)))
 
-mul-i : tie.Need-mul-i Inv-loop μ-loop
-mul-i c = search needs
-
-shared-slice-read-i : tie.Need-shared-slice-read-i Inv-loop μ-loop
-shared-slice-read-i c = search needs
-
 cast-i : tie.Need-cast-i Inv-loop μ-loop
 cast-i c = omega (arith, segment-within (c .before))
 
@@ -178,9 +163,6 @@ array-read-mark c = omega (arith, segment-within (c .before))
 cast-touch-of : tie.Need-cast-touch-of Inv-loop μ-loop
 cast-touch-of c = omega (arith, room (c .before))
 
-touch-of-requires : tie.Need-touch-of-requires Inv-loop μ-loop
-touch-of-requires c κs = search needs
-
 mul-bucket-of : tie.Need-mul-bucket-of Inv-loop μ-loop
 mul-bucket-of c = omega (arith, segment-within (c .before .before))
 
@@ -197,21 +179,6 @@ bucket-of-requires c κs =
       rated l .rates .ensures .within _ (omega (arith, rates-length (rated l), segment-within l)),
     )
 
-mul-b : tie.Need-mul-b Inv-loop μ-loop
-mul-b c = search needs
-
-array-copy-out-b : tie.Need-array-copy-out-b Inv-loop μ-loop
-array-copy-out-b c = search needs
-
-file-requires : tie.Need-file-requires Inv-loop μ-loop
-file-requires c κs = search needs
-
-mul-buckets : tie.Need-mul-buckets Inv-loop μ-loop
-mul-buckets c = search needs
-
-array-set-from-buckets : tie.Need-array-set-from-buckets Inv-loop μ-loop
-array-set-from-buckets c = search needs
-
 add-count : tie.Need-add-count Inv-loop μ-loop
 add-count c = omega (arith, room (c .before .before .before .before .before))
 
@@ -224,25 +191,10 @@ mul-last c = omega (arith, segment-within (c .before .before .before .before .be
 array-write-last : tie.Need-array-write-last Inv-loop μ-loop
 array-write-last c = omega (arith, segment-within (c .before .before .before .before .before))
 
-unit-cost-requires : tie.Need-unit-cost-requires Inv-loop μ-loop
-unit-cost-requires c κs = search needs
-
-more-requires : tie.Need-more-requires Inv-loop μ-loop
-more-requires c κs = search needs
-
-wide-requires : tie.Need-wide-requires Inv-loop μ-loop
-wide-requires c κs = search needs
-
-more-requires-2 : tie.Need-more-requires-2 Inv-loop μ-loop
-more-requires-2 c κs = search needs
-
 add-t : tie.Need-add-t Inv-loop μ-loop
 add-t c =
     let t = c .before .before .before .before .before .before .before .before .before in
     omega (arith, can (entry t) .room _ (t .loop-test .taken))
-
-loop-less : tie.Need-loop-less Inv-loop μ-loop
-loop-less c = search needs
 
 loop-again : tie.Need-loop-again Inv-loop μ-loop
 loop-again c =
@@ -300,44 +252,44 @@ take-all-spec =
     (tie.spec
     Inv-loop
     μ-loop
-    least-requires
-    split-requires
+    (λ c κs. search needs)
+    (λ c κs. search needs)
     array-share-prefix-h
     slice-aggregate-hs
     array-share-prefix-d
     slice-aggregate-ds
     quotients-requires
-    slice-aggregate-qs
+    (λ c. search needs)
     slice-aggregate-rates
     rates-requires
     loop-holds
-    mul-i
-    shared-slice-read-i
+    (λ c. search needs)
+    (λ c. search needs)
     cast-i
     mul-z
     array-read-z
     mul-mark
     array-read-mark
     cast-touch-of
-    touch-of-requires
+    (λ c κs. search needs)
     mul-bucket-of
     array-read-bucket-of
     cast-bucket-of
     bucket-of-requires
-    mul-b
-    array-copy-out-b
-    file-requires
-    mul-buckets
-    array-set-from-buckets
+    (λ c. search needs)
+    (λ c. search needs)
+    (λ c κs. search needs)
+    (λ c. search needs)
+    (λ c. search needs)
     add-count
     cast-last
     mul-last
     array-write-last
-    unit-cost-requires
-    more-requires
-    wide-requires
-    more-requires-2
+    (λ c κs. search needs)
+    (λ c κs. search needs)
+    (λ c κs. search needs)
+    (λ c κs. search needs)
     add-t
-    loop-less
+    (λ c. search needs)
     loop-again
     returns)

@@ -32,30 +32,6 @@ rows-are c =
     clamped-rows (c .before .before .before .args .t1) (c .split .result) (c .split .ensures) _
     (c .before .before .least .ensures)
 
-least-requires : tie.Need-least-requires
-least-requires c κs = search needs
-
-split-requires : tie.Need-split-requires
-split-requires c κs = search needs
-
-mul-z : tie.Need-mul-z
-mul-z c = search needs
-
-element-copy-out-z : tie.Need-element-copy-out-z
-element-copy-out-z c = search needs
-
-mul-touch-of : tie.Need-mul-touch-of
-mul-touch-of c = search needs
-
-element-copy-out-touch-of : tie.Need-element-copy-out-touch-of
-element-copy-out-touch-of c = search needs
-
-cast-touch-of : tie.Need-cast-touch-of
-cast-touch-of c = search needs
-
-touch-of-requires : tie.Need-touch-of-requires
-touch-of-requires c κs = search needs
-
 array-share-prefix-h : tie.Need-array-share-prefix-h
 array-share-prefix-h c =
     let p = c .before .before .before .before .before in
@@ -81,48 +57,6 @@ bucket-requires c κs =
       record { equal = sym h ∙ d; few = omega (arith, h, few-rows (t .before .before .before .before .before)) },
       (omega (arith, l .retention-within), omega (arith, l .swap-within)),
     )
-
-mul-b : tie.Need-mul-b
-mul-b c = search needs
-
-element-copy-out-b : tie.Need-element-copy-out-b
-element-copy-out-b c = search needs
-
-file-requires : tie.Need-file-requires
-file-requires c κs = search needs
-
-mul-t15 : tie.Need-mul-t15
-mul-t15 c = search needs
-
-element-set-from-recorder : tie.Need-element-set-from-recorder
-element-set-from-recorder c = search needs
-
-add-recorder : tie.Need-add-recorder
-add-recorder c = search needs
-
-cast-recorder : tie.Need-cast-recorder
-cast-recorder c = search needs
-
-mul-recorder : tie.Need-mul-recorder
-mul-recorder c = search needs
-
-element-write-recorder : tie.Need-element-write-recorder
-element-write-recorder c = search needs
-
-add-recorder-2 : tie.Need-add-recorder-2
-add-recorder-2 c = search needs
-
-unit-cost-requires : tie.Need-unit-cost-requires
-unit-cost-requires c κs = search needs
-
-more-requires : tie.Need-more-requires
-more-requires c κs = search needs
-
-wide-requires : tie.Need-wide-requires
-wide-requires c κs = search needs
-
-more-requires-2 : tie.Need-more-requires-2
-more-requires-2 c κs = search needs
 
 returns : tie.Need-returns
 returns c =
@@ -154,31 +88,31 @@ pub take-one-spec : {M : Type 1} → statement M
 take-one-spec =
     tie.close
     (tie.spec
-    least-requires
-    split-requires
-    mul-z
-    element-copy-out-z
-    mul-touch-of
-    element-copy-out-touch-of
-    cast-touch-of
-    touch-of-requires
+    (λ c κs. search needs)
+    (λ c κs. search needs)
+    (λ c. search needs)
+    (λ c. search needs)
+    (λ c. search needs)
+    (λ c. search needs)
+    (λ c. search needs)
+    (λ c κs. search needs)
     array-share-prefix-h
     slice-aggregate-bucket
     array-share-prefix-d
     slice-aggregate-bucket-2
     bucket-requires
-    mul-b
-    element-copy-out-b
-    file-requires
-    mul-t15
-    element-set-from-recorder
-    add-recorder
-    cast-recorder
-    mul-recorder
-    element-write-recorder
-    add-recorder-2
-    unit-cost-requires
-    more-requires
-    wide-requires
-    more-requires-2
+    (λ c. search needs)
+    (λ c. search needs)
+    (λ c κs. search needs)
+    (λ c. search needs)
+    (λ c. search needs)
+    (λ c. search needs)
+    (λ c. search needs)
+    (λ c. search needs)
+    (λ c. search needs)
+    (λ c. search needs)
+    (λ c κs. search needs)
+    (λ c κs. search needs)
+    (λ c κs. search needs)
+    (λ c κs. search needs)
     returns)

@@ -7,9 +7,6 @@ use borrow.Author.Needs.{needs}
 use Rattle.vectors.proofs.show.digits.Statement.{statement}
 use Rattle.vectors.proofs.show.digits.Tie as tie
 
-slice-aggregate-write : tie.Need-slice-aggregate-write
-slice-aggregate-write c = search needs
-
 write-requires : tie.Need-write-requires
 write-requires c κs = omega (arith, written-length 19 (c .before .args .n) (omega arith))
 
@@ -22,23 +19,14 @@ slice-aggregate-write-all c =
     let w = c .before .before in
     sym (length-take-le _ _ (omega (arith, written-length 19 (w .before .before .args .n) (omega arith), w .write .ensures .0)))
 
-write-all-requires : tie.Need-write-all-requires
-write-all-requires c κs = search needs
-
-end-requires : tie.Need-end-requires
-end-requires c κs = search needs
-
-returns : tie.Need-returns
-returns c = search needs
-
 pub digits-spec : {M : Type 1} → statement M
 digits-spec =
     tie.close
     (tie.spec
-    slice-aggregate-write
+    (λ c. search needs)
     write-requires
     array-share-prefix-place
     slice-aggregate-write-all
-    write-all-requires
-    end-requires
-    returns)
+    (λ c κs. search needs)
+    (λ c κs. search needs)
+    (λ c. search needs))
