@@ -153,8 +153,8 @@ pub fn references(
             let mut b = buckets[k];
             b = add_touch(b, x);
             buckets[k] = b;
+            last[i] = (t + 1) as u16;
             t += 1;
-            last[i] = t as u16;
             cost += model::unit_cost(kind, z);
             volume += z as u64;
         } else {

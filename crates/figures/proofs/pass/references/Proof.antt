@@ -116,8 +116,8 @@ mul-buckets c = omega arith
 array-set-from-buckets : tie.Need-array-set-from-buckets Inv-loop μ-loop
 array-set-from-buckets c = omega arith
 
-add-t : tie.Need-add-t Inv-loop μ-loop
-add-t c = omega arith
+add-last : tie.Need-add-last Inv-loop μ-loop
+add-last c = omega arith
 
 cast-last : tie.Need-cast-last Inv-loop μ-loop
 cast-last c = omega arith
@@ -127,6 +127,9 @@ mul-last c = omega (arith, in-table (c .before .before .before .before .before .
 
 array-write-last : tie.Need-array-write-last Inv-loop μ-loop
 array-write-last c = in-table (c .before .before .before .before .before .before)
+
+add-t : tie.Need-add-t Inv-loop μ-loop
+add-t c = omega arith
 
 -- a turn of the loop, from its end
 abbrev turn : tie.After-unit-cost Inv-loop μ-loop → tie.Then1 Inv-loop μ-loop
@@ -206,10 +209,11 @@ references-spec =
     add-touch-requires
     mul-buckets
     array-set-from-buckets
-    add-t
+    add-last
     cast-last
     mul-last
     array-write-last
+    add-t
     (λ c κs. search needs)
     add-cost
     cast-volume
