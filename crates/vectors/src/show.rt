@@ -1,11 +1,6 @@
-// Printing one comparison a line.
+// Printing what a call answers, each number after a blank.
+// The contracts of the C library's functions are assumed.
 use libc::STDOUT_FILENO;
-
-// The label.
-fn label(text: &[u8]) {
-    io::write_all(STDOUT_FILENO, text);
-    io::write_all(STDOUT_FILENO, b":");
-}
 
 // A blank and a number.
 fn value(n: u64) {
@@ -13,65 +8,45 @@ fn value(n: u64) {
     io::print_decimal(STDOUT_FILENO, n);
 }
 
-// The end of the line.
-fn end() {
-    io::write_all(STDOUT_FILENO, b"\n");
-}
-
 // What reading a sheet answers: the number of the refusal, 0 where it is accepted.
-pub fn sheet(text: &[u8], bytes: &[u8]) {
-    let answer = analyser::read(bytes);
+pub fn read(sheet: &[u8]) {
+    let answer = analyser::read(sheet);
     let verdict = answer.verdict;
-    label(text);
     value(model::verdict_number(verdict));
-    end();
 }
 
-// Misses, volume, optocc and wsocc of a row: the columns of Table II.
-pub fn occupancy(text: &[u8], bytes: &[u8], row: usize) {
-    let answer = analyser::figures(bytes, row);
+// Misses and volume of a row, then optocc and wsocc, the columns of Table II, or optmem and wsmem, those of Table III.
+pub fn figures(sheet: &[u8], row: usize, time: bool) {
+    let answer = analyser::figures(sheet, row);
     let f = answer.figures;
-    label(text);
     value(f.misses);
     value(f.volume);
-    value(f.optocc);
-    value(f.wsocc);
-    end();
+    if time {
+        value(f.optocc);
+        value(f.wsocc);
+    } else {
+        value(f.optmem.0);
+        value(f.wsmem);
+    }
 }
 
-// Misses, volume, optmem and wsmem of a row: the columns of Table III.
-pub fn memory(text: &[u8], bytes: &[u8], row: usize) {
-    let answer = analyser::figures(bytes, row);
-    let f = answer.figures;
-    label(text);
-    value(f.misses);
-    value(f.volume);
-    value(f.optmem.0);
-    value(f.wsmem);
-    end();
-}
-
-// What pricing a schedule at row 0 answers: the refusal, memory, load and total.
-pub fn price(text: &[u8], bytes: &[u8], schedule: &[u8]) {
-    let answer = analyser::price(bytes, 0, schedule);
+// What pricing a schedule at a row answers: the refusal, memory, load and total.
+pub fn cost(sheet: &[u8], row: usize, schedule: &[u8]) {
+    let answer = analyser::price(sheet, row, schedule);
     let verdict = answer.verdict;
-    label(text);
     value(model::verdict_number(verdict));
     value(answer.memory.0);
     value(answer.load.0);
     value(answer.total);
-    end();
 }
 
 // What writing the optimal schedule of a row answers: the refusal and the length; then how many bytes of the place are still 170.
-pub fn schedule(text: &[u8], bytes: &[u8], row: usize, place: &mut [u8]) {
-    let answer = analyser::optimal_schedule(bytes, row, place);
+pub fn optimal(sheet: &[u8], row: usize, place: &mut [u8]) {
+    let answer = analyser::optimal_schedule(sheet, row, place);
     let verdict = answer.verdict;
-    label(text);
     value(model::verdict_number(verdict));
     value(answer.length as u64);
     value(unchanged(place));
-    end();
 }
 
 // How many bytes of a place are 170.
@@ -87,36 +62,17 @@ fn unchanged(place: &[u8]) -> u64 {
     n
 }
 
-// A line of a page of so many bytes, counted from 0; nothing where there is no such line.
-fn line(place: &[u8], length: usize, k: usize) {
-    if k < 120 {
-        let start = 73 * k;
-        let after = start + 73;
-        if after <= length {
-            if after <= place.len() {
-                io::write_all(STDOUT_FILENO, &place[start..after]);
-            }
-        }
+// A line of the page that is written, counted from 0; then what writing it answers: the refusal and the length.
+pub fn page(sheet: &[u8], k: usize, place: &mut [u8]) {
+    let answer = analyser::page(sheet, place);
+    let start = k % 120 * 73;
+    let after = start + 73;
+    if after <= place.len() {
+        io::write_all(STDOUT_FILENO, &place[start..after]);
     }
-}
-
-// What writing the page answers: the refusal and the length, and the lines at which pages begin and end.
-pub fn page(text: &[u8], bytes: &[u8]) {
-    let mut place = [46u8; 8760];
-    let answer = analyser::page(bytes, &mut place);
     let verdict = answer.verdict;
-    label(text);
     value(model::verdict_number(verdict));
     value(answer.length as u64);
-    end();
-    line(&place, answer.length, 0);
-    line(&place, answer.length, 1);
-    line(&place, answer.length, 2);
-    line(&place, answer.length, 59);
-    line(&place, answer.length, 60);
-    line(&place, answer.length, 61);
-    line(&place, answer.length, 62);
-    line(&place, answer.length, 67);
 }
 
 // The digits that the number writer writes.
@@ -124,5 +80,4 @@ pub fn digits(n: u64) {
     let mut place = [0u8; 20];
     let after = decimal::write(n, &mut place, 0);
     io::write_all(STDOUT_FILENO, &place[..after]);
-    end();
 }

@@ -28,5 +28,4 @@ digits-spec =
     array-share-prefix-place
     slice-aggregate-write-all
     (λ c κs. search needs)
-    (λ c κs. search needs)
     (λ c. search needs))

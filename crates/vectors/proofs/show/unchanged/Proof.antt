@@ -1,13 +1,11 @@
 -- `vectors::show::unchanged` is safe and ends: the count is at most the bytes passed. Assumes nothing.
-use borrow.Author.Needs.{needs}
 use Prim.Native.Nat.{_-_, _≤_}
 use mathlib.Core.Logic.{⊎-elim}
 use lib.ListN.{length}
 use native.Mathlib.Omega.{arith}
+use borrow.Author.Needs.{needs}
 use Rattle.vectors.proofs.show.unchanged.Statement.{statement}
 use Rattle.vectors.proofs.show.unchanged.Tie as tie
-use Rattle.vectors.proofs.show.unchanged.Reads as reads
-use Rattle.vectors.proofs.show.unchanged.Lts as lts
 
 abbrev Inv-loop : tie.InvT-loop
 Inv-loop place n₀ i₀ n i = (i ≤ length place) × (n ≤ i)
@@ -15,16 +13,9 @@ Inv-loop place n₀ i₀ n i = (i ≤ length place) × (n ≤ i)
 abbrev μ-loop : tie.MeasureT-loop
 μ-loop place n₀ i₀ n i = length place - i
 
--- src/show.rt:81:5
--- src/show.rt:82:12
--- src/show.rt:83:13
--- src/show.rt:85:9
--- src/show.rt:81:5
--- src/show.rt:81:5
 loop-again : tie.Need-loop-again Inv-loop μ-loop
 loop-again c = ⊎-elim (λ w. omega arith) (λ w. omega arith) (c .if1 .came)
 
--- src/show.rt:78:1
 pub unchanged-spec : {M : Type 1} → statement M
 unchanged-spec =
     tie.close
