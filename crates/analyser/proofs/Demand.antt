@@ -6,6 +6,7 @@ use lib.ListN.{length, drop}
 use lib.Seq.{take-append-seam}
 use borrow.Author.Tests.{lt-ltb}
 use Rattle.model.specs.Demand.{rowTotal, rowSchedule}
+use Rattle.model.specs.Places.{PlaceLeft}
 use Rattle.model.specs.Rows.{rowFigures}
 use Rattle.model.specs.Schedules.{Permitted, scheduleMemory, scheduleLoad}
 use Rattle.model.specs.Sheets.{SheetValue, traceOf, rowAt}
@@ -14,16 +15,16 @@ use Rattle.model.proofs.Demand.{demand-3}
 use Rattle.sheet.specs.Reading.{accepted, readSheet}
 use Rattle.sheet.proofs.Accepted.{accepted-valid}
 use Rattle.figures.specs.Rows.{figuresOf, figuresAt}
-use Rattle.schedule.proofs.Verdicts.{accepted-answer, permitted-accepted}
-use Rattle.analyser.specs.Answers.{PlaceLeft, figuresAnswer, scheduleResult, pricing}
+use Rattle.pricing.proofs.Verdicts.{accepted-answer, permitted-accepted}
+use Rattle.plans.proofs.PlanResults.{schedule-length, schedule-placed, price-at}
+use Rattle.analyser.specs.Answers.{figuresAnswer, scheduleResult, pricing}
 use Rattle.analyser.specs.Demand.{priceOf, leftSchedule, HasOptimum, Demand3FromBytes}
-use Rattle.analyser.proofs.Results.{schedule-length, schedule-placed, price-at}
 
-module _ (s : List ℕ) (v : SheetValue) (reads : readSheet s ≡ accepted v) (r : ℕ) (row : r < length (v .rows)) where
+module _ (s : List ℕ) (v : SheetValue) (reads : readSheet s ≡ accepted v) (r : ℕ) (row : r < length (v .head .rows)) where
   -- the figures call answers the row's figures
   figures-are : figuresAnswer s r ≡ record { verdict = Accepted; figures = figuresAt v r }
   unfolding figuresAnswer figuresOf
-  figures-are = rw (reads, lt-ltb r (length (v .rows)) row)
+  figures-are = rw (reads, lt-ltb r (length (v .head .rows)) row)
 
   -- the pricing call prices a permitted schedule
   priced-at : (p : List ℕ) → Permitted (traceOf v) p
@@ -46,7 +47,7 @@ module _ (s : List ℕ) (v : SheetValue) (reads : readSheet s ≡ accepted v) (r
   -- which has the optimum
   optimum-of : HasOptimum s v r (rowSchedule v r)
   optimum-of =
-      let d = demand-3 v (accepted-valid s v reads .segs-within) r row in
+      let d = demand-3 v (accepted-valid s v reads .run .segs-within) r row in
       record {
         permitted = d .permitted;
         total = d .total;
@@ -58,7 +59,7 @@ module _ (s : List ℕ) (v : SheetValue) (reads : readSheet s ≡ accepted v) (r
   pub demand-3-from-bytes : Demand3FromBytes s v r
   unfolding rowFigures
   demand-3-from-bytes =
-      let d = demand-3 v (accepted-valid s v reads .segs-within) r row in
+      let d = demand-3 v (accepted-valid s v reads .run .segs-within) r row in
       record {
         figures-accepted = ap (λ a. a .verdict) figures-are;
         reported-optimum = ap (λ a. a .figures .opttotal) figures-are;

@@ -1,14 +1,5 @@
-pub mod Alone
-pub mod BillResults
 pub mod Demand
-pub mod Entries
 pub mod Handed
-pub mod MarginResults
 pub mod MarginSigns
 pub mod Printing
-pub mod Results
 pub mod RoundTrips
-pub mod Sizes
-pub mod Standings
-pub mod Times
-pub mod TouchMargins

@@ -12,11 +12,12 @@ use Rattle.model.specs.Traces.{entry, unreferenced}
 use Rattle.model.specs.declared.Verdict.the-variants.{Accepted}
 use Rattle.model.proofs.Margins.{reuse-margin}
 use Rattle.sheet.specs.Reading.{accepted, readSheet}
-use Rattle.analyser.specs.Margins.{touchMargin, marginAnswer}
-use Rattle.analyser.proofs.MarginResults.{margin-at}
+use Rattle.margin.specs.Margins.{touchMargin}
+use Rattle.margin.proofs.MarginResults.{margin-at}
+use Rattle.analyser.specs.Answers.{marginAnswer}
 
 -- the n-th reference, counted from 1, at row r of the sheet v that a run of bytes s reads as
-module _ (s : List ℕ) (v : SheetValue) (reads : readSheet s ≡ accepted v) (r n : ℕ) (row : r < length (v .rows)) (some : 1 ≤ n)
+module _ (s : List ℕ) (v : SheetValue) (reads : readSheet s ≡ accepted v) (r n : ℕ) (row : r < length (v .head .rows)) (some : 1 ≤ n)
     (within : n ≤ length (v .refs)) where
   -- it is a reuse
   abbrev pub Reuse : Type 0

@@ -9,7 +9,8 @@ use Rattle.sheet.proofs.Accepted.{accepted-valid}
 use Rattle.sheet.proofs.Refusals.{refusals-1-to-6}
 use Rattle.report.specs.Listing.{refusedText, mostListing, listingOf}
 use Rattle.report.proofs.ListingMost.{listing-most, refused-most}
-use Rattle.analyser.specs.Answers.{onSheet, printedText}
+use Rattle.sheet.specs.Accepting.{onSheet}
+use Rattle.analyser.specs.Answers.{printedText}
 
 module _ (s : List ℕ) where
   printed-on : (o : Outcome) → readSheet s ≡ o → length (onSheet o refusedText listingOf) ≤ mostListing

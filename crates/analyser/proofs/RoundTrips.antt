@@ -2,16 +2,14 @@
 use Prim.Native.Nat.{ℕ}
 use mathlib.Core.Path.{_≡_, refl, sym, ap, _∙_}
 use mathlib.Core.List.{List}
-use lib.ListN.{length}
 use Rattle.model.specs.Sheets.{SheetValue}
 use Rattle.sheet.specs.Reading.{accepted, readSheet}
-use Rattle.model.specs.Values.{valueOf, sheetOf}
+use Rattle.model.specs.Values.{valueOf}
 use Rattle.sheet.specs.Answers.{answerOf}
 use Rattle.sheet.specs.Writing.{sheetText}
-use Rattle.sheet.specs.declared.SheetAnswer.{SheetAnswer}
 use Rattle.sheet.proofs.Held.{held-text}
 use Rattle.analyser.specs.RoundTrip.{sheetRead, RoundTripOf}
-use Rattle.analyser.proofs.Results.{text-fits}
+use Rattle.model.proofs.Places.{text-fits}
 
 module _ (s : List ℕ) (v : SheetValue) (reads : readSheet s ≡ accepted v) where
   -- what reading answers
@@ -28,6 +26,6 @@ module _ (s : List ℕ) (v : SheetValue) (reads : readSheet s ≡ accepted v) wh
   round-trip =
       record {
         read-accepted = ap (λ a. a .verdict) answer-is;
-        write-accepted = λ place fits. sym (rw text-is (text-fits s place refl fits .0));
-        same-bytes = λ place fits. sym (rw text-is (text-fits s place refl fits .1));
+        write-accepted = λ place fits. sym (rw text-is (text-fits s place refl fits .answer-is));
+        same-bytes = λ place fits. sym (rw text-is (text-fits s place refl fits .place-is));
       }

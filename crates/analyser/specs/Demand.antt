@@ -5,11 +5,12 @@ use mathlib.Core.Path.{_≡_}
 use mathlib.Core.List.{List, _++_}
 use lib.ListN.{length, take, drop}
 use Rattle.model.specs.Demand.{rowOpttotal, rowTotal, rowSchedule}
+use Rattle.model.specs.Places.{answerFor, placeFor}
 use Rattle.model.specs.Schedules.{Permitted, scheduleMemory, scheduleLoad}
 use Rattle.model.specs.Sheets.{SheetValue, traceOf, rowOptmem, rowLoad}
 use Rattle.model.specs.declared.Verdict.the-variants.{Accepted}
-use Rattle.schedule.specs.declared.PriceAnswer.{PriceAnswer}
-use Rattle.analyser.specs.Answers.{figuresAnswer, answerFor, placeFor, scheduleResult, pricing}
+use Rattle.pricing.specs.declared.PriceAnswer.{PriceAnswer}
+use Rattle.analyser.specs.Answers.{figuresAnswer, scheduleResult, pricing}
 
 -- the answer of pricing that gives memory, load and total
 abbrev pub priceOf : ℕ → ℕ → ℕ → PriceAnswer

@@ -4,11 +4,12 @@ use Prim.Native.Nat.{ℕ, _≤_}
 use mathlib.Core.Path.{_≡_}
 use mathlib.Core.List.{List, _++_}
 use lib.ListN.{length, drop}
+use Rattle.model.specs.Places.{answerFor, placeFor}
 use Rattle.model.specs.declared.Verdict.the-variants.{Accepted}
 use Rattle.sheet.specs.Reading.{readSheet}
 use Rattle.sheet.specs.Answers.{answerOf}
 use Rattle.model.specs.declared.Sheet.{Sheet}
-use Rattle.analyser.specs.Answers.{answerFor, placeFor, writeResult}
+use Rattle.analyser.specs.Answers.{writeResult}
 
 -- the sheet that the reading call hands back
 abbrev pub sheetRead : List ℕ → Sheet

@@ -23,7 +23,7 @@ fn no_recorder(why: Refusal) -> TouchAnswer
 pub fn start(bytes: &[u8]) -> TouchAnswer
     ensures { λ r. ⌜ r ≡ startAnswer (now (bytes .entry)) ⌝ }
 {
-    let answer = sheet::reading::read(bytes);
+    let answer = reading::read(bytes);
     let verdict = answer.verdict;
     let s = answer.sheet;
     match verdict {

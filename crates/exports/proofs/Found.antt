@@ -7,21 +7,25 @@ use mathlib.Core.List.{List}
 use native.Mathlib.Omega.{arith}
 use lib.Dec.{leb}
 use lib.ListN.{length, take}
-use borrow.Author.Tests.{leb-true, leb-false, lt-leb}
-use Rattle.model.specs.Places.{placed, placeAnswer, nothingPlaced}
+use borrow.Author.Tests.{leb-true, leb-false}
+use Rattle.model.specs.Places.{nothingPlaced, gives, PlaceLeft}
 use Rattle.model.specs.Sheets.{SheetValue, mostRows}
 use Rattle.model.specs.declared.Refusal.{Refusal}
+use Rattle.model.specs.declared.Refusal.the-variants.{PlaceTooShort}
 use Rattle.model.specs.declared.Verdict.the-variants.{Accepted, Refused}
 use Rattle.sheet.specs.Reading.{Outcome, accepted, rejected, readSheet}
 use Rattle.sheet.proofs.Accepted.{accepted-valid}
+use Rattle.model.proofs.Places.{text-short}
 use Rattle.model.proofs.Tables.{length-tabulate}
 use Rattle.figures.specs.Rows.{figuresAt}
-use Rattle.analyser.specs.Answers.{gives, onSheet, PlaceLeft}
-use Rattle.analyser.proofs.Results.{figures-front, text-left}
-use Rattle.records.specs.Listed.{rowRecords, sheetAnswer, noRecords, recordsFor, recordsFound}
+use Rattle.sheet.specs.Accepting.{onSheet}
+use Rattle.rows.proofs.RowFigures.{figures-front}
+use Rattle.records.specs.Listed.{rowRecords, sheetAnswer}
+use Rattle.records.specs.inner.Held.{noRecords, recordsFor, recordsFound}
 use Rattle.records.specs.declared.Records.{Records}
-use Rattle.exports.specs.Exported.{figureLists, rowsResult}
-use Rattle.exports.proofs.Rows.{rows-length}
+use Rattle.numbers.specs.Figures.{figureLists}
+use Rattle.numbers.proofs.RowNumbers.{rows-length}
+use Rattle.exports.specs.Exported.{rowsResult}
 
 -- records that are to be written: no more than the array and the place have, and their numbers are the result
 pub record Fitting (s place : List ℕ) (r : Records) : Type 0 where
@@ -33,34 +37,35 @@ pub record Fitting (s place : List ℕ) (r : Records) : Type 0 where
 abbrev pub Refusing : List ℕ → List ℕ → Refusal → Type 0
 Refusing s place q = PlaceLeft (rowsResult s) place place (nothingPlaced q)
 
-rows-counted : (v : SheetValue) → length (figureLists (rowRecords v)) ≡ 11 * length (v .rows)
-rows-counted v = rows-length (rowRecords v) ∙ ap (λ n. 11 * n) (length-tabulate (length (v .rows)) (figuresAt v))
+rows-counted : (v : SheetValue) → length (figureLists (rowRecords v)) ≡ 11 * length (v .head .rows)
+rows-counted v = rows-length (rowRecords v) ∙ ap (λ n. 11 * n) (length-tabulate (length (v .head .rows)) (figuresAt v))
 
 module _ (s place : List ℕ) (v : SheetValue) (e : readSheet s ≡ accepted v) where
-  sheet-fits : (b : Bool) → leb (length (v .rows)) (length place / 11) ≡ b → recordsFor v (length place / 11) .answer .verdict ≡ Accepted
+  sheet-fits : (b : Bool) → leb (length (v .head .rows)) (length place / 11) ≡ b → recordsFor v (length place / 11) .answer .verdict ≡ Accepted
       → Fitting s place (recordsFor v (length place / 11))
   unfolding recordsFor sheetAnswer noRecords rowsResult
   sheet-fits true t a =
-      let most = accepted-valid s v e .rows-within in
-      let fits = leb-true (length (v .rows)) (length place / 11) t in
+      let most = accepted-valid s v e .rows .rows-within in
+      let fits = leb-true (length (v .head .rows)) (length place / 11) t in
       rw t (record { most = most; room = omega arith; result = rw (e, figures-front v most) })
   sheet-fits false t a =
       let w = rw t at a in
       let z : _≡_ {A = ℕ} 0 1 = cc in
       absurd (omega arith)
 
-  sheet-refuses : (b : Bool) → leb (length (v .rows)) (length place / 11) ≡ b → (q : Refusal)
+  sheet-refuses : (b : Bool) → leb (length (v .head .rows)) (length place / 11) ≡ b → (q : Refusal)
       → recordsFor v (length place / 11) .answer .verdict ≡ Refused q → Refusing s place q
-  unfolding recordsFor sheetAnswer noRecords rowsResult placed placeAnswer
+  unfolding recordsFor sheetAnswer noRecords rowsResult
   sheet-refuses true t q a =
       let w = rw t at a in
       let z : _≡_ {A = ℕ} 0 1 = cc in
       absurd (omega arith)
   sheet-refuses false t q a =
       let w = rw t at a in
-      let short = leb-false (length (v .rows)) (length place / 11) t in
+      let short = leb-false (length (v .head .rows)) (length place / 11) t in
       let n = rows-counted v in
-      rw e (text-left (rw (lt-leb (length (figureLists (rowRecords v))) (length place) (omega arith)) ((cc), refl)))
+      let same : q ≡ PlaceTooShort = cc in
+      rw (e, same) (text-short (figureLists (rowRecords v)) place (omega arith))
 
 module _ (s place : List ℕ) (r : Records) (found : r ≡ recordsFound s (length place / 11)) where
   fits-on : (o : Outcome) → readSheet s ≡ o → onSheet o noRecords (λ v. recordsFor v (length place / 11)) .answer .verdict ≡ Accepted

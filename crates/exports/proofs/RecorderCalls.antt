@@ -1,19 +1,22 @@
 -- The exported calls of the recorder meet what their contracts say, accepted and refused. Assumes nothing.
 use Prim.Native.Nat.{ℕ}
-use mathlib.Core.Path.{_≡_, refl}
+use mathlib.Core.Path.{_≡_, refl, ap, _∙_}
 use mathlib.Core.List.{List}
 use Rattle.model.specs.Refusals.{numberOf, verdictNumber}
+use Rattle.model.specs.Sheets.{SheetValue, Valid}
 use Rattle.model.specs.declared.Refusal.{Refusal}
 use Rattle.model.specs.declared.Verdict.{Verdict}
 use Rattle.model.specs.declared.Verdict.the-variants.{Accepted, Refused}
 use Rattle.figures.specs.declared.FiguresAnswer.{FiguresAnswer}
-use Rattle.recorder.specs.Recorders.{Figured}
+use Rattle.recorder.specs.Recorders.{recorderOf, appended, Figured}
 use Rattle.recorder.specs.declared.Recorder.{Recorder}
 use Rattle.recorder.specs.declared.TouchAnswer.{TouchAnswer}
 use Rattle.analyser.specs.Recording.{startAnswer}
-use Rattle.exports.specs.Exported.{figureList}
-use Rattle.exports.specs.Recording.{RecorderLists, lists, recorderIn, StartCall, TouchCall, FiguresCall, HeadStored, TakenStored}
-use Rattle.exports.proofs.RecorderLists.{all-stored, taken-stored}
+use Rattle.numbers.specs.Figures.{figureList}
+use Rattle.numbers.specs.Recorders.{RecorderLists, lists, recorderIn, listsOf}
+use Rattle.numbers.specs.inner.Stored.{HeadStored, TakenStored}
+use Rattle.numbers.proofs.RecorderLists.{all-stored, taken-stored, recorder-again, taken-lists}
+use Rattle.exports.specs.Recording.{StartCall, TouchCall, FiguresCall}
 
 -- the number that is returned
 accepted-number : {w : Verdict} → w ≡ Accepted → _≡_ {A = ℕ} 0 (verdictNumber w)
@@ -62,3 +65,13 @@ module _ (head counts sizes h d last sums : List ℕ) (row : ℕ) (out : List �
   pub figures-refused : (why : Refusal) (n : ℕ) → r .verdict ≡ Refused why → n ≡ numberOf why
       → FiguresCall (lists head counts sizes h d last sums) row out out n
   figures-refused why n f e = record { answer = r; figured = rw is at g; returned-is = refused-number e f; out-is = rw f refl }
+
+-- so lists of a recorder that stands for a sheet are, after an accepted call on the references xs, those of the sheet with them
+module _ (Answers : Recorder → TouchAnswer → Type 0) (v : SheetValue) (valid : Valid v) (xs : List ℕ)
+    (stands : (a : TouchAnswer) → Answers (recorderOf v) a → a .verdict ≡ Accepted → a .recorder ≡ recorderOf (appended v xs)) where
+  pub call-lists : (l l' : RecorderLists) (n : ℕ) → l ≡ listsOf (recorderOf v) → (c : TouchCall Answers l l' n)
+      → c .answer .verdict ≡ Accepted → l' ≡ listsOf (recorderOf (appended v xs))
+  call-lists l l' n e c a =
+      let held = ap recorderIn e ∙ recorder-again v valid in
+      let next = stands (c .answer) (rw held at (c .answered)) a in
+      c .lists-are ∙ rw (a, e, next) (taken-lists v xs)

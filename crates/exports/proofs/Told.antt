@@ -7,7 +7,7 @@ use Rattle.model.specs.declared.PlaceAnswer.{PlaceAnswer}
 use Rattle.model.specs.declared.Refusal.{Refusal}
 use Rattle.model.specs.declared.Verdict.{Verdict}
 use Rattle.model.specs.declared.Verdict.the-variants.{Accepted, Refused}
-use Rattle.analyser.specs.Answers.{Result, refuses, PlaceLeft}
+use Rattle.model.specs.Places.{Result, refuses, PlaceLeft}
 use Rattle.exports.specs.Exported.{orOld, PlaceCall}
 
 -- a call with an answer R, which has a verdict and a value: the answer is the one that is due

@@ -1,31 +1,22 @@
 -- What the exported calls return and leave in what they are lent. Assumes nothing.
 use Prim.Native.Nat.{ℕ}
 use mathlib.Core.Path.{_≡_}
-use mathlib.Core.List.{List, [], _∷_, _++_}
+use mathlib.Core.List.{List, [], _∷_}
+use Rattle.model.specs.Places.{Result, gives, refuses, answerFor, placeFor}
 use Rattle.model.specs.Refusals.{verdictNumber}
-use Rattle.model.specs.declared.RowFigures.{RowFigures}
 use Rattle.model.specs.declared.Verdict.{Verdict}
 use Rattle.model.specs.declared.Verdict.the-variants.{Accepted, Refused}
 use Rattle.sheet.specs.Reading.{readSheet}
 use Rattle.sheet.specs.Writing.{sheetText}
-use Rattle.schedule.specs.declared.PriceAnswer.{PriceAnswer}
-use Rattle.analyser.specs.Answers.{Result, gives, refuses, onSheet, answerFor, placeFor}
+use Rattle.pricing.specs.declared.PriceAnswer.{PriceAnswer}
+use Rattle.sheet.specs.Accepting.{onSheet}
 use Rattle.records.specs.Listed.{rowRecords}
+use Rattle.numbers.specs.Figures.{figureLists}
 
 -- a lent value after a call: the new one, or where the call is refused the old one
 abbrev pub orOld : {A : Type 0} → Verdict → A → A → A
 orOld Accepted new old = new
 orOld (Refused r) new old = old
-
--- the figures of a row as numbers, in the listing's order
-abbrev pub figureList : RowFigures → List ℕ
-figureList f =
-    f .h ∷ f .d ∷ f .misses ∷ f .volume ∷ f .load .0 ∷ f .optmem .0 ∷ f .opttotal ∷ f .optocc ∷ f .wsmem ∷ f .wsocc ∷ f .mean ∷ []
-
--- the figures of rows, one after the other
-unfoldable pub figureLists : List RowFigures → List ℕ
-figureLists [] = []
-figureLists (f ∷ fs) = figureList f ++ figureLists fs
 
 -- a price as numbers: memory, load, total
 abbrev pub priceList : PriceAnswer → List ℕ

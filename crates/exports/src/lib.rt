@@ -5,21 +5,15 @@ pub mod recording;
 
 use model::PlaceAnswer;
 use model::RowFigures;
-use model::Sheet;
 use model::Verdict;
 ghost use mathlib.Core.Path.{_≡_};
-ghost use Prim.Native.Nat.{_*_, _+_, _≤_};
-ghost use lib.ListN.{length, take};
-ghost use Rattle.model.specs.Sheets.{mostRows};
 ghost use Rattle.model.specs.Refusals.{verdictNumber};
-ghost use Rattle.sheet.specs.Parts.{Put};
 ghost use Rattle.sheet.specs.Reading.{readSheet};
 ghost use Rattle.sheet.specs.Answers.{answerOf};
-ghost use Rattle.analyser.specs.Answers.{figuresAnswer, listingResult, pageResult, scheduleResult, pricing};
-ghost use Rattle.analyser.specs.Billing.{billAnswer};
-ghost use Rattle.analyser.specs.Margins.{marginAnswer};
-ghost use Rattle.analyser.specs.Sizing.{sizeAnswer};
-ghost use Rattle.exports.specs.Exported.{orOld, figureList, figureLists, priceList, rewriteResult, rowsResult, PlaceCall};
+ghost use Rattle.numbers.specs.Figures.{figureList};
+ghost use Rattle.analyser.specs.Answers.{figuresAnswer, listingResult, pageResult, scheduleResult};
+ghost use Rattle.analyser.specs.Answers.{pricing, marginAnswer, sizeAnswer, billAnswer};
+ghost use Rattle.exports.specs.Exported.{orOld, priceList, rewriteResult, rowsResult, PlaceCall};
 
 // Whether the bytes are a sheet: 1 to 6.
 #[no_mangle]
@@ -75,59 +69,11 @@ pub extern "C" fn segtrace_figures(
     let verdict = answer.verdict;
     match verdict {
         Verdict::Accepted => {
-            *figures = numbers(answer.figures);
+            *figures = numbers::of_row(answer.figures);
             0
         }
         Verdict::Refused(why) => model::number(why),
     }
-}
-
-// The figures of a row as numbers.
-pub fn numbers(f: RowFigures) -> [u64; RowFigures::ITEMS]
-    ensures { λ r. ⌜ r ≡ figureList f ⌝ }
-{
-    [
-        f.h,
-        f.d,
-        f.misses,
-        f.volume,
-        f.load.0,
-        f.optmem.0,
-        f.opttotal,
-        f.optocc,
-        f.wsmem,
-        f.wsocc,
-        f.mean,
-    ]
-}
-
-// Puts the numbers of a row from `at` on, and gives the index after them.
-fn put_row(f: RowFigures, out: &mut [u64], at: usize) -> usize
-    requires { ⌜ at + 11 ≤ length (now out) ⌝ }
-    ensures { λ r. ⌜ Put (figureList f) at (now (out .entry)) r (now (out .exit)) ⌝ }
-{
-    let row = numbers(f);
-    let mut i = 0;
-    while i < RowFigures::ITEMS {
-        out[at + i] = row[i];
-        i += 1;
-    }
-    at + RowFigures::ITEMS
-}
-
-// Puts the numbers of the first `n` rows at the front, and gives how many they are.
-fn put_rows(figures: [RowFigures; Sheet::MAX_ROWS], n: usize, out: &mut [u64]) -> usize
-    requires { ⌜ (n ≤ mostRows) × (11 * n ≤ length (now out)) ⌝ }
-    ensures { λ r. ⌜ Put (figureLists (take n figures)) 0 (now (out .entry)) r (now (out .exit)) ⌝ }
-{
-    let mut next = 0;
-    let mut i = 0;
-    while i < n {
-        let f = figures[i];
-        next = put_row(f, out, next);
-        i += 1;
-    }
-    next
 }
 
 // The figures of every row, 11 numbers each, one row after the other, and how many numbers: 1 to 6, 11.
@@ -143,7 +89,7 @@ pub extern "C" fn segtrace_all_figures(sheet: &[u8], out: &mut [u64], written: &
         Verdict::Accepted => {
             let n = answer.length;
             let figures = all.figures;
-            let end = put_rows(figures, n, out);
+            let end = numbers::put_rows(figures, n, out);
             *written = end as u64;
             0
         }

@@ -3,7 +3,7 @@
 use Prim.Native.Nat.{ℕ, zero, suc, _+_, _*_, _<_}
 use mathlib.Core.Path.{_≡_, refl, _∙_}
 use mathlib.Core.Bool.{Bool, true, false, cond}
-use mathlib.Core.List.{List, [], _∷_}
+use mathlib.Core.List.{List}
 use native.Mathlib.Omega.{arith}
 use lib.Dec.{eqb, ltb}
 use lib.ListN.{length, getD}
@@ -12,12 +12,11 @@ use Rattle.model.specs.Costs.{keeps}
 use Rattle.model.specs.Sums.{sum, tabulate}
 use Rattle.model.specs.Traces.{Trace, segs, steps, entry, swapOf, touching, overTouches, overSegments, unreferenced}
 use Rattle.model.specs.Figures.{isReuse, retentionOf, kept}
-use Rattle.model.specs.Sheets.{SheetValue, Valid, traceOf, rowAt}
+use Rattle.model.specs.Sheets.{RowsWithin, RunWithin, rowIn}
 use Rattle.model.specs.declared.PriceRow.{PriceRow}
 use Rattle.model.proofs.Sums.{sum-none, sum-suc, sum-eq, sum-add, sum-zero, sum-at}
 use Rattle.model.proofs.Loads.{overTouches-eq}
-use Rattle.figures.specs.Buckets.{bucketCount, bucketOf, filed, ended, tallyOf, bucketAfter}
-use Rattle.figures.specs.Sweep.{noBucket}
+use Rattle.figures.specs.Buckets.{bucketCount, bucketOf, filed, ended, tallyOf, bucketAfter, noBucket}
 use Rattle.model.proofs.Tables.{getD-tabulate}
 use Rattle.figures.proofs.BucketRows.{bucket-kept, bucket-within}
 
@@ -76,63 +75,53 @@ unfolding sum
 sum-ones zero = refl
 sum-ones (suc n) = omega (arith, sum-ones n)
 
--- an entry within the list does not depend on what stands for the others
-getD-other : (l : List ℕ) (t d e : ℕ) → t < length l → getD l t d ≡ getD l t e
-getD-other [] t d e lt = absurd (omega arith)
-getD-other (x ∷ l) zero d e lt = refl
-getD-other (x ∷ l) (suc t) d e lt = getD-other l t d e (omega arith)
-
-module _ (s : SheetValue) (v : Valid s) where
+module _ (rows : List PriceRow) (up : RowsWithin rows) (T : Trace) where
   -- all buckets together hold every touch
   pub filed-all : (g : ℕ → ℕ → ℕ)
-      → sum bucketCount (λ k. filed (s .rows) (traceOf s) (steps (traceOf s)) k g) ≡ overTouches (traceOf s) g
+      → sum bucketCount (λ k. filed rows T (steps T) k g) ≡ overTouches T g
   filed-all g =
-      let T = traceOf s in
-      filed-below (s .rows) T (steps T) bucketCount g
-      ∙ overTouches-eq T (λ t i. cond (ltb (bucketOf (s .rows) T t i) bucketCount) (g t i) 0) g
-      (λ t i lt l touch. rw (bucket-within s v t i))
+      filed-below rows T (steps T) bucketCount g
+      ∙ overTouches-eq T (λ t i. cond (ltb (bucketOf rows T t i) bucketCount) (g t i) 0) g
+      (λ t i lt l touch. rw (bucket-within rows up T t i))
 
   -- the counts of the buckets add up to the references
-  pub counts-add-up : sum bucketCount (λ k. getD (tallyOf (s .rows) (traceOf s) .buckets) k noBucket .count) ≡ length (s .refs)
+  pub counts-add-up : RunWithin T → sum bucketCount (λ k. getD (tallyOf rows T .buckets) k noBucket .count) ≡ steps T
   unfolding tallyOf bucketAfter touching
-  counts-add-up =
-      let T = traceOf s in
+  counts-add-up run =
       sum-eq bucketCount
-      (λ k. getD (tabulate bucketCount (bucketAfter (s .rows) T (steps T))) k noBucket .count)
-      (λ k. filed (s .rows) T (steps T) k (λ t i. 1))
-      (λ k lt. rw (getD-tabulate bucketCount (bucketAfter (s .rows) T (steps T)) k noBucket lt))
+      (λ k. getD (tabulate bucketCount (bucketAfter rows T (steps T))) k noBucket .count)
+      (λ k. filed rows T (steps T) k (λ t i. 1))
+      (λ k lt. rw (getD-tabulate bucketCount (bucketAfter rows T (steps T)) k noBucket lt))
       ∙ filed-all (λ t i. 1)
       ∙ sum-eq (steps T) (touching T (λ t i. 1)) (λ t. 1)
-      (λ t lt. rw (lt-ltb (entry T t) (segs T) (rw (getD-other (s .refs) t (segs T) 0 lt) (v .ref-within t lt))))
+      (λ t lt. rw (lt-ltb (entry T t) (segs T) (run .ref-within t lt)))
       ∙ sum-ones (steps T)
 
-  module _ (r : ℕ) (lt : r < length (s .rows)) where
+  module _ (r : ℕ) (lt : r < length rows) where
     -- the buckets up to row r hold what it keeps
     pub filed-kept : (g : ℕ → ℕ → ℕ)
-        → sum (suc r) (λ k. filed (s .rows) (traceOf s) (steps (traceOf s)) k g)
-        ≡ overTouches (traceOf s) (λ t i. cond (kept (traceOf s) (rowAt s r .h) (rowAt s r .d) t i) (g t i) 0)
+        → sum (suc r) (λ k. filed rows T (steps T) k g)
+        ≡ overTouches T (λ t i. cond (kept T (rowIn rows r .h) (rowIn rows r .d) t i) (g t i) 0)
     filed-kept g =
-        let T = traceOf s in
-        filed-below (s .rows) T (steps T) (suc r) g
-        ∙ overTouches-eq T (λ t i. cond (ltb (bucketOf (s .rows) T t i) (suc r)) (g t i) 0)
-        (λ t i. cond (kept T (rowAt s r .h) (rowAt s r .d) t i) (g t i) 0)
-        (λ t i l m touch. rw (bucket-kept s v r lt t i))
+        filed-below rows T (steps T) (suc r) g
+        ∙ overTouches-eq T (λ t i. cond (ltb (bucketOf rows T t i) (suc r)) (g t i) 0)
+        (λ t i. cond (kept T (rowIn rows r .h) (rowIn rows r .d) t i) (g t i) 0)
+        (λ t i l m touch. rw (bucket-kept rows up T r lt t i))
 
     -- so do those of the end intervals
     pub ended-kept : (g : ℕ → ℕ)
-        → sum (suc r) (λ k. ended (s .rows) (traceOf s) (segs (traceOf s)) k g)
-        ≡ overSegments (traceOf s) (λ i. cond (kept (traceOf s) (rowAt s r .h) (rowAt s r .d) (steps (traceOf s)) i) (g i) 0)
+        → sum (suc r) (λ k. ended rows T (segs T) k g)
+        ≡ overSegments T (λ i. cond (kept T (rowIn rows r .h) (rowIn rows r .d) (steps T) i) (g i) 0)
     unfolding kept
     ended-kept g =
-        let T = traceOf s in
-        ended-below (s .rows) T (segs T) (suc r) g
+        ended-below rows T (segs T) (suc r) g
         ∙ sum-eq (segs T)
-        (λ i. cond (isReuse (unreferenced T (steps T) i)) (cond (ltb (bucketOf (s .rows) T (steps T) i) (suc r)) (g i) 0) 0)
-        (λ i. cond (kept T (rowAt s r .h) (rowAt s r .d) (steps T) i) (g i) 0)
+        (λ i. cond (isReuse (unreferenced T (steps T) i)) (cond (ltb (bucketOf rows T (steps T) i) (suc r)) (g i) 0) 0)
+        (λ i. cond (kept T (rowIn rows r .h) (rowIn rows r .d) (steps T) i) (g i) 0)
         (λ i l.
-        rw (bucket-kept s v r lt (steps T) i)
+        rw (bucket-kept rows up T r lt (steps T) i)
         (touched-twice (isReuse (unreferenced T (steps T) i))
-        (keeps (rowAt s r .d * retentionOf T (steps T) i) (rowAt s r .h * swapOf T i)) (g i)))
+        (keeps (rowIn rows r .d * retentionOf T (steps T) i) (rowIn rows r .h * swapOf T i)) (g i)))
       where
         touched-twice : (b k : Bool) (x : ℕ) → cond b (cond (cond b k false) x 0) 0 ≡ cond (cond b k false) x 0
         touched-twice true k x = refl

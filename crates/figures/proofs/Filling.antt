@@ -2,25 +2,37 @@
 -- count are added. Assumes nothing.
 use Prim.Native.Nat.{ℕ, zero, suc, _+_, _*_, _^_, _≤_, _<_}
 use mathlib.Core.Path.{_≡_, refl, sym, _∙_}
-use mathlib.Core.Logic.{⊎-elim}
-use mathlib.Core.Bool.{Bool, true, false, cond, false≢true}
-use mathlib.Core.List.{List}
+use mathlib.Core.Bool.{Bool, true, false, cond}
+use mathlib.Core.List.{List, [], _∷_}
 use native.Mathlib.Omega.{arith}
 use native.Mathlib.Nat.{add-zero}
-use native.Mathlib.Numerals.{add-one}
 use lib.Dec.{eqb}
-use lib.ListN.{getD, set}
+use lib.ListN.{getD, set, getD-replicate}
 use borrow.Author.Tests.{eq-eqb, ne-eqb}
 use Rattle.model.specs.Sums.{sum, tabulate}
-use Rattle.model.specs.Sheets.{mostRefs}
 use Rattle.model.proofs.Bounds.{product-within}
-use Rattle.model.proofs.Sums.{sum-eq, last-or-below, sum-within}
-use Rattle.figures.specs.Buckets.{lastBucket, bucketCount}
-use Rattle.figures.specs.Pass.{Limited, withTouch, Within, gathered, bucketOver, allEmpty}
-use Rattle.figures.specs.Sweep.{noBucket}
+use Rattle.model.proofs.Sums.{sum-eq}
+use Rattle.figures.specs.Buckets.{bucketCount, allEmpty, noBucket}
+use Rattle.figures.specs.inner.Pass.{Limited, withTouch, withEnd, Within, Roomy}
 use Rattle.figures.specs.declared.Bucket.{Bucket}
 use Rattle.figures.specs.declared.pass.Touch.{Touch}
 use Rattle.model.proofs.Tables.{getD-tabulate, tabulate-eq, tabulate-const, tabulate-set}
+
+-- the sum of g over those of the first n touches x that count and go to bucket k
+unfoldable pub gathered : (ℕ → Bool) → (ℕ → Touch) → ℕ → ℕ → (Touch → ℕ) → ℕ
+gathered counts x n k g = sum n (λ j. cond (counts j) (cond (eqb (x j .bucket) k) (g (x j)) 0) 0)
+
+-- bucket k of those of the first n touches x that count
+unfoldable pub bucketOver : (ℕ → Bool) → (ℕ → Touch) → ℕ → ℕ → Bucket
+bucketOver counts x n k =
+    record {
+      count = gathered counts x n k (λ y. 1);
+      volume = gathered counts x n k (λ y. y .size);
+      retention = gathered counts x n k (λ y. y .retention);
+      swap = gathered counts x n k (λ y. y .swap);
+      retentionz = gathered counts x n k (λ y. y .retention * y .size);
+      swapz = gathered counts x n k (λ y. y .swap * y .size);
+    }
 
 module _ (counts : ℕ → Bool) (x : ℕ → Touch) where
   -- what touch n adds to bucket k where it adds v to its own
@@ -35,17 +47,7 @@ module _ (counts : ℕ → Bool) (x : ℕ → Touch) where
   unfolding gathered sum
   gathered-none k g = refl
 
-  pub gathered-within : (n k b : ℕ) (g : Touch → ℕ) → ((j : ℕ) → j < n → counts j ≡ true → g (x j) ≤ b) → gathered counts x n k g ≤ n * b
-  unfolding gathered
-  gathered-within n k b g le =
-      sum-within n b (λ j. adds j k (g (x j))) (λ j l. go (counts j) (eqb (x j .bucket) k) (g (x j)) (le j l))
-    where
-      go : (p q : Bool) (v : ℕ) → (p ≡ true → v ≤ b) → cond p (cond q v 0) 0 ≤ b
-      go true true v le = le refl
-      go true false v le = omega arith
-      go false q v le = omega arith
-
-  pub bucket-start : (k : ℕ) → bucketOver counts x 0 k ≡ noBucket
+  bucket-start : (k : ℕ) → bucketOver counts x 0 k ≡ noBucket
   unfolding bucketOver
   bucket-start k = simp gathered-none
 
@@ -77,18 +79,28 @@ module _ (counts : ℕ → Bool) (x : ℕ → Touch) where
       go true = refl
       go false = refl
 
-  -- the buckets after one more touch, where it counts, and else as they were
-  pub buckets-step : (n : ℕ) → x n .bucket < bucketCount
-      → set (tabulate bucketCount (bucketOver counts x n)) (x n .bucket)
-      (cond (counts n) (withTouch (bucketOver counts x n (x n .bucket)) (x n)) (bucketOver counts x n (x n .bucket)))
-      ≡ tabulate bucketCount (bucketOver counts x (suc n))
-  buckets-step n lt =
-      rw (← bucket-after n)
-      (tabulate-set bucketCount (bucketOver counts x n) (bucketOver counts x (suc n)) (x n .bucket) lt (λ k l ne. bucket-others n k ne))
+  -- the buckets of the first n touches
+  abbrev pub bucketsOver : ℕ → List Bucket
+  bucketsOver n = tabulate bucketCount (bucketOver counts x n)
 
-  pub buckets-start : allEmpty ≡ tabulate bucketCount (bucketOver counts x 0)
+  pub buckets-start : allEmpty ≡ bucketsOver 0
   unfolding allEmpty
   buckets-start = tabulate-const bucketCount noBucket (bucketOver counts x 0) (λ k l. bucket-start k)
+
+  -- one more touch y is added to its bucket where it counts
+  pub buckets-step : (n : ℕ) (buckets : List Bucket) → buckets ≡ bucketsOver n → (y : Touch) → y ≡ x n → y .bucket < bucketCount
+      → (b : Bucket) → b ≡ cond (counts n) (withTouch (getD buckets (y .bucket) noBucket) y) (getD buckets (y .bucket) noBucket)
+      → set buckets (y .bucket) b ≡ bucketsOver (suc n)
+  buckets-step n buckets are y same lt b is =
+      rw (is, are, same, getD-tabulate bucketCount (bucketOver counts x n) (x n .bucket) noBucket (rw same at lt), ← bucket-after n)
+      (tabulate-set bucketCount (bucketOver counts x n) (bucketOver counts x (suc n)) (x n .bucket) (rw same at lt)
+      (λ k l ne. bucket-others n k ne))
+
+  -- a touch that does not count changes nothing
+  pub buckets-skip : (n : ℕ) → counts n ≡ false → bucketsOver n ≡ bucketsOver (suc n)
+  buckets-skip n none =
+      tabulate-eq bucketCount (bucketOver counts x n) (bucketOver counts x (suc n))
+      (λ k l. sym (bucket-stays n k (λ v. rw none refl)))
 
   -- touches that agree below n fill the same buckets
   gathered-eq : (d : ℕ → Bool) (y : ℕ → Touch) (n k : ℕ) → ((j : ℕ) → j < n → counts j ≡ d j) → ((j : ℕ) → j < n → x j ≡ y j)
@@ -103,81 +115,58 @@ module _ (counts : ℕ → Bool) (x : ℕ → Touch) where
   unfolding bucketOver
   bucket-eq d y n k same equal = simp (gathered-eq d y n k same equal)
 
--- what holds of every sum over n touches: it is within n times the bound of one
-pub bucket-within : (counts : ℕ → Bool) (x : ℕ → Touch) (n k : ℕ) → ((j : ℕ) → j < n → counts j ≡ true → Limited (x j))
-    → Within (bucketOver counts x n k) (n * 2 ^ 48)
-unfolding bucketOver
-bucket-within counts x n k small =
+-- empty buckets have room
+pub roomy-start : Roomy allEmpty 0
+unfolding allEmpty
+roomy-start = record { each = λ k le. rw (getD-replicate bucketCount k noBucket noBucket (omega arith)) (omega arith) }
+
+-- an entry of a list with one entry set is the new one or the old
+set-either : (l : List Bucket) (j k m : ℕ) (b d : Bucket) → Within b m → Within (getD l k d) m → Within (getD (set l j b) k d) m
+set-either [] j k m b d new old = old
+set-either (x ∷ l) zero zero m b d new old = new
+set-either (x ∷ l) zero (suc k) m b d new old = old
+set-either (x ∷ l) (suc j) zero m b d new old = old
+set-either (x ∷ l) (suc j) (suc k) m b d new old = set-either l j k m b d new old
+
+within-more : (b : Bucket) (m n : ℕ) → m ≤ n → Within b m → Within b n
+within-more b m n le w = omega arith
+
+-- a bucket with one more touch
+touch-within : (b : Bucket) (m n : ℕ) → m + 2 ^ 48 ≤ n → Within b m → (y : Touch) → Limited y → Within (withTouch b y) n
+touch-within b m n le w y lim =
+    let r = product-within (y .retention) (y .size) (2 ^ 32) (2 ^ 16) (omega arith) (omega arith) in
+    let s = product-within (y .swap) (y .size) (2 ^ 32) (2 ^ 16) (omega arith) (omega arith) in
     record {
-      count = within (λ y. 1) (λ y s. omega arith);
-      volume = within (λ y. y .size) (λ y s. omega arith);
-      retention = within (λ y. y .retention) (λ y s. omega arith);
-      swap = within (λ y. y .swap) (λ y s. omega arith);
-      retentionz = within (λ y. y .retention * y .size) (λ y s. product (y .retention) (y .size) (omega arith) (omega arith));
-      swapz = within (λ y. y .swap * y .size) (λ y s. product (y .swap) (y .size) (omega arith) (omega arith));
+      count = omega arith;
+      volume = omega arith;
+      retention = omega arith;
+      swap = omega arith;
+      retentionz = omega arith;
+      swapz = omega arith;
     }
+
+end-within : (b : Bucket) (m n : ℕ) → m + 2 ^ 48 ≤ n → Within b m → (y : Touch) → Limited y → Within (withEnd b y) n
+end-within b m n le w y lim = go (y .reuse)
   where
-    product : (v z : ℕ) → v ≤ 2 ^ 32 → z ≤ 2 ^ 16 → v * z ≤ 2 ^ 48
-    product v z = product-within v z (2 ^ 32) (2 ^ 16)
+    go : (r : Bool) → Within (cond r (withTouch b y) b) n
+    go true = touch-within b m n le w y lim
+    go false = within-more b m n (omega arith) w
 
-    within : (g : Touch → ℕ) → ((y : Touch) → Limited y → g y ≤ 2 ^ 48) → gathered counts x n k g ≤ n * 2 ^ 48
-    within g bound = gathered-within counts x n k (2 ^ 48) g (λ j l c. bound (x j) (small j l c))
+pub roomy-more : (buckets : List Bucket) (m n : ℕ) → m ≤ n → Roomy buckets m → Roomy buckets n
+roomy-more buckets m n le room = record { each = λ k l. within-more (getD buckets k noBucket) m n le (room .each k l) }
 
--- the buckets of the first n touches x that count, each of them within the limits
-pub record Filling (counts : ℕ → Bool) (x : ℕ → Touch) (n : ℕ) (buckets : List Bucket) : Type 0 where
-  pub few : n ≤ mostRefs
-  pub limited : (j : ℕ) → j < n → counts j ≡ true → Limited (x j)
-  pub buckets-are : buckets ≡ tabulate bucketCount (bucketOver counts x n)
+module _ (buckets : List Bucket) (m n : ℕ) (le : m + 2 ^ 48 ≤ n) (room : Roomy buckets m) (y : Touch) (lim : Limited y) (b : Bucket) where
+  roomy-set : Within b n → Roomy (set buckets (y .bucket) b) n
+  roomy-set w =
+      record {
+        each = λ k l.
+            set-either buckets (y .bucket) k n b noBucket w (within-more (getD buckets k noBucket) m n (omega arith) (room .each k l));
+      }
 
-module _ (counts : ℕ → Bool) (x : ℕ → Touch) where
-  pub filling-start : Filling counts x 0 allEmpty
-  filling-start = record { few = omega arith; limited = λ j l c. absurd (omega arith); buckets-are = buckets-start counts x }
+  -- one more touch or end interval takes no more room than this
+  pub roomy-touch : b ≡ withTouch (getD buckets (y .bucket) noBucket) y → Roomy (set buckets (y .bucket) b) n
+  roomy-touch e =
+      roomy-set (rw e (touch-within (getD buckets (y .bucket) noBucket) m n le (room .each (y .bucket) (lim .is-bucket)) y lim))
 
-  module _ (n : ℕ) (buckets : List Bucket) (s : Filling counts x n buckets) where
-    filling-entry : (k : ℕ) → k ≤ lastBucket → (d : Bucket) → getD buckets k d ≡ bucketOver counts x n k
-    filling-entry k le d = rw (s .buckets-are) (getD-tabulate bucketCount (bucketOver counts x n) k d (omega arith))
-
-    -- there is room for one more touch
-    pub filling-room : (k : ℕ) → k ≤ lastBucket → (d : Bucket) → Within (getD buckets k d) (2 ^ 60)
-    filling-room k le d =
-        let w = bucket-within counts x n k (s .limited) in
-        let few = s .few in
-        rw (filling-entry k le d)
-        (record {
-          count = omega arith;
-          volume = omega arith;
-          retention = omega arith;
-          swap = omega arith;
-          retentionz = omega arith;
-          swapz = omega arith;
-        })
-
-    -- one more touch is added to its bucket where it counts
-    pub filling-step : n < mostRefs → (y : Touch) → Limited y → y ≡ x n → (b d : Bucket)
-        → b ≡ cond (counts n) (withTouch (getD buckets (y .bucket) d) y) (getD buckets (y .bucket) d)
-        → Filling counts x (n + 1) (set buckets (y .bucket) b)
-    filling-step lt y lim same b d is =
-        rw (add-one n)
-        (record {
-          few = omega arith;
-          limited = λ j l c. ⊎-elim (λ e. rw e (rw same at lim)) (λ below. s .limited j below c) (last-or-below n j l);
-          buckets-are =
-              rw (is, filling-entry (y .bucket) (lim .is-bucket) d, s .buckets-are, same)
-              (buckets-step counts x n (rw same at (within y lim)));
-        })
-      where
-        within : (y : Touch) → Limited y → y .bucket < bucketCount
-        within y lim = omega arith
-
-    -- a touch that does not count changes nothing
-    pub filling-skip : n < mostRefs → counts n ≡ false → Filling counts x (n + 1) buckets
-    filling-skip lt none =
-        rw (add-one n)
-        (record {
-          few = omega arith;
-          limited = λ j l c. ⊎-elim (λ e. absurd (false≢true (sym none ∙ (rw e at c)))) (λ below. s .limited j below c) (last-or-below n j l);
-          buckets-are =
-              s .buckets-are
-              ∙ tabulate-eq bucketCount (bucketOver counts x n) (bucketOver counts x (suc n))
-              (λ k l. sym (bucket-stays counts x n k (λ v. rw none refl)));
-        })
+  pub roomy-end : b ≡ withEnd (getD buckets (y .bucket) noBucket) y → Roomy (set buckets (y .bucket) b) n
+  roomy-end e = roomy-set (rw e (end-within (getD buckets (y .bucket) noBucket) m n le (room .each (y .bucket) (lim .is-bucket)) y lim))

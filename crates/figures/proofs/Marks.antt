@@ -10,7 +10,7 @@ use Rattle.model.specs.Traces.{Trace, unreferenced}
 use Rattle.model.specs.Sheets.{mostSegs}
 use Rattle.model.specs.LastTouches.{untouchedMark, lastFrom, lastTable, allUntouched}
 use Rattle.model.proofs.LastTouches.{lastTable-at, lastTable-start, unreferenced-within}
-use Rattle.figures.specs.Pass.{timeSince}
+use Rattle.search.specs.inner.Quotients.{timeSince}
 
 pub last-start : (T : Trace) → ((i : ℕ) → T .start i ≡ false) → allUntouched ≡ lastTable T 0
 unfolding allUntouched

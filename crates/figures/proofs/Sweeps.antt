@@ -10,13 +10,13 @@ use Rattle.model.specs.Costs.{retention}
 use Rattle.model.specs.Sums.{sum, tabulate}
 use Rattle.model.specs.Traces.{Trace, segs, steps, sizeOf, swapOf, overTouches, overSegments}
 use Rattle.model.specs.Figures.{ofTime, retentionOf, kept}
-use Rattle.model.specs.Sheets.{SheetValue, Valid, traceOf, rowAt, mostSegs, mostRefs}
+use Rattle.model.specs.Sheets.{RowsWithin, rowIn, mostSegs, mostRefs}
 use Rattle.model.specs.declared.Kind.{Kind}
 use Rattle.model.specs.declared.Kind.the-variants.{Time, Space}
 use Rattle.model.specs.declared.PriceRow.{PriceRow}
 use Rattle.model.proofs.Sums.{sum-eq}
-use Rattle.figures.specs.Buckets.{bucketCount, filed, ended, bucketAfter, endBucket, tallyOf}
-use Rattle.figures.specs.Sweep.{noBucket, added, summed, byKind, Holds}
+use Rattle.figures.specs.Buckets.{bucketCount, filed, ended, bucketAfter, endBucket, tallyOf, noBucket}
+use Rattle.figures.specs.inner.Sweep.{added, summed, byKind, Holds}
 use Rattle.figures.specs.declared.Bucket.{Bucket}
 use Rattle.model.proofs.Tables.{getD-tabulate}
 use Rattle.figures.proofs.Filed.{filed-all, filed-kept, ended-kept}
@@ -105,33 +105,30 @@ module _ (rows : List PriceRow) (T : Trace) (m : ℕ) (le : m ≤ bucketCount) w
   unfolding tallyOf endBucket
   summed-ends = summed-by T (λ k g. ended rows T (segs T) k (g (steps T))) m bucketCount le
 
-module _ (s : SheetValue) (v : Valid s) where
+module _ (rows : List PriceRow) (up : RowsWithin rows) (T : Trace) where
   -- all buckets of a sheet's tally hold all touches
-  pub all-sums : summed (tallyOf (s .rows) (traceOf s) .buckets) bucketCount ≡ bucketBy (traceOf s) (λ g. overTouches (traceOf s) g)
+  pub all-sums : summed (tallyOf rows T .buckets) bucketCount ≡ bucketBy T (λ g. overTouches T g)
   all-sums =
-      let T = traceOf s in
-      summed-buckets (s .rows) T bucketCount (omega arith)
-      ∙ bucketBy-eq T (λ g. sum bucketCount (λ k. filed (s .rows) T (steps T) k g)) (λ g. overTouches T g) (λ g. filed-all s v g)
+      summed-buckets rows T bucketCount (omega arith)
+      ∙ bucketBy-eq T (λ g. sum bucketCount (λ k. filed rows T (steps T) k g)) (λ g. overTouches T g) (λ g. filed-all rows up T g)
 
-  module _ (r : ℕ) (lt : r < length (s .rows)) where
+  module _ (r : ℕ) (lt : r < length rows) where
     -- those up to row r hold what the row keeps
-    pub kept-sums : summed (tallyOf (s .rows) (traceOf s) .buckets) (suc r)
-        ≡ bucketBy (traceOf s)
-        (λ g. overTouches (traceOf s) (λ t i. cond (kept (traceOf s) (rowAt s r .h) (rowAt s r .d) t i) (g t i) 0))
+    pub kept-sums : summed (tallyOf rows T .buckets) (suc r)
+        ≡ bucketBy T
+        (λ g. overTouches T (λ t i. cond (kept T (rowIn rows r .h) (rowIn rows r .d) t i) (g t i) 0))
     kept-sums =
-        let T = traceOf s in
-        summed-buckets (s .rows) T (suc r) (omega (arith, v .rows-within))
-        ∙ bucketBy-eq T (λ g. sum (suc r) (λ k. filed (s .rows) T (steps T) k g))
-        (λ g. overTouches T (λ t i. cond (kept T (rowAt s r .h) (rowAt s r .d) t i) (g t i) 0)) (λ g. filed-kept s v r lt g)
+        summed-buckets rows T (suc r) (omega (arith, up .rows-within))
+        ∙ bucketBy-eq T (λ g. sum (suc r) (λ k. filed rows T (steps T) k g))
+        (λ g. overTouches T (λ t i. cond (kept T (rowIn rows r .h) (rowIn rows r .d) t i) (g t i) 0)) (λ g. filed-kept rows up T r lt g)
 
     -- so do those of the end intervals
-    pub ends-sums : summed (tallyOf (s .rows) (traceOf s) .ends) (suc r)
-        ≡ bucketBy (traceOf s)
-        (λ g. overSegments (traceOf s)
-        (λ i. cond (kept (traceOf s) (rowAt s r .h) (rowAt s r .d) (steps (traceOf s)) i) (g (steps (traceOf s)) i) 0))
+    pub ends-sums : summed (tallyOf rows T .ends) (suc r)
+        ≡ bucketBy T
+        (λ g. overSegments T
+        (λ i. cond (kept T (rowIn rows r .h) (rowIn rows r .d) (steps T) i) (g (steps T) i) 0))
     ends-sums =
-        let T = traceOf s in
-        summed-ends (s .rows) T (suc r) (omega (arith, v .rows-within))
-        ∙ bucketBy-eq T (λ g. sum (suc r) (λ k. ended (s .rows) T (segs T) k (g (steps T))))
-        (λ g. overSegments T (λ i. cond (kept T (rowAt s r .h) (rowAt s r .d) (steps T) i) (g (steps T) i) 0))
-        (λ g. ended-kept s v r lt (g (steps T)))
+        summed-ends rows T (suc r) (omega (arith, up .rows-within))
+        ∙ bucketBy-eq T (λ g. sum (suc r) (λ k. ended rows T (segs T) k (g (steps T))))
+        (λ g. overSegments T (λ i. cond (kept T (rowIn rows r .h) (rowIn rows r .d) (steps T) i) (g (steps T) i) 0))
+        (λ g. ended-kept rows up T r lt (g (steps T)))

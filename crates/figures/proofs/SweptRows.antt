@@ -2,7 +2,7 @@
 -- figures as they are defined. Assumes nothing.
 use Prim.Native.Nat.{ℕ, _+_, _-_, _*_, _≤_}
 use mathlib.Core.Path.{_≡_, refl, ap, _∙_}
-use mathlib.Core.Bool.{Bool, false, cond}
+use mathlib.Core.Bool.{Bool, cond}
 use native.Mathlib.Omega.{arith}
 use Rattle.model.specs.Traces.{Trace, steps, sizeOf, swapOf, overTouches, overSegments, unreferenced}
 use Rattle.model.specs.Figures.{refCost, refVolume, retentionOf, spaceOf, kept, smaller, misses, volume, load, optmem, opttotal, optocc, wsmem, wsspace, wsocc, mean}
@@ -12,7 +12,7 @@ use Rattle.model.specs.declared.Kind.the-variants.{Time, Space}
 use Rattle.model.specs.declared.PriceRow.{PriceRow}
 use Rattle.model.proofs.FirstTouches.{started}
 use Rattle.model.proofs.Loads.{overTouches-eq}
-use Rattle.figures.specs.Sweep.{withStart, byKind, loadFrom, wsmemFrom, wsspaceFrom, wsoccFrom, rowFrom, KeptWithin}
+use Rattle.figures.specs.inner.Sweep.{withStart, byKind, loadFrom, wsmemFrom, wsspaceFrom, wsoccFrom, rowFrom, KeptWithin}
 use Rattle.figures.specs.declared.Bucket.{Bucket}
 use Rattle.figures.proofs.Sweeps.{bucketBy, space-of}
 use Rattle.figures.proofs.WorkingSets.{touches-split, kept-swaps-within, working-set, smaller-priced, sized-priced}
@@ -25,14 +25,15 @@ from-sums h d base A B KR ER AW KW EW within eq =
     omega (arith, ap (λ n. h * n) whole)
 
 module _ (T : Trace) (row : PriceRow) where
-  -- the sums over all touches, the swap costs of the start set among them; over those that the row keeps, and over the end intervals that it keeps
+  -- the sums over all touches, the swap costs of the start set among them; over those that the row keeps, and over the end intervals that
+  -- it keeps
   abbrev pub allSums : Bucket
   allSums = withStart (started T (λ i. swapOf T i)) (started T (λ i. swapOf T i * sizeOf T i)) (bucketBy T (λ g. overTouches T g))
 
-  abbrev keptSums : Bucket
+  abbrev pub keptSums : Bucket
   keptSums = bucketBy T (λ g. overTouches T (λ t i. cond (kept T (row .h) (row .d) t i) (g t i) 0))
 
-  abbrev endSums : Bucket
+  abbrev pub endSums : Bucket
   endSums = bucketBy T (λ g. overSegments T (λ i. cond (kept T (row .h) (row .d) (steps T) i) (g (steps T) i) 0))
 
   misses-swept : misses T (row .h) (row .d) ≡ allSums .count - keptSums .count

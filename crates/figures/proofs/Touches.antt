@@ -1,20 +1,25 @@
 -- One touch: its limits, what the mark of its segment tells, and the buckets of the definitions as those of touches.
 -- Assumes nothing.
-use Prim.Native.Nat.{ℕ, _-_, _^_, _≤_, _<_}
+use Prim.Native.Nat.{ℕ, _-_, _≤_, _<_}
 use mathlib.Core.Path.{_≡_, refl}
 use mathlib.Core.Bool.{Bool, true, false}
 use mathlib.Core.List.{List}
 use mathlib.Core.Option.{Option}
 use lib.Dec.{ltb}
+use lib.ListN.{length}
 use borrow.Author.Tests.{le-leb, lt-leb}
 use Rattle.model.specs.Costs.{retention, swapCost}
 use Rattle.model.specs.Traces.{Trace, segs, steps, entry, sizeOf, touching, unreferenced}
 use Rattle.model.specs.declared.Kind.{Kind}
-use Rattle.model.specs.declared.Kind.the-variants.{Time, Space}
 use Rattle.model.specs.declared.PriceRow.{PriceRow}
-use Rattle.figures.specs.Buckets.{lastBucket, bucketOf, filed, bucketAfter, ended, endBucket}
-use Rattle.figures.specs.Pass.{touchOf, unplaced, gathered, bucketOver, timeSince, IsBucket, Ascending, Limited, rowsOf}
+use Rattle.model.specs.Sheets.{RowsWithin, mostRefs, largestA, largestSize}
+use Rattle.figures.specs.Buckets.{bucketOf, filed, bucketAfter, ended, endBucket}
+use Rattle.search.specs.FirstRow.{lastBucket}
+use Rattle.figures.specs.inner.Pass.{touchOf, unplaced, Limited}
+use Rattle.search.specs.inner.Quotients.{timeSince, IsBucket, IsPlace, Quoted, unitsFor, rateOf}
+use Rattle.search.proofs.RatedSegments.{place-bucket}
 use Rattle.figures.specs.declared.pass.Touch.{Touch}
+use Rattle.figures.proofs.Filling.{gathered, bucketOver}
 
 module _ (kind : Kind) (a z n mark w : ℕ) (swap : w ≡ swapCost a z) where
   -- a segment with a mark up to step n was touched
@@ -37,10 +42,19 @@ pub placed-limited : (x : Touch) (k : ℕ) → Limited x → k ≤ lastBucket �
 placed-limited x k l le =
     record { is-bucket = le; size-within = l .size-within; retention-within = l .retention-within; swap-within = l .swap-within }
 
-pub placed-is : (kind : Kind) (a : ℕ) (hs ds : List ℕ) (z : ℕ) (o : Option ℕ) (x : Touch) (k : ℕ) → x ≡ unplaced kind a z o
-    → IsBucket hs ds (x .reuse) (x .retention) (x .swap) k → Ascending (rowsOf hs ds) → placed x k ≡ touchOf kind a (rowsOf hs ds) z o
+pub placed-is : (kind : Kind) (a : ℕ) (rows : List PriceRow) (z : ℕ) (o : Option ℕ) (x : Touch) (k : ℕ) → x ≡ unplaced kind a z o
+    → IsBucket rows (x .reuse) (x .retention) (x .swap) k → RowsWithin rows → placed x k ≡ touchOf kind a rows z o
 unfolding touchOf unplaced
-placed-is kind a hs ds z o x k is bucket up = rw (bucket up, is) refl
+placed-is kind a rows z o x k is bucket up = rw (bucket up, is) refl
+
+-- the touch with the bucket that the quotient tells
+pub touch-placed : (kind : Kind) (a : ℕ) (rows : List PriceRow) (qs : List ℕ) → Quoted (unitsFor a) rows qs → (z rate mark n : ℕ)
+    (x : Touch) (k : ℕ)
+    → a ≤ largestA → z ≤ largestSize → n ≤ mostRefs → rate ≡ rateOf kind a z → x ≡ unplaced kind a z (timeSince n mark)
+    → IsPlace qs (length rows) rate mark n k → RowsWithin rows → placed x k ≡ touchOf kind a rows z (timeSince n mark)
+unfolding touchOf unplaced
+touch-placed kind a rows qs quoted z rate mark n x k la lz ln is touch place up =
+    rw (place-bucket kind a rows qs quoted z rate mark n k la lz ln is place up, touch) refl
 
 -- the touch of segment i after t steps
 abbrev pub touchAt : List PriceRow → Trace → ℕ → ℕ → Touch

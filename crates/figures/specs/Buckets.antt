@@ -1,28 +1,21 @@
 -- The 65 buckets: one per row and the last, which the single pass fills. Each reuse goes to the first row that keeps it; a reuse that
 -- no row keeps, and each first touch (with retention 0), goes to the last bucket. End intervals are counted apart. Assumes nothing.
-use Prim.Native.Nat.{ℕ, suc, _*_}
+use Prim.Native.Nat.{ℕ, _*_}
 use mathlib.Core.Bool.{cond}
-use mathlib.Core.List.{List, [], _∷_}
+use mathlib.Core.List.{List}
 use lib.Dec.{eqb}
-use Rattle.model.specs.Costs.{keeps}
+use lib.ListN.{replicate}
 use Rattle.model.specs.Sums.{sum, tabulate}
-use Rattle.model.specs.Traces.{Trace, steps, sizeOf, swapOf, touching, unreferenced}
-use Rattle.model.specs.Figures.{retentionOf, isReuse, refCost, refVolume}
+use Rattle.model.specs.Traces.{Trace, segs, steps, sizeOf, swapOf, touching, unreferenced}
+use Rattle.model.specs.Figures.{retentionOf, isReuse}
 use Rattle.model.specs.declared.PriceRow.{PriceRow}
+use Rattle.search.specs.FirstRow.{lastBucket, firstRow}
 use Rattle.figures.specs.declared.Bucket.{Bucket}
 use Rattle.figures.specs.declared.Tally.{Tally}
 
--- the last bucket, and how many there are
-abbrev pub lastBucket : ℕ
-lastBucket = 64
-
+-- how many buckets there are
 abbrev pub bucketCount : ℕ
 bucketCount = 65
-
--- the first row, counted from r, that keeps a reuse of retention R and swap cost w; the last bucket where none does
-unfoldable pub firstRow : List PriceRow → ℕ → ℕ → ℕ → ℕ
-firstRow [] r R w = lastBucket
-firstRow (q ∷ qs) r R w = cond (keeps (q .d * R) (q .h * w)) r (firstRow qs (suc r) R w)
 
 -- the bucket of a touch of segment i after t steps
 unfoldable pub bucketOf : List PriceRow → Trace → ℕ → ℕ → ℕ
@@ -61,12 +54,18 @@ endBucket rows T m k =
       swapz = ended rows T m k (λ i. swapOf T i * sizeOf T i);
     }
 
--- what the single pass hands over: the buckets of the touches and of the end intervals, Q and V
+-- what the single pass hands over: the buckets of the touches and of the end intervals
 unfoldable pub tallyOf : List PriceRow → Trace → Tally
 tallyOf rows T =
     record {
       buckets = tabulate bucketCount (bucketAfter rows T (steps T));
-      ends = tabulate bucketCount (endBucket rows T (Rattle.model.specs.Traces.segs T));
-      cost = refCost T;
-      volume = refVolume T;
+      ends = tabulate bucketCount (endBucket rows T (segs T));
     }
+
+-- a bucket that holds nothing
+abbrev pub noBucket : Bucket
+noBucket = record { count = 0; volume = 0; retention = 0; swap = 0; retentionz = 0; swapz = 0 }
+
+-- buckets that hold nothing
+unfoldable pub allEmpty : List Bucket
+allEmpty = replicate bucketCount noBucket

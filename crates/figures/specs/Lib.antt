@@ -1,5 +1,3 @@
 pub mod Buckets
-pub mod Pass
-pub mod Quotients
 pub mod Rows
-pub mod Sweep
+pub mod inner

@@ -4,9 +4,9 @@ use mathlib.Core.Bool.{cond}
 use mathlib.Core.List.{List}
 use lib.ListN.{length}
 use lib.Dec.{ltb}
-use Rattle.model.specs.Sheets.{SheetValue, traceOf, rowAt, mostRows}
+use Rattle.model.specs.Sheets.{SheetValue, traceOf, rowIn, mostRows}
+use Rattle.model.specs.Traces.{Trace}
 use Rattle.model.specs.Rows.{rowFigures, zeroFigures}
-use Rattle.model.specs.declared.Kind.{Kind}
 use Rattle.model.specs.declared.PriceRow.{PriceRow}
 use Rattle.model.specs.declared.RowFigures.{RowFigures}
 use Rattle.model.specs.declared.Refusal.{Refusal}
@@ -15,13 +15,19 @@ use Rattle.model.specs.declared.Verdict.the-variants.{Accepted, Refused}
 use Rattle.figures.specs.declared.FiguresAnswer.{FiguresAnswer}
 use Rattle.model.specs.Sums.{tabulate}
 
--- the figures of row r of a sheet
-abbrev pub figuresAt : SheetValue → ℕ → RowFigures
-figuresAt s r = rowFigures (traceOf s) (rowAt s r .h) (rowAt s r .d)
+-- the figures of row r of a run, and those of every row: zeros beyond the rows
+abbrev pub figuresIn : List PriceRow → Trace → ℕ → RowFigures
+figuresIn rows T r = rowFigures T (rowIn rows r .h) (rowIn rows r .d)
 
--- the figures of every row, and zeros beyond the rows
-unfoldable pub allFigures : SheetValue → List RowFigures
-allFigures s = tabulate mostRows (λ r. cond (ltb r (length (s .rows))) (figuresAt s r) zeroFigures)
+unfoldable pub runFigures : List PriceRow → Trace → List RowFigures
+runFigures rows T = tabulate mostRows (λ r. cond (ltb r (length rows)) (figuresIn rows T r) zeroFigures)
+
+-- the figures of row r of a sheet, and those of every row
+abbrev pub figuresAt : SheetValue → ℕ → RowFigures
+figuresAt v r = figuresIn (v .head .rows) (traceOf v) r
+
+abbrev pub allFigures : SheetValue → List RowFigures
+allFigures v = runFigures (v .head .rows) (traceOf v)
 
 -- no figures: zeros beside the refusal
 abbrev pub noFigures : Refusal → FiguresAnswer
@@ -29,4 +35,4 @@ noFigures r = record { verdict = Refused r; figures = zeroFigures }
 
 -- the figures of row r of a sheet: 7 where there is no such row
 unfoldable pub figuresOf : SheetValue → ℕ → FiguresAnswer
-figuresOf v r = cond (ltb r (length (v .rows))) (record { verdict = Accepted; figures = figuresAt v r }) (noFigures NoSuchRow)
+figuresOf v r = cond (ltb r (length (v .head .rows))) (record { verdict = Accepted; figures = figuresAt v r }) (noFigures NoSuchRow)

@@ -2,19 +2,16 @@
 // Every item is the definition's of crate `model`; nothing is assumed.
 pub mod pass;
 pub mod rows;
-pub mod search;
 
-use model::Kind;
-use model::PriceRow;
+use model::Head;
 use model::RowFigures;
 use model::Sheet;
 use model::Verdict;
 ghost use mathlib.Core.Path.{_≡_};
 ghost use Prim.Native.Nat.{_≤_};
-ghost use lib.ListN.{take};
-ghost use Rattle.model.specs.Sheets.{Valid, mostRows};
+ghost use Rattle.model.specs.Sheets.{Valid, mostSegs, mostRows};
+ghost use Rattle.model.specs.Values.{headValueOf};
 ghost use Rattle.figures.specs.Rows.{allFigures};
-ghost use Rattle.model.specs.Sheets.{sheetWith};
 
 // A bucket: how many touches it holds, their sizes, retentions and swap costs added, the last two also with each item multiplied by
 // its size.
@@ -32,19 +29,17 @@ impl Bucket {
     pub const SUMS: usize = 6;
 }
 
-// What the pass hands over: a bucket per row and the last, for touches and for end intervals; Q and V.
+// What the pass hands over: a bucket per row and the last, for touches and for end intervals.
 pub struct Tally {
     pub buckets: [Bucket; Tally::BUCKETS],
     pub ends: [Bucket; Tally::BUCKETS],
-    pub cost: u64,
-    pub volume: u64,
 }
 
 impl Tally {
     // How many buckets: one per row, and the last.
     pub const BUCKETS: usize = Sheet::MAX_ROWS + 1;
     // The last bucket: first touches, and reuses that no row keeps.
-    pub const LAST: usize = Sheet::MAX_ROWS;
+    pub const LAST: usize = search::LAST;
 }
 
 // The figures of a row, all zero where a call is refused.
@@ -53,18 +48,18 @@ pub struct FiguresAnswer {
     pub figures: RowFigures,
 }
 
-// The figures of every row of a sheet, given by its parts; zeros beyond the rows.
-pub fn figures(
-    kind: Kind,
-    a: u8,
-    prices: [PriceRow; Sheet::MAX_ROWS],
-    rows: usize,
-    sizes: &[u16],
-    refs: &[u16],
-) -> [RowFigures; Sheet::MAX_ROWS]
-    requires { ⌜ (rows ≤ mostRows) × Valid (sheetWith kind a (now sizes) (take rows prices) (now refs)) ⌝ }
-    ensures { λ r. ⌜ r ≡ allFigures (sheetWith kind a (now (sizes .entry)) (take rows prices) (now (refs .entry))) ⌝ }
+// The figures of every row of a sheet with this head and these references; zeros beyond the rows.
+pub fn figures(head: Head, refs: &[u16]) -> [RowFigures; Sheet::MAX_ROWS]
+    requires { ⌜ (head .segs ≤ mostSegs) × (head .rows ≤ mostRows) × Valid (record { head = headValueOf head; refs = now refs }) ⌝ }
+    ensures { λ r. ⌜ r ≡ allFigures (record { head = headValueOf head; refs = now (refs .entry) }) ⌝ }
 {
+    let kind = head.kind;
+    let a = head.a;
+    let prices = head.prices;
+    let rows = head.rows;
+    let all_sizes = head.sizes;
+    let segs = head.segs;
+    let sizes = &all_sizes[..segs];
     let tally = pass::tally(kind, a, prices, rows, sizes, refs);
     rows::all_rows(kind, a, prices, rows, sizes, refs, tally)
 }

@@ -2,24 +2,16 @@
 // What each function gives is written in specs/; nothing is assumed.
 use crate::Bucket;
 use crate::Tally;
-use crate::search;
 use model::Kind;
 use model::PriceRow;
 use model::Sheet;
 ghost use mathlib.Core.Path.{_≡_};
-ghost use Prim.Native.Nat.{_+_, _*_, _≤_, _<_, _^_};
+ghost use Prim.Native.Nat.{_≤_, _^_};
 ghost use lib.ListN.{length, take};
-ghost use Rattle.model.specs.Sheets.{Valid, mostRows};
-ghost use Rattle.model.specs.Sheets.{sheetWith};
-ghost use Rattle.figures.specs.Pass.{rowsOf, pricesOf, sheetApart, Ascending, Paired, unplaced, timeSince, Limited, SizesWithin};
-ghost use Rattle.figures.specs.Quotients.{unitsFor, Quoted, Rated};
-ghost use Rattle.figures.specs.Pass.{withTouch, withEnd, Within, allEmpty, sheetPassed, sheetTally, endsOf};
-
-// The prices of rows, apart: of one load unit and of one memory unit.
-pub struct Prices {
-    pub h: [u16; Sheet::MAX_ROWS],
-    pub d: [u16; Sheet::MAX_ROWS],
-}
+ghost use Rattle.model.specs.Sheets.{RowsWithin, RunWithin, runOf, mostSegs, mostRows};
+ghost use Rattle.figures.specs.Buckets.{tallyOf, allEmpty};
+ghost use Rattle.search.specs.inner.Quotients.{Listed, Rated, timeSince};
+ghost use Rattle.figures.specs.inner.Pass.{unplaced, Limited, withTouch, withEnd, Within, Passable, PassedOn, EndedAt};
 
 // A touch: whether it is a reuse, the segment's size, retention, swap cost, and the bucket that it goes to.
 pub struct Touch {
@@ -30,12 +22,10 @@ pub struct Touch {
     pub bucket: usize,
 }
 
-// What the pass over the references gives: the buckets, the table of last touches, Q and V.
+// What the pass over the references has: the buckets and the table of last touches.
 pub struct Passed {
     pub buckets: [Bucket; Tally::BUCKETS],
     pub last: [u16; Sheet::MAX_SEGS],
-    pub cost: u64,
-    pub volume: u64,
 }
 
 // 65 buckets without a touch.
@@ -50,22 +40,6 @@ pub fn empty_buckets() -> [Bucket; Tally::BUCKETS]
         retentionz: 0,
         swapz: 0,
     }; Tally::BUCKETS]
-}
-
-// The prices of the rows, apart.
-pub fn split(rows: [PriceRow; Sheet::MAX_ROWS]) -> Prices
-    ensures { λ r. ⌜ r ≡ pricesOf rows ⌝ }
-{
-    let mut h = [0u16; Sheet::MAX_ROWS];
-    let mut d = [0u16; Sheet::MAX_ROWS];
-    let mut i = 0;
-    while i < Sheet::MAX_ROWS {
-        let row = rows[i];
-        h[i] = row.h;
-        d[i] = row.d;
-        i += 1;
-    }
-    Prices { h: h, d: d }
 }
 
 // A touch, after so many steps, of a segment of size z with that mark; or its end interval. Its bucket is still to be looked for.
@@ -96,7 +70,7 @@ pub fn touch_of(kind: Kind, a: u8, z: u16, mark: u16, steps: u16) -> Touch
 
 // The bucket with one more touch.
 pub fn add_touch(b: Bucket, x: Touch) -> Bucket
-    requires { ⌜ Within b (2 ^ 60) ⌝ }
+    requires { ⌜ Within b (2 ^ 61) ⌝ }
     requires { ⌜ Limited x ⌝ }
     ensures { λ r. ⌜ r ≡ withTouch b x ⌝ }
 {
@@ -113,59 +87,49 @@ pub fn add_touch(b: Bucket, x: Touch) -> Bucket
 
 // The bucket with one more end interval; a never-touched segment has none.
 pub fn add_end(b: Bucket, x: Touch) -> Bucket
-    requires { ⌜ Within b (2 ^ 60) ⌝ }
+    requires { ⌜ Within b (2 ^ 61) ⌝ }
     requires { ⌜ Limited x ⌝ }
     ensures { λ r. ⌜ r ≡ withEnd b x ⌝ }
 {
     if x.reuse { add_touch(b, x) } else { b }
 }
 
-// The pass over the references.
+// The pass over references, from what it has after `steps` others.
 pub fn references(
     kind: Kind,
     a: u8,
-    hs: &[u16],
-    ds: &[u16],
+    rows: usize,
     qs: &[u64],
     rates: &[u64],
     sizes: &[u16],
+    from: Passed,
+    steps: usize,
     refs: &[u16],
 ) -> Passed
-    requires { ⌜ Paired (now hs) (now ds) ⌝ }
-    requires { ⌜ Quoted (unitsFor a) (now hs) (now ds) (now qs) ⌝ }
-    requires { ⌜ Rated kind a (now sizes) (now rates) ⌝ }
-    requires { ⌜ Valid (sheetApart kind a (now sizes) (now hs) (now ds) (now refs)) ⌝ }
-    ensures { λ r. ⌜ r ≡ sheetPassed (sheetApart kind a (now (sizes .entry)) (now (hs .entry)) (now (ds .entry)) (now (refs .entry))) ⌝ }
+    requires { ⌜ Listed (now qs) rows × Rated kind a (now sizes) (now rates) ⌝ }
+    requires { ⌜ Passable from (length (now sizes)) steps (length (now refs)) ⌝ }
+    ensures { λ r. ⌜ PassedOn kind a (now (sizes .entry)) rows (now (qs .entry)) steps (now (refs .entry)) from r ⌝ }
 {
-    let mut buckets = empty_buckets();
-    let mut last = model::untouched();
-    let mut cost: u64 = 0;
-    let mut volume: u64 = 0;
-    let mut t: usize = 0;
+    let mut buckets = from.buckets;
+    let mut last = from.last;
+    let mut t = 0;
     while t < refs.len() {
         let i = refs[t] as usize;
+        let step = steps + t;
+        t += 1;
         if i < sizes.len() {
-            let z = sizes[i];
             let mark = last[i];
-            let mut x = touch_of(kind, a, z, mark, t as u16);
-            let k = search::bucket_of(hs.len(), qs, rates[i], mark, t as u16);
+            let mut x = touch_of(kind, a, sizes[i], mark, step as u16);
+            let k = search::bucket_of(rows, qs, rates[i], mark, step as u16);
             x.bucket = k;
-            let mut b = buckets[k];
-            b = add_touch(b, x);
-            buckets[k] = b;
-            last[i] = (t + 1) as u16;
-            t += 1;
-            cost += model::unit_cost(kind, z);
-            volume += z as u64;
-        } else {
-            t += 1;
+            let b = buckets[k];
+            buckets[k] = add_touch(b, x);
+            last[i] = (step + 1) as u16;
         }
     }
     Passed {
         buckets: buckets,
         last: last,
-        cost: cost,
-        volume: volume,
     }
 }
 
@@ -173,63 +137,29 @@ pub fn references(
 pub fn ends(
     kind: Kind,
     a: u8,
-    hs: &[u16],
-    ds: &[u16],
+    rows: usize,
     qs: &[u64],
     rates: &[u64],
     sizes: &[u16],
     last: &[u16],
     steps: u16,
 ) -> [Bucket; Tally::BUCKETS]
-    requires { ⌜ Paired (now hs) (now ds) ⌝ }
-    requires { ⌜ Quoted (unitsFor a) (now hs) (now ds) (now qs) ⌝ }
-    requires { ⌜ Rated kind a (now sizes) (now rates) ⌝ }
-    requires { ⌜ Ascending (rowsOf (now hs) (now ds)) ⌝ }
-    requires { ⌜ (length (now sizes) ≤ length (now last)) × SizesWithin (now sizes) steps ⌝ }
-    ensures { λ r. ⌜ r ≡ endsOf kind a (rowsOf (now (hs .entry)) (now (ds .entry))) (now (sizes .entry)) (now (last .entry)) steps ⌝ }
+    requires { ⌜ Listed (now qs) rows × Rated kind a (now sizes) (now rates) ⌝ }
+    requires { ⌜ (length (now sizes) ≤ mostSegs) × (length (now sizes) ≤ length (now last)) ⌝ }
+    ensures { λ r. ⌜ EndedAt kind a (now (sizes .entry)) rows (now (qs .entry)) steps (now (last .entry)) r ⌝ }
 {
     let mut buckets = empty_buckets();
     let mut i = 0;
     while i < sizes.len() {
         let mark = last[i];
         let mut x = touch_of(kind, a, sizes[i], mark, steps);
-        let k = search::bucket_of(hs.len(), qs, rates[i], mark, steps);
+        let k = search::bucket_of(rows, qs, rates[i], mark, steps);
         x.bucket = k;
-        let mut b = buckets[k];
-        b = add_end(b, x);
-        buckets[k] = b;
+        let b = buckets[k];
+        buckets[k] = add_end(b, x);
         i += 1;
     }
     buckets
-}
-
-// The tally of a run whose prices stand apart.
-fn tally_apart(
-    kind: Kind,
-    a: u8,
-    hs: &[u16],
-    ds: &[u16],
-    qs: &[u64],
-    rates: &[u64],
-    sizes: &[u16],
-    refs: &[u16],
-) -> Tally
-    requires { ⌜ Paired (now hs) (now ds) ⌝ }
-    requires { ⌜ Quoted (unitsFor a) (now hs) (now ds) (now qs) ⌝ }
-    requires { ⌜ Rated kind a (now sizes) (now rates) ⌝ }
-    requires { ⌜ Valid (sheetApart kind a (now sizes) (now hs) (now ds) (now refs)) ⌝ }
-    ensures { λ r. ⌜ r ≡ sheetTally (sheetApart kind a (now (sizes .entry)) (now (hs .entry)) (now (ds .entry)) (now (refs .entry))) ⌝ }
-{
-    let p = references(kind, a, hs, ds, qs, rates, sizes, refs);
-    let buckets = p.buckets;
-    let last = p.last;
-    let ended = ends(kind, a, hs, ds, qs, rates, sizes, &last, refs.len() as u16);
-    Tally {
-        buckets: buckets,
-        ends: ended,
-        cost: p.cost,
-        volume: p.volume,
-    }
 }
 
 // One pass over the references, then one over the segments for the end intervals.
@@ -241,15 +171,26 @@ pub fn tally(
     sizes: &[u16],
     refs: &[u16],
 ) -> Tally
-    requires { ⌜ (rows ≤ mostRows) × Valid (sheetWith kind a (now sizes) (take rows prices) (now refs)) ⌝ }
-    ensures { λ r. ⌜ r ≡ sheetTally (sheetWith kind a (now (sizes .entry)) (take rows prices) (now (refs .entry))) ⌝ }
+    requires { ⌜ (rows ≤ mostRows) × RowsWithin (take rows prices) × RunWithin (runOf kind a (now sizes) (now refs)) ⌝ }
+    ensures { λ r. ⌜ r ≡ tallyOf (take rows prices) (runOf kind a (now (sizes .entry)) (now (refs .entry))) ⌝ }
 {
-    let apart = split(prices);
-    let h = apart.h;
-    let d = apart.d;
-    let hs = &h[..rows];
-    let ds = &d[..rows];
-    let quotients = search::quotients(a, hs, ds);
+    let quotients = search::quotients(a, prices, rows);
     let rates = search::rates(kind, a, sizes);
-    tally_apart(kind, a, hs, ds, &quotients, &rates, sizes, refs)
+    let qs = &quotients[..Sheet::MAX_ROWS];
+    let of_segments = &rates[..Sheet::MAX_SEGS];
+    let empty = empty_buckets();
+    let untouched = model::untouched();
+    let start = Passed {
+        buckets: empty,
+        last: untouched,
+    };
+    let passed = references(kind, a, rows, qs, of_segments, sizes, start, 0, refs);
+    let buckets = passed.buckets;
+    let last = passed.last;
+    let steps = refs.len() as u16;
+    let ended = ends(kind, a, rows, qs, of_segments, sizes, &last, steps);
+    Tally {
+        buckets: buckets,
+        ends: ended,
+    }
 }

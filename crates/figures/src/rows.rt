@@ -11,12 +11,11 @@ use model::Sheet;
 ghost use mathlib.Core.Path.{_≡_};
 ghost use Prim.Native.Nat.{ℕ, _+_, _*_, _-_, _≤_, _<_, _^_};
 ghost use lib.ListN.{take};
-ghost use Rattle.model.specs.Sheets.{mostRefs, mostSegs, largestSize, mostRows};
-ghost use Rattle.figures.specs.Buckets.{bucketCount};
-ghost use Rattle.figures.specs.Rows.{allFigures};
-ghost use Rattle.model.specs.Sheets.{sheetWith};
-ghost use Rattle.figures.specs.Sweep.{noBucket, added, summed, byKind, wsmemFrom, wsspaceFrom, meanFrom, rowFrom, noRowFigures};
-ghost use Rattle.figures.specs.Sweep.{Holds, KeptWithin, Summable, RowFits, Tallied};
+ghost use Rattle.model.specs.Sheets.{runOf, mostRefs, mostSegs, largestSize, mostRows};
+ghost use Rattle.figures.specs.Buckets.{bucketCount, noBucket};
+ghost use Rattle.figures.specs.Rows.{runFigures};
+ghost use Rattle.figures.specs.inner.Sweep.{added, summed, byKind, wsmemFrom, wsspaceFrom, meanFrom, rowFrom, noRowFigures};
+ghost use Rattle.figures.specs.inner.Sweep.{Holds, KeptWithin, Summable, RowFits, Tallied};
 
 // A bucket that holds nothing.
 fn none() -> Bucket
@@ -194,7 +193,7 @@ pub fn row_figures(
     }
 }
 
-// The figures of every row from the buckets; zeros beyond the rows.
+// The figures of every row from the buckets; zeros beyond the rows. Q and V are sums of all buckets.
 pub fn all_rows(
     kind: Kind,
     a: u8,
@@ -204,15 +203,14 @@ pub fn all_rows(
     refs: &[u16],
     tally: Tally,
 ) -> [RowFigures; Sheet::MAX_ROWS]
-    requires { ⌜ (rows ≤ mostRows) × Tallied (sheetWith kind a (now sizes) (take rows prices) (now refs)) tally ⌝ }
-    ensures { λ r. ⌜ r ≡ allFigures (sheetWith kind a (now (sizes .entry)) (take rows prices) (now (refs .entry))) ⌝ }
+    requires { ⌜ (rows ≤ mostRows) × Tallied (take rows prices) (runOf kind a (now sizes) (now refs)) tally ⌝ }
+    ensures { λ r. ⌜ r ≡ runFigures (take rows prices) (runOf kind a (now (sizes .entry)) (now (refs .entry))) ⌝ }
 {
     let steps = refs.len();
     let buckets = tally.buckets;
     let tally_ends = tally.ends;
-    let cost = tally.cost;
-    let volume = tally.volume;
     let all = add_up(buckets);
+    let cost = by_kind(kind, all.count, all.volume);
     let mut kept = none();
     let mut ends = none();
     let mut out = no_figures();
@@ -222,7 +220,7 @@ pub fn all_rows(
         kept = add(kept, b);
         ends = add(ends, e);
         let row = prices[r];
-        out[r] = row_figures(kind, a, row, steps, cost, volume, all, kept, ends);
+        out[r] = row_figures(kind, a, row, steps, cost, all.volume, all, kept, ends);
     }
     out
 }

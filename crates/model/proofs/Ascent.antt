@@ -71,7 +71,7 @@ module _ (T : Trace) (h₁ d₁ h₂ d₂ : ℕ) (pos : 1 ≤ d₁) (cross : h�
       )
 
 -- the thresholds of rows q ≤ r, by cross products
-pub rows-cross : (s : SheetValue) → Valid s → (q r : ℕ) → q ≤ r → r < length (s .rows)
+pub rows-cross : (s : SheetValue) → Valid s → (q r : ℕ) → q ≤ r → r < length (s .head .rows)
     → rowAt s q .h * rowAt s r .d ≤ rowAt s r .h * rowAt s q .d
 rows-cross s v q zero le lt = let same : q ≡ 0 = omega arith in rw same (omega arith)
 rows-cross s v q (suc r) le lt =
@@ -79,18 +79,18 @@ rows-cross s v q (suc r) le lt =
     (λ e. rw e (omega arith))
     (λ l.
     let before = rows-cross s v q r (omega arith) (omega arith) in
-    let up = v .ascending r lt in
+    let up = v .rows .ascending r lt in
     omega (
       arith,
       cross-trans (rowAt s r .h) (rowAt s r .d) (rowAt s (suc r) .h) (rowAt s (suc r) .d) (rowAt s q .h) (rowAt s q .d)
-          (v .some-d r (omega arith)) (omega arith) (omega arith),
+          (v .rows .some-d r (omega arith)) (omega arith) (omega arith),
     ))
     (last-or-below (suc r) q (omega arith))
 
-module _ (s : SheetValue) (v : Valid s) (q r : ℕ) (le : q ≤ r) (lt : r < length (s .rows)) where
+module _ (s : SheetValue) (v : Valid s) (q r : ℕ) (le : q ≤ r) (lt : r < length (s .head .rows)) where
   -- row q has a price of memory
   positive : 1 ≤ rowAt s q .d
-  positive = v .some-d q (omega arith)
+  positive = v .rows .some-d q (omega arith)
 
   -- what row q keeps, each later row keeps
   pub rows-kept-later : (t i : ℕ) → kept (traceOf s) (rowAt s q .h) (rowAt s q .d) t i ≡ true

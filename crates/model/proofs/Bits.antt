@@ -1,14 +1,13 @@
--- Bits of a number: adding 2 ^ k where bit k is clear sets that bit and changes no other; a sum of distinct powers of two has the bits
--- that it is the sum of. Assumes nothing.
+-- Bits of a number: adding 2 ^ k where bit k is clear sets that bit and changes no lower one; a sum of distinct powers of two has the
+-- bits that it is the sum of. Assumes nothing.
 use Prim.Native.Nat.{ℕ, zero, suc, _+_, _-_, _*_, _/_, _%_, _^_, _≤_, _<_}
-use mathlib.Core.Path.{_≡_, refl, _∙_}
+use mathlib.Core.Path.{_≡_, _∙_}
 use mathlib.Core.Logic.{⊎-elim}
 use mathlib.Core.Bool.{Bool, true, false, cond}
 use native.Mathlib.Omega.{arith}
 use native.Mathlib.Nat.{div-eq-of-lt, add-div-right, add-mul-div-right, add-mul-mod-self-right, pow-suc, add-zero}
-use lib.Dec.{ltb}
-use lib.Pow.{pow-pos, pow-add, shr-shr}
-use borrow.Author.Tests.{eqb-false, eq-eqb, ltb-true, ltb-false}
+use lib.Pow.{pow-pos, pow-add}
+use borrow.Author.Tests.{eqb-false, eq-eqb}
 use Rattle.model.specs.Sums.{sum}
 use Rattle.model.specs.Schedules.{bit}
 use Rattle.model.proofs.Sums.{last-or-below}
@@ -30,23 +29,6 @@ bit-lower x k j lt =
     let exponent : k ≡ m + suc j = omega arith in
     let power : 2 ^ (m + suc j) ≡ 2 ^ m * 2 * 2 ^ j = rw (pow-add 2 m (suc j), pow-suc 2 j) (omega arith) in
     rw (exponent, power, add-mul-div-right x (2 ^ m * 2) (pow-pos j), add-mul-mod-self-right (x / 2 ^ j) (2 ^ m) 2)
-
--- nor a higher one, where bit k is clear
-bit-higher : (x k j : ℕ) → bit x k ≡ false → k < j → bit (x + 2 ^ k) j ≡ bit x j
-bit-higher x k j clear lt =
-    let m = j - suc k in
-    let ne = eqb-false (x / 2 ^ k % 2) 1 clear in
-    let same : (x + 2 ^ k) / 2 ^ k / 2 ≡ x / 2 ^ k / 2 = omega (arith, add-div-right x (pow-pos k)) in
-    let exponent : j ≡ k + 1 + m = omega arith in
-    rw (exponent, ← shr-shr (x + 2 ^ k) (k + 1) m, ← shr-shr x (k + 1) m, ← shr-shr (x + 2 ^ k) k 1, ← shr-shr x k 1, same)
-
--- adding 2 ^ k where bit k is clear changes no other bit
-pub bit-other : (x k j : ℕ) → bit x k ≡ false → (j ≡ k → ⊥) → bit (x + 2 ^ k) j ≡ bit x j
-bit-other x k j clear ne = go (ltb j k) refl
-  where
-    go : (b : Bool) → ltb j k ≡ b → bit (x + 2 ^ k) j ≡ bit x j
-    go true e = bit-lower x k j (ltb-true j k e)
-    go false e = bit-higher x k j clear (omega (arith, ltb-false j k e))
 
 -- the number with the bits b 0, .., b (n - 1)
 abbrev pub ofBits : ℕ → (ℕ → Bool) → ℕ

@@ -1,5 +1,6 @@
 -- Bounds of products and costs: what every multiplication in the code needs. Assumes nothing.
 use Prim.Native.Nat.{ℕ, _-_, _*_, _^_, _≤_, _<_}
+use mathlib.Core.Bool.{Bool, true, false, cond}
 use native.Mathlib.Nat.{mul-le-mul}
 use native.Mathlib.Omega.{arith}
 use Rattle.model.specs.Costs.{swapCost, unitCost, retention}
@@ -26,3 +27,8 @@ retention-within kind z k lz lk =
 
 pub swap-within : (a z : ℕ) → a < 2 ^ 8 → z < 2 ^ 16 → swapCost a z < 2 ^ 32
 swap-within a z la lz = omega (arith, product-within a z (2 ^ 8) (2 ^ 16) (omega arith) (omega arith))
+
+-- one of two bounded numbers
+pub either-within : (b : Bool) (x y m : ℕ) → x ≤ m → y ≤ m → cond b x y ≤ m
+either-within true x y m l r = l
+either-within false x y m l r = r

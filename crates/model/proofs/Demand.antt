@@ -8,7 +8,7 @@ use Rattle.model.proofs.LowerBound.{schedule-lower-bound}
 use Rattle.model.proofs.LeastLoad.{least-load}
 use Rattle.model.proofs.Optimal.{optimal-permitted, optimal-memory, optimal-load, optimal-total}
 
-pub demand-3 : (s : SheetValue) → length (s .sizes) ≤ mostSegs → (r : ℕ) → r < length (s .rows) → Demand3 s r
+pub demand-3 : (s : SheetValue) → length (s .head .sizes) ≤ mostSegs → (r : ℕ) → r < length (s .head .rows) → Demand3 s r
 demand-3 s few r lt =
     let T = traceOf s in
     let h = rowAt s r .h in

@@ -7,7 +7,7 @@ use native.Mathlib.Omega.{arith}
 use Rattle.model.specs.Costs.{totalCost}
 use Rattle.model.specs.Sums.{sum}
 use Rattle.model.specs.Traces.{Trace, segs, steps, touched, touching, overTouches}
-use Rattle.model.proofs.Sums.{sum-le, sum-eq, sum-add}
+use Rattle.model.proofs.Sums.{sum-le, sum-eq, sum-add, sum-tight}
 use Rattle.model.proofs.Touches.{touching-sum}
 use Rattle.model.proofs.Loads.{sum-total}
 
@@ -16,13 +16,10 @@ abbrev pub doubleSum : ℕ → ℕ → (ℕ → ℕ → ℕ) → ℕ
 doubleSum n m f = sum n (λ t. sum m (λ i. f t i))
 
 module _ (n m : ℕ) (f g : ℕ → ℕ → ℕ) where
-  double-le : ((t i : ℕ) → t < n → i < m → f t i ≤ g t i) → doubleSum n m f ≤ doubleSum n m g
+  pub double-le : ((t i : ℕ) → t < n → i < m → f t i ≤ g t i) → doubleSum n m f ≤ doubleSum n m g
   double-le le = sum-le n (λ t. sum m (f t)) (λ t. sum m (g t)) (λ t lt. sum-le m (f t) (g t) (λ i l. le t i lt l))
 
-  double-eq : ((t i : ℕ) → t < n → i < m → f t i ≡ g t i) → doubleSum n m f ≡ doubleSum n m g
-  double-eq eq = sum-eq n (λ t. sum m (f t)) (λ t. sum m (g t)) (λ t lt. sum-eq m (f t) (g t) (λ i l. eq t i lt l))
-
-  double-add : doubleSum n m (λ t i. f t i + g t i) ≡ doubleSum n m f + doubleSum n m g
+  pub double-add : doubleSum n m (λ t i. f t i + g t i) ≡ doubleSum n m f + doubleSum n m g
   double-add =
       sum-eq n (λ t. sum m (λ i. f t i + g t i)) (λ t. sum m (f t) + sum m (g t)) (λ t lt. sum-add m (f t) (g t))
       ∙ sum-add n (λ t. sum m (f t)) (λ t. sum m (g t))
@@ -43,12 +40,13 @@ pub overTouches-double : (T : Trace) (f : ℕ → ℕ → ℕ)
 overTouches-double T f =
     sum-eq (steps T) (touching T f) (λ t. sum (segs T) (λ i. cond (touched T t i) (f t i) 0)) (λ t lt. touching-sum T f t)
 
-telescope : (n : ℕ) (p : ℕ → ℕ) → sum n (λ t. p (suc t)) + p 0 ≡ sum n p + p n
+pub telescope : (n : ℕ) (p : ℕ → ℕ) → sum n (λ t. p (suc t)) + p 0 ≡ sum n p + p n
 unfolding sum
 telescope zero p = refl
 telescope (suc n) p = omega (arith, telescope n p)
 
--- the potential p t i is a number for each i after t steps; where each step balances its change, f and g differ by it at both ends
+-- the potential p t i is a number for each i after t steps; where each step balances its change, f and g differ by it at
+-- both ends
 module _ (n m : ℕ) (f g p : ℕ → ℕ → ℕ) where
   pub potential-le : ((t i : ℕ) → t < n → i < m → f t i + p (suc t) i ≤ g t i + p t i)
       → doubleSum n m f + sum m (p n) ≤ doubleSum n m g + sum m (p 0)
@@ -61,13 +59,29 @@ module _ (n m : ℕ) (f g p : ℕ → ℕ → ℕ) where
         telescope n (λ t. sum m (p t)),
       )
 
-  pub potential-eq : ((t i : ℕ) → t < n → i < m → f t i + p (suc t) i ≡ g t i + p t i)
-      → doubleSum n m f + sum m (p n) ≡ doubleSum n m g + sum m (p 0)
-  potential-eq eq =
+  pub potential-ge : ((t i : ℕ) → t < n → i < m → f t i + p t i ≤ g t i + p (suc t) i)
+      → doubleSum n m f + sum m (p 0) ≤ doubleSum n m g + sum m (p n)
+  potential-ge le =
       omega (
         arith,
-        double-eq n m (λ t i. f t i + p (suc t) i) (λ t i. g t i + p t i) eq,
-        double-add n m f (λ t i. p (suc t) i),
-        double-add n m g p,
+        double-le n m (λ t i. f t i + p t i) (λ t i. g t i + p (suc t) i) le,
+        double-add n m f p,
+        double-add n m g (λ t i. p (suc t) i),
         telescope n (λ t. sum m (p t)),
       )
+
+pub potential-eq : (n m : ℕ) (f g p : ℕ → ℕ → ℕ) → ((t i : ℕ) → t < n → i < m → f t i + p (suc t) i ≡ g t i + p t i)
+    → doubleSum n m f + sum m (p n) ≡ doubleSum n m g + sum m (p 0)
+potential-eq n m f g p eq =
+    omega (
+      arith,
+      potential-le n m f g p (λ t i lt l. omega (arith, eq t i lt l)),
+      potential-ge n m g f p (λ t i lt l. omega (arith, eq t i lt l)),
+    )
+
+-- terms that are each within another, but not less in all, are equal
+pub double-tight : (n m : ℕ) (f g : ℕ → ℕ → ℕ) → ((t i : ℕ) → t < n → i < m → f t i ≤ g t i) → doubleSum n m g ≤ doubleSum n m f
+    → (t i : ℕ) → t < n → i < m → f t i ≡ g t i
+double-tight n m f g le whole t i lt l =
+    let row = sum-tight n (λ t. sum m (f t)) (λ t. sum m (g t)) (λ t lt. sum-le m (f t) (g t) (λ i l. le t i lt l)) whole t lt in
+    sum-tight m (f t) (g t) (λ i l. le t i lt l) (omega arith) i l

@@ -11,7 +11,7 @@ use Rattle.model.specs.Sums.{sum, tabulate}
 use Rattle.model.specs.Traces.{Trace, entry, touching, later, unreferenced}
 use Rattle.model.specs.Figures.{misses, volume, load, optmem, opttotal, optocc, wsmem, wsocc, mean, kept, marginAt, refCost, refVolume, smaller, wsspace}
 use Rattle.model.specs.Schedules.{Permitted, held, scheduleMemory, scheduleLoad, scheduleTotal, optimalSchedule, nextKept, optimalHeld, optimalByte}
-use Rattle.model.specs.Sheets.{nothing}
+use Rattle.model.specs.Sheets.{runOf}
 use Rattle.model.specs.declared.Kind.{Kind}
 use Rattle.model.specs.declared.Kind.the-variants.{Time, Space}
 
@@ -83,10 +83,6 @@ pub allHold : List Example → Bool
 allHold [] = true
 allHold (e ∷ es) = claims (e .run) (e .h) (e .d) (e .gives) && allHold es
 
--- a run with no start set
-runOf : Kind → ℕ → List ℕ → List ℕ → Trace
-runOf k a sizes refs = record { kind = k; a = a; sizes = sizes; start = nothing; refs = refs }
-
 -- the run of the listing
 listing : Trace
 listing = runOf Space 1 (1 ∷ 3 ∷ []) (0 ∷ 1 ∷ 0 ∷ 1 ∷ 1 ∷ 0 ∷ [])
@@ -149,11 +145,11 @@ table =
     ∷ []
 
 pub table-holds : allHold table ≡ true
-unfolding allHold claims valueOf bytesOf above below _is_ table runOf listing paper untouched weighted rounded between timed distant held scheduleMemory scheduleLoad scheduleTotal misses volume load optmem opttotal optocc wsmem wsocc mean optimalSchedule sum tabulate touching later unreferenced kept refCost refVolume smaller wsspace nextKept optimalHeld optimalByte
+unfolding allHold claims valueOf bytesOf above below _is_ table listing paper untouched weighted rounded between timed distant held scheduleMemory scheduleLoad scheduleTotal misses volume load optmem opttotal optocc wsmem wsocc mean optimalSchedule sum tabulate touching later unreferenced kept refCost refVolume smaller wsspace nextKept optimalHeld optimalByte
 table-holds = refl
 
 -- the last schedule of the table drops segment 0 in step 2 and lets it enter again, untouched, in step 3. It would cost less than the
 -- optimum, and it is not permitted
 pub re-entry : Permitted between (bytesOf (1 ∷ 2 ∷ 3 ∷ 1 ∷ [])) → ⊥
-unfolding between runOf bytesOf held
+unfolding between bytesOf held
 re-entry p = false≢true (p .others-stay 2 0 (lit< tt) (lit< tt) refl refl)

@@ -1,17 +1,17 @@
 -- The table of last touches, which the code keeps instead of unreferenced times: how a step changes it, and what it tells. Assumes nothing.
-use Prim.Native.Nat.{ℕ, zero, suc, _≤_, _<_}
-use mathlib.Core.Path.{_≡_, refl, sym, _∙_}
-use mathlib.Core.Bool.{Bool, true, false, cond, _&&_}
+use Prim.Native.Nat.{ℕ, zero, suc, _-_, _≤_, _<_}
+use mathlib.Core.Path.{_≡_, refl, sym, ap, _∙_}
+use mathlib.Core.Bool.{Bool, true, false, cond}
 use mathlib.Core.Option.{Option, none, some}
 use native.Mathlib.Omega.{arith}
-use lib.Dec.{eqb, ltb}
-use lib.ListN.{length, getD, set, replicate, length-set, length-replicate, getD-replicate}
-use lib.Seq.{ext-getD, getD-set-same, getD-set-other}
-use borrow.Author.Tests.{eqb-true, eqb-false, ne-eqb, ltb-true}
-use Rattle.model.specs.LastTouches.{untouchedMark, lastFrom, lastTable}
+use lib.Dec.{leb}
+use lib.ListN.{length, getD, set}
+use borrow.Author.Tests.{ne-eqb, le-leb, lt-leb}
+use Rattle.model.specs.Sums.{tabulate}
+use Rattle.model.specs.LastTouches.{untouchedMark, allUntouched, lastFrom, lastTable}
 use Rattle.model.specs.Traces.{Trace, segs, entry, touched, later, unreferenced}
-use Rattle.model.proofs.Tables.{length-tabulate, getD-tabulate}
-use Rattle.model.proofs.Touches.{touched-at, unreferenced-none, unreferenced-touched, unreferenced-later}
+use Rattle.model.proofs.Tables.{length-tabulate, getD-tabulate, tabulate-eq, tabulate-const, tabulate-set}
+use Rattle.model.proofs.Touches.{touched-at, touched-is, idle-touched, unreferenced-none, unreferenced-touched, unreferenced-later}
 
 pub length-lastTable : (T : Trace) (n : ℕ) → length (lastTable T n) ≡ 256
 unfolding lastTable
@@ -22,28 +22,33 @@ unfolding lastTable
 lastTable-at T n i d lt = getD-tabulate 256 (λ i. lastFrom n (unreferenced T n i)) i d lt
 
 -- one more step changes what the table holds for no other segment
-last-later : (n : ℕ) (o : Option ℕ) → lastFrom (suc n) (later o) ≡ lastFrom n o
+pub last-later : (n : ℕ) (o : Option ℕ) → lastFrom (suc n) (later o) ≡ lastFrom n o
 unfolding later
 last-later n none = refl
 last-later n (some k) = omega arith
 
 -- a time that is one step later
-later-some : (o : Option ℕ) (k : ℕ) → later o ≡ some k → (j : ℕ) × (o ≡ some j) × (k ≡ suc j)
+pub later-some : (o : Option ℕ) (k : ℕ) → later o ≡ some k → (j : ℕ) × (o ≡ some j) × (k ≡ suc j)
 unfolding later
 later-some none k e = let z : _≡_ {A = ℕ} 0 1 = cc in absurd (omega arith)
 later-some (some j) k e = (j, refl, cc)
 
-module _ (T : Trace) (fresh : (i : ℕ) → T .start i ≡ false) where
-  -- with an empty start set every segment starts out untouched
-  pub lastTable-start : lastTable T 0 ≡ replicate 256 untouchedMark
-  lastTable-start =
-      ext-getD 0 (lastTable T 0) (replicate 256 untouchedMark) (length-lastTable T 0 ∙ sym (length-replicate 256 untouchedMark)) at
-    where
-      at : (i : ℕ) → i < length (lastTable T 0) → getD (lastTable T 0) i 0 ≡ getD (replicate 256 untouchedMark) i 0
-      at i lt =
-          let inside : i < 256 = omega (arith, length-lastTable T 0) in
-          lastTable-at T 0 i 0 inside
-          ∙ rw (unreferenced-none T i, fresh i) (sym (getD-replicate 256 i untouchedMark 0 inside))
+-- before step 1 the segments of the start set have the mark 0, and all others are untouched
+pub lastTable-from : (T : Trace) → lastTable T 0 ≡ tabulate 256 (λ i. cond (T .start i) 0 untouchedMark)
+unfolding lastTable
+lastTable-from T =
+    tabulate-eq 256 (λ i. lastFrom 0 (unreferenced T 0 i)) (λ i. cond (T .start i) 0 untouchedMark)
+    (λ i lt. rw (unreferenced-none T i) (go (T .start i)))
+  where
+    go : (b : Bool) → lastFrom 0 (cond b (some 0) none) ≡ cond b 0 untouchedMark
+    go true = omega arith
+    go false = refl
+
+-- so with an empty start set all are
+pub lastTable-start : (T : Trace) → ((i : ℕ) → T .start i ≡ false) → lastTable T 0 ≡ allUntouched
+unfolding allUntouched
+lastTable-start T fresh =
+    lastTable-from T ∙ sym (tabulate-const 256 untouchedMark (λ i. cond (T .start i) 0 untouchedMark) (λ i lt. rw (fresh i)))
 
 -- an unreferenced time is at most the number of steps
 pub unreferenced-within : (T : Trace) (n i k : ℕ) → unreferenced T n i ≡ some k → k ≤ n
@@ -63,52 +68,37 @@ unreferenced-within T (suc n) i k e = go (touched T n i) refl (unreferenced-with
         let found = later-some (unreferenced T n i) k (sym (unreferenced-later T n i m) ∙ e) in
         omega (arith, found .2, below (found .0) (found .1))
 
-&&-false : (b : Bool) → b && false ≡ false
-&&-false true = refl
-&&-false false = refl
+-- a step changes no entry of a segment that it does not touch
+mark-later : (T : Trace) (t i : ℕ) → touched T t i ≡ false → lastFrom (suc t) (unreferenced T (suc t) i) ≡ lastFrom t (unreferenced T t i)
+mark-later T t i m = rw (unreferenced-later T t i m) (last-later t (unreferenced T t i))
 
 -- a touch in the next step sets the touched segment's entry to the number of that step
 pub lastTable-step : (T : Trace) (t : ℕ) → entry T t < segs T → segs T ≤ 256
     → set (lastTable T t) (entry T t) (suc t) ≡ lastTable T (suc t)
+unfolding lastTable
 lastTable-step T t lt few =
-    ext-getD 0 (set (lastTable T t) x (suc t)) (lastTable T (suc t))
-    (length-set (lastTable T t) x (suc t) ∙ (length-lastTable T t ∙ sym (length-lastTable T (suc t)))) at
-  where
-    x : ℕ
-    x = entry T t
-
-    at : (i : ℕ) → i < length (set (lastTable T t) x (suc t)) → getD (set (lastTable T t) x (suc t)) i 0 ≡ getD (lastTable T (suc t)) i 0
-    at i l = rw (lastTable-at T (suc t) i 0 inside) (go (eqb x i) refl)
-      where
-        inside : i < 256
-        inside = omega (arith, length-set (lastTable T t) x (suc t), length-lastTable T t)
-
-        missed : eqb x i ≡ false → touched T t i ≡ false
-        missed e = rw e (&&-false (ltb i (segs T)))
-
-        go : (b : Bool) → eqb x i ≡ b → getD (set (lastTable T t) x (suc t)) i 0 ≡ lastFrom (suc t) (unreferenced T (suc t) i)
-        go true e =
-            rw (← eqb-true x i e, unreferenced-touched T t x (touched-at T t lt))
-            (getD-set-same (lastTable T t) x (suc t) 0 (omega (arith, length-lastTable T t)) ∙ omega arith)
-        go false e =
-            let other = eqb-false x i e in
-            getD-set-other (lastTable T t) x i (suc t) 0 (λ same. other (sym same))
-            ∙ (lastTable-at T t i 0 inside ∙ rw (unreferenced-later T t i (missed e)) (sym (last-later t (unreferenced T t i))))
+    let here : lastFrom (suc t) (unreferenced T (suc t) (entry T t)) ≡ suc t =
+    rw (unreferenced-touched T t (entry T t) (touched-at T t lt)) (omega arith)
+    in
+    ap (λ (x : ℕ). set (lastTable T t) (entry T t) x) (sym here)
+    ∙ tabulate-set 256 (λ i. lastFrom t (unreferenced T t i)) (λ i. lastFrom (suc t) (unreferenced T (suc t) i)) (entry T t) (omega arith)
+    (λ i l other. mark-later T t i (touched-is T t i lt ∙ ne-eqb (entry T t) i (λ same. other (sym same))))
 
 -- a step that touches nothing changes no entry
 pub lastTable-idle : (T : Trace) (t : ℕ) → segs T ≤ entry T t → lastTable T t ≡ lastTable T (suc t)
+unfolding lastTable
 lastTable-idle T t le =
-    ext-getD 0 (lastTable T t) (lastTable T (suc t)) (length-lastTable T t ∙ sym (length-lastTable T (suc t))) at
-  where
-    missed : (i : ℕ) → touched T t i ≡ false
-    missed i = go (ltb i (segs T)) refl
-      where
-        go : (b : Bool) → ltb i (segs T) ≡ b → b && eqb (entry T t) i ≡ false
-        go true e = ne-eqb (entry T t) i (λ same. omega (arith, ltb-true i (segs T) e))
-        go false e = refl
+    tabulate-eq 256 (λ i. lastFrom t (unreferenced T t i)) (λ i. lastFrom (suc t) (unreferenced T (suc t) i))
+    (λ i l. sym (mark-later T t i (idle-touched T t i le)))
 
-    at : (i : ℕ) → i < length (lastTable T t) → getD (lastTable T t) i 0 ≡ getD (lastTable T (suc t)) i 0
-    at i l =
-        let inside : i < 256 = omega (arith, length-lastTable T t) in
-        lastTable-at T t i 0 inside
-        ∙ (sym (last-later t (unreferenced T t i)) ∙ rw (← unreferenced-later T t i (missed i)) (sym (lastTable-at T (suc t) i 0 inside)))
+-- the entry of a segment tells its unreferenced time, from any start
+pub last-time : (T : Trace) (n i d : ℕ) → i < 256 → n < untouchedMark
+    → cond (leb (getD (lastTable T n) i d) n) (some (n - getD (lastTable T n) i d)) none ≡ unreferenced T n i
+last-time T n i d l lt = rw (lastTable-at T n i d l) (go (unreferenced T n i) (unreferenced-within T n i))
+  where
+    go : (o : Option ℕ) → ((k : ℕ) → o ≡ some k → k ≤ n) → cond (leb (lastFrom n o) n) (some (n - lastFrom n o)) none ≡ o
+    go none below = rw (lt-leb untouchedMark n lt) refl
+    go (some k) below =
+        let before = below k refl in
+        let same : n - (n - k) ≡ k = omega arith in
+        rw (le-leb (n - k) n (omega arith), same) refl

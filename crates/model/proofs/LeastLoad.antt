@@ -18,7 +18,7 @@ use Rattle.model.proofs.Loads.{overTouches-eq, load-swaps}
 use Rattle.model.proofs.LowerBound.{schedule-lower-bound}
 
 -- the keep test is the same at prices M times as high, with 1 more for a load, where w is below M
-keeps-scaled : (M h d r w : ℕ) → w < M → keeps (M * d * r) ((M * h + 1) * w) ≡ keeps (d * r) (h * w)
+pub keeps-scaled : (M h d r w : ℕ) → w < M → keeps (M * d * r) ((M * h + 1) * w) ≡ keeps (d * r) (h * w)
 keeps-scaled M h d r w lt = go (leb (d * r) (h * w)) refl
   where
     go : (b : Bool) → leb (d * r) (h * w) ≡ b → keeps (M * d * r) ((M * h + 1) * w) ≡ keeps (d * r) (h * w)
@@ -27,21 +27,22 @@ keeps-scaled M h d r w lt = go (leb (d * r) (h * w)) refl
     go false e =
         rw e (lt-leb (M * d * r) ((M * h + 1) * w) (omega (arith, mul-le-mul-left M (leb-false (d * r) (h * w) e))))
 
+-- so the same touches of segments with w below M are kept
+pub kept-scaled : (T : Trace) (M h d t i : ℕ) → swapOf T i < M → kept T (M * h + 1) (M * d) t i ≡ kept T h d t i
+unfolding kept
+kept-scaled T M h d t i lt = rw (keeps-scaled M h d (retentionOf T t i) (swapOf T i) lt)
+
 module _ (T : Trace) (h d : ℕ) where
   -- M, above every w
   abbrev scale : ℕ
   scale = suc (sum (segs T) (swapOf T))
-
-  kept-scaled : (t i : ℕ) → i < segs T → kept T (scale * h + 1) (scale * d) t i ≡ kept T h d t i
-  unfolding kept
-  kept-scaled t i lt = rw (keeps-scaled scale h d (retentionOf T t i) (swapOf T i) (omega (arith, term-le (segs T) i (swapOf T) lt)))
 
   -- so every sum over touches that depends on the prices by what is kept is the same
   scaled : (f : Bool → ℕ → ℕ → ℕ)
       → overTouches T (λ t i. f (kept T (scale * h + 1) (scale * d) t i) t i) ≡ overTouches T (λ t i. f (kept T h d t i) t i)
   scaled f =
       overTouches-eq T (λ t i. f (kept T (scale * h + 1) (scale * d) t i) t i) (λ t i. f (kept T h d t i) t i)
-      (λ t i lt l m. rw (kept-scaled t i l))
+      (λ t i lt l m. rw (kept-scaled T scale h d t i (omega (arith, term-le (segs T) i (swapOf T) l))))
 
   optmem-scaled : optmem T (scale * h + 1) (scale * d) ≡ optmem T h d
   unfolding optmem

@@ -2,6 +2,7 @@ pub mod Ascent
 pub mod Bits
 pub mod Bounds
 pub mod Charges
+pub mod Decisions
 pub mod Demand
 pub mod DoubleSums
 pub mod Empty
@@ -15,10 +16,13 @@ pub mod Loads
 pub mod LowerBound
 pub mod Margins
 pub mod Optimal
+pub mod Places
 pub mod Relation
 pub mod Sizing
 pub mod SizingExamples
+pub mod Standing
 pub mod Sums
 pub mod Tables
 pub mod TariffExamples
 pub mod Touches
+pub mod Values

@@ -10,7 +10,7 @@ use Rattle.model.specs.Costs.{totalCost}
 use Rattle.model.specs.Sums.{sum}
 use Rattle.model.specs.Traces.{Trace, segs, steps, entry, touched, touching, overTouches, sizeOf, swapOf}
 use Rattle.model.specs.Figures.{kept, misses, volume, load}
-use Rattle.model.proofs.Sums.{sum-eq, sum-le}
+use Rattle.model.proofs.Sums.{sum-eq, sum-le, sum-within}
 use Rattle.model.proofs.Touches.{touched-at}
 
 -- a sum of totals is the total of the sums
@@ -58,16 +58,30 @@ overTouches-total T h d f g =
     (λ t lt. touching-total T h d f g t)
     ∙ sum-total h d (steps T) (touching T f) (touching T g)
 
+-- what a step adds is no larger where what its touch adds is no larger
+pub touching-le : (T : Trace) (f g : ℕ → ℕ → ℕ) (t : ℕ) → ((i : ℕ) → i < segs T → touched T t i ≡ true → f t i ≤ g t i)
+    → touching T f t ≤ touching T g t
+unfolding touching
+touching-le T f g t le = go (ltb (entry T t) (segs T)) refl
+  where
+    go : (b : Bool) → ltb (entry T t) (segs T) ≡ b → touching T f t ≤ touching T g t
+    go true e =
+        let lt = ltb-true (entry T t) (segs T) e in
+        rw e (le (entry T t) lt (touched-at T t lt))
+    go false e = rw e (omega arith)
+
 -- a sum over touches with terms no larger is no larger
 pub overTouches-le : (T : Trace) (f g : ℕ → ℕ → ℕ) → ((t i : ℕ) → f t i ≤ g t i) → overTouches T f ≤ overTouches T g
+overTouches-le T f g le = sum-le (steps T) (touching T f) (touching T g) (λ t lt. touching-le T f g t (λ i l m. le t i))
+
+-- a sum of n steps whose touches add at most m each
+pub touching-within : (T : Trace) (n m : ℕ) (f : ℕ → ℕ → ℕ) → ((t i : ℕ) → t < n → i < segs T → f t i ≤ m) → sum n (touching T f) ≤ n * m
 unfolding touching
-overTouches-le T f g le =
-    sum-le (steps T) (touching T f) (touching T g)
-    (λ t lt. go (ltb (entry T t) (segs T)) (f t (entry T t)) (g t (entry T t)) (le t (entry T t)))
+touching-within T n m f le = sum-within n m (touching T f) (λ t lt. go t lt (ltb (entry T t) (segs T)) refl)
   where
-    go : (b : Bool) (x y : ℕ) → x ≤ y → cond b x 0 ≤ cond b y 0
-    go true x y le = le
-    go false x y le = omega arith
+    go : (t : ℕ) → t < n → (b : Bool) → ltb (entry T t) (segs T) ≡ b → touching T f t ≤ m
+    go t lt true e = rw e (le t (entry T t) lt (ltb-true (entry T t) (segs T) e))
+    go t lt false e = rw e (omega arith)
 
 -- the load is the sum of w over the misses
 pub load-swaps : (T : Trace) (h d : ℕ) → load T h d ≡ overTouches T (λ t i. cond (kept T h d t i) 0 (swapOf T i))

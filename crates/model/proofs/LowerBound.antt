@@ -19,18 +19,18 @@ use Rattle.model.proofs.Loads.{overTouches-total, load-swaps}
 use Rattle.model.proofs.DoubleSums.{doubleSum, double-total, overTouches-double, potential-le}
 
 -- the least cost of a touch after the unreferenced time o, beyond the reference: that of keeping at u a step or that of a load, w
-abbrev leastCost : ℕ → ℕ → Option ℕ → ℕ
+abbrev pub leastCost : ℕ → ℕ → Option ℕ → ℕ
 leastCost u w none = w
 leastCost u w (some k) = min (k * u) w
 
 -- one step more adds at most u
-least-later : (u w : ℕ) (o : Option ℕ) → leastCost u w (later o) ≤ u + leastCost u w o
+pub least-later : (u w : ℕ) (o : Option ℕ) → leastCost u w (later o) ≤ u + leastCost u w o
 unfolding later
 least-later u w none = omega arith
 least-later u w (some k) = omega arith
 
 -- a load is always possible
-least-within : (u w : ℕ) (o : Option ℕ) → leastCost u w o ≤ w
+pub least-within : (u w : ℕ) (o : Option ℕ) → leastCost u w o ≤ w
 least-within u w none = omega arith
 least-within u w (some k) = omega arith
 
@@ -59,14 +59,14 @@ one-step h d u w o false b false stay = omega arith
 
 module _ (T : Trace) (h d : ℕ) where
   -- the least cost of a touch of segment i after t steps
-  abbrev leastAt : ℕ → ℕ → ℕ
+  abbrev pub leastAt : ℕ → ℕ → ℕ
   leastAt t i = leastCost (d * unitOf T i) (h * swapOf T i) (unreferenced T t i)
 
   -- the cost of a touch in opttotal: d × R where it is kept, h × w where not
-  abbrev touchCost : ℕ → ℕ → ℕ
+  abbrev pub touchCost : ℕ → ℕ → ℕ
   touchCost t i = totalCost h d (cond (kept T h d t i) (retentionOf T t i) 0) (cond (kept T h d t i) 0 (swapOf T i))
 
-  touch-least : (t i : ℕ) → touchCost t i ≡ leastAt t i
+  pub touch-least : (t i : ℕ) → touchCost t i ≡ leastAt t i
   unfolding kept
   touch-least t i = go (unreferenced T t i) refl
     where
@@ -75,7 +75,7 @@ module _ (T : Trace) (h d : ℕ) where
       go (some k) e = rw e (choice h d (k * unitOf T i) (swapOf T i) ∙ omega arith)
 
   -- opttotal is d × Q and the cost of every touch
-  opttotal-touches : opttotal T h d ≡ d * refCost T + overTouches T touchCost
+  pub opttotal-touches : opttotal T h d ≡ d * refCost T + overTouches T touchCost
   unfolding opttotal optmem
   opttotal-touches =
       rw (load-swaps T h d) (omega (
@@ -92,35 +92,14 @@ memoryOf T S =
 abbrev pub loadOf : Trace → (ℕ → ℕ → Bool) → ℕ
 loadOf T S = overTouches T (λ t i. cond (S t i) 0 (swapOf T i))
 
--- S starts as the run does, and adds no untouched segment
-module _ (T : Trace) (h d : ℕ) (S : ℕ → ℕ → Bool)
-    (starts : (i : ℕ) → i < segs T → S 0 i ≡ T .start i)
-    (stays : (t i : ℕ) → t < steps T → i < segs T → touched T t i ≡ false → S (suc t) i ≡ true → S t i ≡ true) where
+module _ (T : Trace) (h d : ℕ) (S : ℕ → ℕ → Bool) where
   -- the cost of segment i to S in the step at place t, beyond the reference
-  abbrev segmentCost : ℕ → ℕ → ℕ
+  abbrev pub segmentCost : ℕ → ℕ → ℕ
   segmentCost t i =
       totalCost h d (cond (S (suc t) i && not (touched T t i)) (unitOf T i) 0) (cond (touched T t i) (cond (S t i) 0 (swapOf T i)) 0)
 
-  -- the potential: the least cost of a touch, where S holds the segment
-  abbrev potential : ℕ → ℕ → ℕ
-  potential t i = cond (S t i) (leastAt T h d t i) 0
-
-  potential-start : (i : ℕ) → i < segs T → potential 0 i ≡ 0
-  potential-start i lt = rw (starts i lt, unreferenced-none T i) (go (T .start i))
-    where
-      go : (b : Bool) → cond b (leastCost (d * unitOf T i) (h * swapOf T i) (cond b (some 0) none)) 0 ≡ 0
-      go true = omega arith
-      go false = refl
-
-  potential-step : (t i : ℕ) → t < steps T → i < segs T
-      → cond (touched T t i) (touchCost T h d t i) 0 + potential (suc t) i ≤ segmentCost t i + potential t i
-  unfolding unreferenced
-  potential-step t i lt l =
-      rw (touch-least T h d t i)
-      (one-step h d (unitOf T i) (swapOf T i) (unreferenced T t i) (touched T t i) (S t i) (S (suc t) i) (stays t i lt l))
-
   -- the total of S is d × Q and the cost of every segment in every step
-  total-segments : totalCost h d (memoryOf T S) (loadOf T S) ≡ d * refCost T + doubleSum (steps T) (segs T) segmentCost
+  pub total-segments : totalCost h d (memoryOf T S) (loadOf T S) ≡ d * refCost T + doubleSum (steps T) (segs T) segmentCost
   total-segments =
       rw (overTouches-double T (λ t i. cond (S t i) 0 (swapOf T i)))
       (omega (
@@ -134,6 +113,28 @@ module _ (T : Trace) (h d : ℕ) (S : ℕ → ℕ → Bool)
             d,
       ))
 
+-- S starts as the run does, and adds no untouched segment
+module _ (T : Trace) (h d : ℕ) (S : ℕ → ℕ → Bool)
+    (starts : (i : ℕ) → i < segs T → S 0 i ≡ T .start i)
+    (stays : (t i : ℕ) → t < steps T → i < segs T → touched T t i ≡ false → S (suc t) i ≡ true → S t i ≡ true) where
+  -- the potential: the least cost of a touch, where S holds the segment
+  abbrev potential : ℕ → ℕ → ℕ
+  potential t i = cond (S t i) (leastAt T h d t i) 0
+
+  potential-start : (i : ℕ) → i < segs T → potential 0 i ≡ 0
+  potential-start i lt = rw (starts i lt, unreferenced-none T i) (go (T .start i))
+    where
+      go : (b : Bool) → cond b (leastCost (d * unitOf T i) (h * swapOf T i) (cond b (some 0) none)) 0 ≡ 0
+      go true = omega arith
+      go false = refl
+
+  potential-step : (t i : ℕ) → t < steps T → i < segs T
+      → cond (touched T t i) (touchCost T h d t i) 0 + potential (suc t) i ≤ segmentCost T h d S t i + potential t i
+  unfolding unreferenced
+  potential-step t i lt l =
+      rw (touch-least T h d t i)
+      (one-step h d (unitOf T i) (swapOf T i) (unreferenced T t i) (touched T t i) (S t i) (S (suc t) i) (stays t i lt l))
+
   -- the total of S is at least opttotal
   pub lower-bound : opttotal T h d ≤ totalCost h d (memoryOf T S) (loadOf T S)
   lower-bound =
@@ -141,9 +142,10 @@ module _ (T : Trace) (h d : ℕ) (S : ℕ → ℕ → Bool)
         arith,
         opttotal-touches T h d,
         overTouches-double T (touchCost T h d),
-        potential-le (steps T) (segs T) (λ t i. cond (touched T t i) (touchCost T h d t i) 0) segmentCost potential potential-step,
+        potential-le (steps T) (segs T) (λ t i. cond (touched T t i) (touchCost T h d t i) 0) (segmentCost T h d S) potential
+            potential-step,
         sum-zero (segs T) (potential 0) potential-start,
-        total-segments,
+        total-segments T h d S,
       )
 
 -- the total of a permitted schedule in bytes is at least opttotal

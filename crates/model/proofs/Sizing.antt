@@ -1,8 +1,8 @@
 -- What the definition of sizing says: the row is within the ceiling, of the least load among such rows and the lowest of that load, and
 -- there is no other such row; there is none exactly where every row's optmem exceeds the ceiling. Of any rows, in any order.
 -- Assumes nothing.
-use Prim.Native.Nat.{ℕ, zero, suc, _≤_, _<_}
-use mathlib.Core.Path.{_≡_, refl, sym, ap, _∙_}
+use Prim.Native.Nat.{ℕ, zero, suc}
+use mathlib.Core.Path.{_≡_, refl, ap}
 use mathlib.Core.Logic.{⊎-elim}
 use mathlib.Core.Bool.{Bool, true, false, cond, _&&_}
 use mathlib.Core.Option.{Option, none, some}
@@ -98,8 +98,8 @@ module _ (s : SheetValue) (ceiling : ℕ) where
       go (some q) y = absurd (omega (arith, none-fit q (y .is-row), y .within))
 
   -- of a whole sheet
-  pub row-sized : (r : ℕ) → sizedRow s ceiling ≡ some r → Sized s ceiling (length (s .rows)) r
-  row-sized r e = rw e at (choice-is (length (s .rows)))
+  pub row-sized : (r : ℕ) → sizedRow s ceiling ≡ some r → Sized s ceiling (length (s .head .rows)) r
+  row-sized r e = rw e at (choice-is (length (s .head .rows)))
 
-  pub no-row-fits : sizedRow s ceiling ≡ none → NoneFits s ceiling (length (s .rows))
-  no-row-fits e = rw e at (choice-is (length (s .rows)))
+  pub no-row-fits : sizedRow s ceiling ≡ none → NoneFits s ceiling (length (s .head .rows))
+  no-row-fits e = rw e at (choice-is (length (s .head .rows)))

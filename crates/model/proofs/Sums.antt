@@ -1,16 +1,13 @@
 -- Laws of `sum` and `tabulate`: pointwise order and equality, sums of sums, and the sum with one nonzero term.
 -- Assumes nothing.
 use Prim.Native.Nat.{ℕ, zero, suc, _+_, _*_, _≤_, _<_}
-use mathlib.Core.Path.{_≡_, refl, _∙_}
+use mathlib.Core.Path.{_≡_, refl}
 use mathlib.Core.Logic.{_⊎_, inl, inr, ⊎-elim}
 use mathlib.Core.Bool.{Bool, true, false, cond}
-use mathlib.Core.List.{[], _∷_}
 use native.Mathlib.Omega.{arith}
 use lib.Dec.{eqb, ltb}
-use lib.ListN.{length, getD, length-append, List·getD-append}
-use lib.Seq.{getD-at}
 use borrow.Author.Tests.{eqb-true, eqb-false, lt-ltb, le-ltb, ltb-true, ltb-false}
-use Rattle.model.specs.Sums.{sum, tabulate}
+use Rattle.model.specs.Sums.{sum}
 
 pub sum-suc : (n : ℕ) (f : ℕ → ℕ) → sum (suc n) f ≡ sum n f + f n
 unfolding sum
@@ -81,3 +78,22 @@ pub sum-within : (n b : ℕ) (f : ℕ → ℕ) → ((t : ℕ) → t < n → f t 
 unfolding sum
 sum-within zero b f le = omega arith
 sum-within (suc n) b f le = omega (arith, sum-within n b f (λ t l. le t (omega arith)), le n (omega arith))
+
+-- terms that are each within another, one of them less, have the lesser sum; where the sum is not less, no term is
+pub sum-lt : (n s : ℕ) (f g : ℕ → ℕ) → s < n → ((t : ℕ) → t < n → f t ≤ g t) → f s < g s → sum n f < sum n g
+unfolding sum
+sum-lt zero s f g ls le lt = absurd (omega arith)
+sum-lt (suc n) s f g ls le lt =
+    ⊎-elim
+    (λ e. let here = rw e at lt in omega (arith, sum-le n f g (λ t l. le t (omega arith))))
+    (λ l. omega (arith, sum-lt n s f g l (λ t k. le t (omega arith)) lt, le n (omega arith)))
+    (last-or-below n s ls)
+
+pub sum-tight : (n : ℕ) (f g : ℕ → ℕ) → ((t : ℕ) → t < n → f t ≤ g t) → sum n g ≤ sum n f → (t : ℕ) → t < n → f t ≡ g t
+sum-tight n f g le whole t lt = go (eqb (f t) (g t)) refl
+  where
+    go : (b : Bool) → eqb (f t) (g t) ≡ b → f t ≡ g t
+    go true e = eqb-true (f t) (g t) e
+    go false e =
+        let ne = eqb-false (f t) (g t) e in
+        absurd (omega (arith, sum-lt n t f g lt le (omega (arith, le t lt))))

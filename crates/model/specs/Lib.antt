@@ -1,4 +1,5 @@
 pub mod Costs
+pub mod Decisions
 pub mod Demand
 pub mod Figures
 pub mod LastTouches
@@ -8,6 +9,7 @@ pub mod Rows
 pub mod Schedules
 pub mod Sheets
 pub mod Sizing
+pub mod Standing
 pub mod Sums
 pub mod Tariff
 pub mod Traces

@@ -1,6 +1,7 @@
--- What a call leaves in a lent place, and what it answers: the result and then the old contents, or refusal 11 and no change.
+-- What a call leaves in a lent place, and what it answers: the result and then the old contents, or a refusal and no change.
 -- Assumes nothing.
 use Prim.Native.Nat.{ℕ}
+use mathlib.Core.Path.{_≡_}
 use mathlib.Core.Bool.{cond}
 use mathlib.Core.List.{List, _++_}
 use lib.ListN.{length, drop}
@@ -22,3 +23,23 @@ nothingPlaced r = record { verdict = Refused r; length = 0 }
 unfoldable pub placeAnswer : List ℕ → List ℕ → PlaceAnswer
 placeAnswer result place =
     cond (leb (length result) (length place)) (record { verdict = Accepted; length = length result }) (nothingPlaced PlaceTooShort)
+
+-- what a call has for a lent place: the bytes of its result, or a refusal
+pub data Result : Type 0 where
+  gives : List ℕ → Result
+  refuses : Refusal → Result
+
+-- what such a call answers
+abbrev pub answerFor : Result → List ℕ → PlaceAnswer
+answerFor (gives result) place = placeAnswer result place
+answerFor (refuses r) place = nothingPlaced r
+
+-- and what it leaves in the place: no change where it refuses
+abbrev pub placeFor : Result → List ℕ → List ℕ
+placeFor (gives result) place = placed result place
+placeFor (refuses r) place = place
+
+-- what a call that has this for a lent place answers, and what the place is before and after it
+pub record PlaceLeft (result : Result) (place place' : List ℕ) (answer : PlaceAnswer) : Type 0 where
+  pub answer-is : answer ≡ answerFor result place
+  pub place-is : place' ≡ placeFor result place

@@ -3,7 +3,9 @@ use Prim.Native.Nat.{ℕ}
 use Rattle.model.specs.declared.Refusal.{Refusal}
 use Rattle.model.specs.declared.Verdict.{Verdict}
 use Rattle.model.specs.declared.Verdict.the-variants.{Accepted, Refused}
-use Rattle.model.specs.declared.Refusal.the-variants.{SheetTooLong, LineMalformed, ValueMalformed, OutOfRange, ThresholdNotAbove, BytesAfterEnd, NoSuchRow, ScheduleLength, TouchedNotHeld, HeldNotBefore, PlaceTooShort, NoRowFits, RecorderFull, NoSuchReference, FirstTouch, TariffOutOfRange}
+use Rattle.model.specs.declared.Refusal.the-variants.{SheetTooLong, LineMalformed, ValueMalformed, OutOfRange, ThresholdNotAbove, BytesAfterEnd, NoSuchRow, ScheduleLength, TouchedNotHeld}
+use Rattle.model.specs.declared.Refusal.the-variants.{HeldNotBefore, PlaceTooShort, NoRowFits, RecorderFull, NoSuchReference, FirstTouch, StepNotAbove, IdleStep, TariffOutOfRange}
+use Rattle.model.specs.declared.Refusal.the-variants.{HoldNotAbove, HeadsDiffer, BothTouch, TooManySegments, PageOutOfRange, TraceMalformed, TraceTooLong, SizeNotOne, WarmSegment, NotTimeZero}
 
 -- the number of a refusal
 abbrev pub numberOf : Refusal → ℕ
@@ -22,7 +24,19 @@ numberOf NoRowFits = 12
 numberOf RecorderFull = 13
 numberOf NoSuchReference = 14
 numberOf FirstTouch = 15
+numberOf StepNotAbove = 16
+numberOf IdleStep = 17
 numberOf TariffOutOfRange = 18
+numberOf HoldNotAbove = 19
+numberOf HeadsDiffer = 20
+numberOf BothTouch = 21
+numberOf TooManySegments = 22
+numberOf PageOutOfRange = 23
+numberOf TraceMalformed = 24
+numberOf TraceTooLong = 25
+numberOf SizeNotOne = 26
+numberOf WarmSegment = 27
+numberOf NotTimeZero = 28
 
 -- the number of what a call answers: 0 where it was carried out, else that of the refusal
 abbrev pub verdictNumber : Verdict → ℕ

@@ -19,7 +19,7 @@ chosenOf s ceiling (suc n) = chosen s ceiling n (chosenOf s ceiling n)
 
 -- the lowest row number with the least load among the rows with optmem within the ceiling; none where no row's is
 abbrev pub sizedRow : SheetValue → ℕ → Option ℕ
-sizedRow s ceiling = chosenOf s ceiling (length (s .rows))
+sizedRow s ceiling = chosenOf s ceiling (length (s .head .rows))
 
 -- row r of the first n is within the ceiling, of the least load among such rows, and the lowest of that load
 pub record Sized (s : SheetValue) (ceiling n r : ℕ) : Type 0 where

@@ -2,9 +2,10 @@
 use Prim.Native.Nat.{ℕ}
 use mathlib.Core.List.{List, _++_}
 use lib.ListN.{length, take, drop, replicate}
-use Rattle.model.specs.Sheets.{SheetValue, mostBytes, largestA, mostSegs, largestSize, mostRows, largestPrice, mostRefs}
+use Rattle.model.specs.Sheets.{HeadValue, SheetValue, mostBytes, largestA, mostSegs, largestSize, mostRows, largestPrice, mostRefs}
 use Rattle.model.specs.declared.Kind.the-variants.{Time}
 use Rattle.model.specs.declared.PriceRow.{PriceRow}
+use Rattle.model.specs.declared.Head.{Head}
 use Rattle.model.specs.declared.Sheet.{Sheet}
 use Rattle.model.specs.declared.SheetLimits.{SheetLimits}
 
@@ -32,9 +33,9 @@ zeroRows n = replicate n (record { h = 0; d = 0 })
 unfoldable pub padded : {A : Type 0} → List A → List A → List A
 padded xs blank = xs ++ drop (length xs) blank
 
--- the sheet with a value: its lists at the front of zeros
-unfoldable pub sheetOf : SheetValue → Sheet
-sheetOf v =
+-- the head with a value: its lists at the front of zeros
+unfoldable pub headOf : HeadValue → Head
+headOf v =
     record {
       kind = v .kind;
       a = v .a;
@@ -42,31 +43,26 @@ sheetOf v =
       sizes = padded (v .sizes) (zeros mostSegs);
       rows = length (v .rows);
       prices = padded (v .rows) (zeroRows mostRows);
-      refs = length (v .refs);
-      touches = padded (v .refs) (zeros mostRefs);
     }
 
--- the value of a sheet: as many sizes, rows and references as it counts
+-- the value of a head: as many sizes and rows as it counts
+unfoldable pub headValueOf : Head → HeadValue
+headValueOf h =
+    record { kind = h .kind; a = h .a; sizes = take (h .segs) (h .sizes); rows = take (h .rows) (h .prices) }
+
+-- the sheet with a value: its references at the front of zeros
+unfoldable pub sheetOf : SheetValue → Sheet
+sheetOf v = record { head = headOf (v .head); refs = length (v .refs); touches = padded (v .refs) (zeros mostRefs) }
+
+-- the value of a sheet: as many references as it counts
 unfoldable pub valueOf : Sheet → SheetValue
-valueOf s =
-    record {
-      kind = s .kind;
-      a = s .a;
-      sizes = take (s .segs) (s .sizes);
-      rows = take (s .rows) (s .prices);
-      refs = take (s .refs) (s .touches);
-    }
+valueOf s = record { head = headValueOf (s .head); refs = take (s .refs) (s .touches) }
+
+-- no segments and no rows
+unfoldable pub emptyHead : Head
+emptyHead =
+    record { kind = Time; a = 0; segs = 0; sizes = zeros mostSegs; rows = 0; prices = zeroRows mostRows }
 
 -- no segments, no rows, no references
 unfoldable pub emptySheet : Sheet
-emptySheet =
-    record {
-      kind = Time;
-      a = 0;
-      segs = 0;
-      sizes = zeros mostSegs;
-      rows = 0;
-      prices = zeroRows mostRows;
-      refs = 0;
-      touches = zeros mostRefs;
-    }
+emptySheet = record { head = emptyHead; refs = 0; touches = zeros mostRefs }

@@ -6,9 +6,10 @@ ghost use mathlib.Core.Path.{_≡_};
 ghost use Prim.Native.Nat.{_+_, _*_, _<_, _^_};
 ghost use Rattle.model.specs.Costs.{swapCost, unitCost, retention, keeps, totalCost, marginOf};
 ghost use Rattle.model.specs.LastTouches.{allUntouched};
+ghost use Rattle.model.specs.Places.{nothingPlaced};
 ghost use Rattle.model.specs.Rows.{zeroFigures};
 ghost use Rattle.model.specs.Refusals.{numberOf, verdictNumber};
-ghost use Rattle.model.specs.Values.{sheetLimits, emptySheet};
+ghost use Rattle.model.specs.Values.{sheetLimits, emptyHead, emptySheet};
 
 // What a memory unit is: a reference by itself (time), or the size of the segment (space).
 pub enum Kind {
@@ -28,15 +29,20 @@ pub struct PriceRow {
     pub d: u16,
 }
 
-// A sheet by value: kind, a, the first `segs` sizes, the first `rows` price rows and the first `refs` references, one per step.
-// In a sheet that was read, what stands beyond the counts is 0.
-pub struct Sheet {
+// The head of a sheet: kind, a, the first `segs` sizes and the first `rows` price rows.
+// In a head that was read, what stands beyond the counts is 0.
+pub struct Head {
     pub kind: Kind,
     pub a: u8,
     pub segs: usize,
     pub sizes: [u16; Sheet::MAX_SEGS],
     pub rows: usize,
     pub prices: [PriceRow; Sheet::MAX_ROWS],
+}
+
+// A sheet by value: its head and the first `refs` references, one per step. In a sheet that was read, what stands beyond them is 0.
+pub struct Sheet {
+    pub head: Head,
     pub refs: usize,
     pub touches: [u16; Sheet::MAX_REFS],
 }
@@ -88,14 +94,25 @@ impl Sheet {
         ensures { λ r. ⌜ r ≡ emptySheet ⌝ }
     {
         Sheet {
+            head: Head::empty(),
+            refs: 0,
+            touches: [0u16; Sheet::MAX_REFS],
+        }
+    }
+}
+
+impl Head {
+    // The head that a refusal hands back: no segments, no rows.
+    pub fn empty() -> Head
+        ensures { λ r. ⌜ r ≡ emptyHead ⌝ }
+    {
+        Head {
             kind: Kind::Time,
             a: 0,
             segs: 0,
             sizes: [0u16; Sheet::MAX_SEGS],
             rows: 0,
             prices: [PriceRow { h: 0, d: 0 }; Sheet::MAX_ROWS],
-            refs: 0,
-            touches: [0u16; Sheet::MAX_REFS],
         }
     }
 }
@@ -156,7 +173,19 @@ pub enum Refusal {
     RecorderFull,
     NoSuchReference,
     FirstTouch,
+    StepNotAbove,
+    IdleStep,
     TariffOutOfRange,
+    HoldNotAbove,
+    HeadsDiffer,
+    BothTouch,
+    TooManySegments,
+    PageOutOfRange,
+    TraceMalformed,
+    TraceTooLong,
+    SizeNotOne,
+    WarmSegment,
+    NotTimeZero,
 }
 
 // Whether a call was carried out, or why it was refused.
@@ -169,6 +198,18 @@ pub enum Verdict {
 pub struct PlaceAnswer {
     pub verdict: Verdict,
     pub length: usize,
+}
+
+impl PlaceAnswer {
+    // Nothing written, and why.
+    pub fn refused(why: Refusal) -> PlaceAnswer
+        ensures { λ r. ⌜ r ≡ nothingPlaced why ⌝ }
+    {
+        PlaceAnswer {
+            verdict: Verdict::Refused(why),
+            length: 0,
+        }
+    }
 }
 
 // The number of a refusal.
@@ -191,7 +232,19 @@ pub fn number(r: Refusal) -> u64
         Refusal::RecorderFull => 13,
         Refusal::NoSuchReference => 14,
         Refusal::FirstTouch => 15,
+        Refusal::StepNotAbove => 16,
+        Refusal::IdleStep => 17,
         Refusal::TariffOutOfRange => 18,
+        Refusal::HoldNotAbove => 19,
+        Refusal::HeadsDiffer => 20,
+        Refusal::BothTouch => 21,
+        Refusal::TooManySegments => 22,
+        Refusal::PageOutOfRange => 23,
+        Refusal::TraceMalformed => 24,
+        Refusal::TraceTooLong => 25,
+        Refusal::SizeNotOne => 26,
+        Refusal::WarmSegment => 27,
+        Refusal::NotTimeZero => 28,
     }
 }
 

@@ -7,9 +7,9 @@ use native.Mathlib.Omega.{arith}
 use lib.ListN.{length, set, replicate, length-append, length-replicate, replicate-append-replicate}
 use Rattle.model.specs.declared.Kind.{Kind}
 use Rattle.model.specs.declared.RowFigures.{RowFigures}
-use Rattle.sheet.specs.Keys.{lineFeed}
-use Rattle.sheet.specs.Parts.{Put}
-use Rattle.sheet.proofs.Putting.{put-then, put-byte}
+use Rattle.lines.specs.Keys.{lineFeed}
+use Rattle.lines.specs.Puts.{Put}
+use Rattle.lines.proofs.Putting.{put-then, put-byte}
 use Rattle.page.specs.Page.{lineWidth, blank, blanks, field, spaced, columns, pageLine, pageLines, secondPage, joined}
 
 -- one element more of a list of equal ones

@@ -15,13 +15,13 @@ use Rattle.page.specs.Page.{columns, pageLine, rowLine, allLines, lineOf
 use Rattle.page.proofs.Lines.{row-on-line}
 
 -- row r of a sheet stands on its line with the figures that the listing prints: the columns are h, d, misses, volume, load and mean of them
-pub page-prints : (v : SheetValue) (r : ℕ) → r < length (v .rows)
-    → getD (allLines (v .kind) (v .a) (tabulate (length (v .rows)) (figuresAt v))) (lineOfRow r) []
+pub page-prints : (v : SheetValue) (r : ℕ) → r < length (v .head .rows)
+    → getD (allLines (v .head .kind) (v .head .a) (tabulate (length (v .head .rows)) (figuresAt v))) (lineOfRow r) []
     ≡ rowLine (rowFigures (traceOf v) (rowAt v r .h) (rowAt v r .d))
 page-prints v r lt =
-    let n = length-tabulate (length (v .rows)) (figuresAt v) in
-    row-on-line (v .kind) (v .a) (tabulate (length (v .rows)) (figuresAt v)) r (omega (arith, n))
-    ∙ ap rowLine (getD-tabulate (length (v .rows)) (figuresAt v) r zeroFigures lt)
+    let n = length-tabulate (length (v .head .rows)) (figuresAt v) in
+    row-on-line (v .head .kind) (v .head .a) (tabulate (length (v .head .rows)) (figuresAt v)) r (omega (arith, n))
+    ∙ ap rowLine (getD-tabulate (length (v .head .rows)) (figuresAt v) r zeroFigures lt)
 
 -- the largest figures: misses 2,048, volume 8,386,560, load 2,138,574,848, and a mean that none exceeds
 abbrev pub largestFigures : RowFigures

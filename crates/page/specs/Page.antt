@@ -8,7 +8,7 @@ use Rattle.model.specs.Sheets.{SheetValue}
 use Rattle.model.specs.declared.Kind.{Kind}
 use Rattle.model.specs.declared.RowFigures.{RowFigures}
 use Rattle.decimal.specs.Decimal.{written}
-use Rattle.sheet.specs.Keys.{lineFeed, kindKey, kindWord, aKey}
+use Rattle.lines.specs.Keys.{lineFeed, kindKey, kindWord, aKey}
 use Rattle.model.specs.Sums.{tabulate}
 use Rattle.figures.specs.Rows.{figuresAt}
 
@@ -114,7 +114,7 @@ pages kind a fs = joined (allLines kind a fs)
 
 -- the figures of a sheet's rows are those that the listing prints
 unfoldable pub pagesOf : SheetValue → List ℕ
-pagesOf v = pages (v .kind) (v .a) (tabulate (length (v .rows)) (figuresAt v))
+pagesOf v = pages (v .head .kind) (v .head .a) (tabulate (length (v .head .rows)) (figuresAt v))
 
 -- the line on which row r stands, counted from 0 over both pages
 abbrev pub lineOfRow : ℕ → ℕ

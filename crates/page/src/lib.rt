@@ -1,22 +1,22 @@
 // The page for the binder as text: its lines one after the other into the lent place.
 // What the text is stands in specs/Page.antt. That every field fits its column is asked of the figures, and proved of every accepted sheet.
+use lines::put;
 use model::Kind;
 use model::PlaceAnswer;
 use model::Refusal;
 use model::RowFigures;
 use model::Sheet;
 use model::Verdict;
-use sheet::writing::put;
 ghost use mathlib.Core.Path.{_≡_};
 ghost use mathlib.Core.List.{[], _∷_, _++_, map};
 ghost use Prim.Native.Nat.{ℕ, _+_, _*_, _-_, _≤_, _<_};
 ghost use lib.ListN.{length, getD, take, drop, replicate};
 ghost use Rattle.model.specs.Sheets.{mostRows};
 ghost use Rattle.decimal.specs.Decimal.{written};
-ghost use Rattle.model.specs.Places.{placed, placeAnswer};
+ghost use Rattle.model.specs.Places.{gives, PlaceLeft};
 ghost use Rattle.model.specs.Rows.{zeroFigures};
-ghost use Rattle.sheet.specs.Parts.{Put};
-ghost use Rattle.sheet.specs.Keys.{kindKey, kindWord, aKey};
+ghost use Rattle.lines.specs.Puts.{Put};
+ghost use Rattle.lines.specs.Keys.{kindKey, kindWord, aKey};
 ghost use Rattle.page.specs.Page.{blank, blanks, field, titleLine, namesLine, rowLine, blankLine};
 ghost use Rattle.page.specs.Page.{pageLines, joined, pages, pagesLength, Fits};
 
@@ -196,15 +196,11 @@ pub fn write(
     out: &mut [u8],
 ) -> PlaceAnswer
     requires { ⌜ (rows ≤ mostRows) × ((r : ℕ) → r < rows → Fits (getD figures r zeroFigures)) ⌝ }
-    ensures { λ r. ⌜ (r ≡ placeAnswer (pages kind a (take rows figures)) (now (out .entry)))
-        × (now (out .exit) ≡ placed (pages kind a (take rows figures)) (now (out .entry))) ⌝ }
+    ensures { λ r. ⌜ PlaceLeft (gives (pages kind a (take rows figures))) (now (out .entry)) (now (out .exit)) r ⌝ }
 {
     let length = pages_length(rows);
     if out.len() < length {
-        return PlaceAnswer {
-            verdict: Verdict::Refused(Refusal::PlaceTooShort),
-            length: 0,
-        };
+        return PlaceAnswer::refused(Refusal::PlaceTooShort);
     }
     put_pages(kind, a, figures, rows, out);
     PlaceAnswer {

@@ -7,12 +7,12 @@ use native.Mathlib.Numerals.{add-one}
 use native.Mathlib.Omega.{arith}
 use lib.ListN.{length, take, drop, length-append, length-drop, drop-of-length-le}
 use lib.Seq.{drop-drop}
-use Rattle.sheet.specs.Keys.{lineFeed}
+use Rattle.lines.specs.Keys.{lineFeed}
 use Rattle.sheet.specs.Lines.{Split, parts, none, splitAt}
-use Rattle.sheet.specs.AtPlace.{splitAtPlace}
+use Rattle.scan.specs.AtPlace.{splitAtPlace}
 use Rattle.sheet.proofs.Parsing.{split-back}
-use Rattle.sheet.proofs.Splits.{place-within, place-beyond}
-use Rattle.sheet.proofs.Tails.{tail, tail-is}
+use Rattle.scan.proofs.Splits.{place-within, place-beyond}
+use Rattle.scan.proofs.Tails.{tail, tail-is}
 use Rattle.reader.specs.Along.{leftAfter}
 use Rattle.reader.specs.Parts.{partBefore, partAfter, lineValue, afterLine, placeAfter}
 

@@ -2,15 +2,15 @@
 use Prim.Native.Nat.{ℕ, zero, suc, _<_}
 use mathlib.Core.Path.{_≡_, refl, ap, _∙_}
 use mathlib.Core.Bool.{true}
-use mathlib.Core.List.{List, [], _∷_, _++_, append-assoc, map}
+use mathlib.Core.List.{List, [], _∷_, _++_, map}
 use native.Mathlib.Nat.{le-of-suc-le-suc, not-suc-le-zero}
 use lib.Dec.{eqb}
 use lib.ListN.{length, getD}
-use Rattle.sheet.specs.Keys.{lineFeed}
+use Rattle.lines.specs.Keys.{lineFeed}
 use Rattle.sheet.specs.Lines.{read, Split, parts, none, andBefore, splitAt, ofLine, valueLine}
-use Rattle.sheet.specs.Writing.{lineText}
+use Rattle.lines.specs.Texts.{lineText, linesText}
 use Rattle.sheet.proofs.Parsing.{by-test, refused-read, lacks, after-back, value-forth}
-use Rattle.sheet.proofs.Runs.{linesText}
+use Rattle.sheet.specs.Parts.{Line, textOf}
 use Rattle.reader.specs.Parts.{equals, partBefore, lineKey, lineValue, afterLine}
 use Rattle.reader.specs.Along.{Shown, shown, leftAfter, keyed}
 
@@ -82,14 +82,29 @@ shown-at zero n s d h = absurd (not-suc-le-zero h)
 shown-at (suc k) zero s d h = refl
 shown-at (suc k) (suc n) s d h = shown-at k n (afterLine s) d (le-of-suc-le-suc h)
 
--- a line for each element of a list
-pub shows-each : {A : Type 0} (key : List ℕ) (word : A → List ℕ) → Key key → lacks lineFeed key ≡ true
-    → ((x : A) → lacks lineFeed (word x) ≡ true) → (xs : List A) (mid : List ℕ) (ls : List Shown) (rest : List ℕ) → Shows ls mid rest
-    → Shows (map (λ x. keyed key (word x)) xs ++ ls) (linesText (λ x. lineText key (word x)) xs ++ mid) rest
+-- ---- lines as they are written
+
+-- a line that is shown as it is: its key has one "=", at its end, and neither part has a line feed
+abbrev pub Plain : Line → Type 0
+Plain l = Key (l .0) × (lacks lineFeed (l .0) ≡ true) × (lacks lineFeed (l .1) ≡ true)
+
+abbrev pub AllPlain : List Line → Type 0
+AllPlain [] = Unit {0}
+AllPlain (l ∷ ls) = Plain l × AllPlain ls
+
+-- of two lists one after the other, and of a line for each element
+pub plain-append : (xs ys : List Line) → AllPlain xs → AllPlain ys → AllPlain (xs ++ ys)
+plain-append [] ys h g = g
+plain-append (x ∷ xs) ys h g = (h .0, plain-append xs ys (h .1) g)
+
+pub plain-map : {A : Type 0} (f : A → Line) → ((x : A) → Plain (f x)) → (xs : List A) → AllPlain (map f xs)
+plain-map f h [] = tt
+plain-map f h (x ∷ xs) = (h x, plain-map f h xs)
+
+-- the text of such lines is shown line by line
+pub text-shows : (ls : List Line) → AllPlain ls → Shows (map (λ l. keyed (l .0) (l .1)) ls) (textOf ls) []
 unfolding linesText
-shows-each key word k f g [] mid ls rest h = h
-shows-each key word k f g (x ∷ xs) mid ls rest h =
-    let more = linesText (λ y. lineText key (word y)) xs ++ mid in
-    rw (append-assoc (lineText key (word x)) (linesText (λ y. lineText key (word y)) xs) mid)
-    (shows-one key (word x) (lineText key (word x) ++ more) more _ rest (text-shown key (word x) more k f (g x))
-    (shows-each key word k f g xs mid ls rest h))
+text-shows [] h = shows-none []
+text-shows (l ∷ ls) h =
+    let (k, f, g) = h .0 in
+    shows-one (l .0) (l .1) (textOf (l ∷ ls)) (textOf ls) _ [] (text-shown (l .0) (l .1) (textOf ls) k f g) (text-shows ls (h .1))

@@ -1,6 +1,6 @@
 // A reader goes along a sheet line by line and shows the key and the value of each line as a part of the sheet itself. The functions over
 // a `Reader` are thin: the work is done on the slice and the place. What they show is written in specs/; nothing is assumed.
-use sheet::reading;
+use scan::bytes;
 ghost use mathlib.Core.Path.{_≡_};
 ghost use lib.Dec.{leb};
 ghost use lib.ListN.{length, drop};
@@ -18,7 +18,7 @@ pub struct Reader<'a> {
 fn before(s: &[u8], c: u8) -> &[u8]
     ensures { λ r. ⌜ now r ≡ partBefore (splitAt c (now (s .entry))) ⌝ }
 {
-    let k = reading::find(s, c);
+    let k = bytes::find(s, c);
     if k < s.len() {
         return &s[..k];
     }
@@ -29,7 +29,7 @@ fn before(s: &[u8], c: u8) -> &[u8]
 fn after(s: &[u8], c: u8) -> &[u8]
     ensures { λ r. ⌜ now r ≡ partAfter (splitAt c (now (s .entry))) ⌝ }
 {
-    let k = reading::find(s, c);
+    let k = bytes::find(s, c);
     if k < s.len() {
         let next = k + 1;
         return &s[next..];

@@ -5,13 +5,13 @@ use mathlib.Core.Path.{_≡_, refl, sym, ap, _∙_}
 use mathlib.Core.Bool.{Bool, true, false, cond}
 use mathlib.Core.List.{List, [], _∷_, _++_, append-assoc, append-nil}
 use native.Mathlib.Omega.{arith}
-use native.Mathlib.Nat.{le-refl}
 use native.Mathlib.Numerals.{add-one}
 use lib.Dec.{ltb}
-use lib.ListN.{length, getD, take, drop, length-append}
-use lib.Seq.{take-suc, take-length, length-take-le, getD-take, drop-cons}
+use lib.ListN.{length, getD, drop, length-append}
+use lib.Seq.{drop-cons}
 use borrow.Author.Tests.{lt-ltb, le-ltb, ltb-true}
 use Rattle.model.specs.Sheets.{SheetValue, Valid, mostSegs, mostRefs}
+use Rattle.model.specs.Values.{headOf}
 use Rattle.model.specs.declared.Refusal.the-variants.{OutOfRange, RecorderFull}
 use Rattle.model.specs.declared.Verdict.{Verdict}
 use Rattle.model.specs.declared.Verdict.the-variants.{Accepted, Refused}
@@ -140,38 +140,27 @@ takable-accepted segs count (x ∷ xs) s =
 pub appended-none : (v : SheetValue) → appended v [] ≡ v
 appended-none v = rw (append-nil (v .refs)) refl
 
--- the first t + 1 references are the first t and the next one
-pub appended-more : (v : SheetValue) (xs : List ℕ) (t : ℕ) → t < length xs
-    → taken (appended v (take t xs)) (getD xs t 0) ≡ appended v (take (t + 1) xs)
-appended-more v xs t lt = rw (add-one t, take-suc xs t 0 lt, append-assoc (v .refs) (take t xs) (getD xs t 0 ∷ [])) refl
+pub none-appended : (v : SheetValue) (xs : List ℕ) → length xs ≡ 0 → v ≡ appended v xs
+none-appended v [] none = sym (appended-none v)
+none-appended v (x ∷ xs) none = absurd (omega arith)
 
--- references that can be taken leave the sheet within the limits, after each
-pub takable-valid : (v : SheetValue) → Valid v → (xs : List ℕ) → Takable (length (v .sizes)) (length (v .refs)) xs
-    → (t : ℕ) → t ≤ length xs → Valid (appended v (take t xs))
-takable-valid v valid xs s t le =
-    let long : length (take t xs) ≡ t = length-take-le t xs le in
-    appended-valid v valid (take t xs)
-    (λ k l.
-    let below : k < t = omega arith in
-    rw (getD-take t xs k 0 below) (s .segments k (omega arith)))
-    (room t le long)
-  where
-    room : (t : ℕ) → t ≤ length xs → length (take t xs) ≡ t → length (v .refs) + length (take t xs) ≤ mostRefs
-    room zero le long = omega (arith, valid .refs-within)
-    room (suc t) le long = omega (arith, s .room t (omega arith))
+-- references that can be taken are within the number that a sheet has
+pub takable-few : (segs count : ℕ) (xs : List ℕ) → Takable segs count xs → count ≤ mostRefs → count + length xs ≤ mostRefs
+takable-few segs count [] s le = omega arith
+takable-few segs count (x ∷ xs) s le = omega (arith, s .room (length xs) (omega arith))
 
 -- the verdict of a recorder that stands for a sheet
 pub verdict-of : (R : Recorder) (xs : List ℕ) (v : SheetValue) → Valid v → R ≡ recorderOf v
-    → touchAllVerdict R xs ≡ refsVerdict (length (v .sizes)) (length (v .refs)) xs
-unfolding recorderOf
+    → touchAllVerdict R xs ≡ refsVerdict (length (v .head .sizes)) (length (v .refs)) xs
+unfolding recorderOf headOf
 verdict-of R xs v valid e =
-    let all : min (length (v .sizes)) mostSegs ≡ length (v .sizes) = omega (arith, valid .segs-within) in
+    let all : min (length (v .head .sizes)) mostSegs ≡ length (v .head .sizes) = omega (arith, valid .run .segs-within) in
     rw (e, all) refl
 
 -- references that such a recorder accepts can be taken after the sheet
 pub takable-of : (R : Recorder) (xs : List ℕ) → touchAllVerdict R xs ≡ Accepted
-    → (v : SheetValue) → Valid v → R ≡ recorderOf v → Takable (length (v .sizes)) (length (v .refs)) xs
-takable-of R xs a v valid e = takable (length (v .sizes)) (length (v .refs)) xs (sym (verdict-of R xs v valid e) ∙ a)
+    → (v : SheetValue) → Valid v → R ≡ recorderOf v → Takable (length (v .head .sizes)) (length (v .refs)) xs
+takable-of R xs a v valid e = takable (length (v .head .sizes)) (length (v .refs)) xs (sym (verdict-of R xs v valid e) ∙ a)
 
 -- the touches after one, by the verdict on that one
 rest-touched : SheetValue → ℕ → List ℕ → Verdict → TouchAnswer
@@ -187,9 +176,9 @@ record OneByOne (v : SheetValue) (xs : List ℕ) (r : TouchAnswer) (w : Verdict)
   all-taken : r .verdict ≡ Accepted → r .recorder ≡ recorderOf (appended v xs)
 
 one-by-one-step : (v : SheetValue) (x : ℕ) (xs : List ℕ)
-    → OneByOne (taken v x) xs (oneByOne (taken v x) xs) (refsVerdict (min (length (v .sizes)) mostSegs) (suc (length (v .refs))) xs)
+    → OneByOne (taken v x) xs (oneByOne (taken v x) xs) (refsVerdict (min (length (v .head .sizes)) mostSegs) (suc (length (v .refs))) xs)
     → (w : Verdict)
-    → OneByOne v (x ∷ xs) (rest-touched v x xs w) (rest-verdict (min (length (v .sizes)) mostSegs) (length (v .refs)) xs w)
+    → OneByOne v (x ∷ xs) (rest-touched v x xs w) (rest-verdict (min (length (v .head .sizes)) mostSegs) (length (v .refs)) xs w)
 unfolding rest-touched rest-verdict
 one-by-one-step v x xs rest Accepted =
     record {
@@ -199,8 +188,8 @@ one-by-one-step v x xs rest Accepted =
 one-by-one-step v x xs rest (Refused why) = record { verdict-is = refl; all-taken = λ a. refused-accepted why a }
 
 one-by-one : (v : SheetValue) (xs : List ℕ)
-    → OneByOne v xs (oneByOne v xs) (refsVerdict (min (length (v .sizes)) mostSegs) (length (v .refs)) xs)
-unfolding oneByOne rest-touched refsVerdict rest-verdict recorderOf
+    → OneByOne v xs (oneByOne v xs) (refsVerdict (min (length (v .head .sizes)) mostSegs) (length (v .refs)) xs)
+unfolding oneByOne rest-touched refsVerdict rest-verdict recorderOf headOf
 one-by-one v [] = record { verdict-is = refl; all-taken = λ a. ap recorderOf (sym (appended-none v)) }
 one-by-one v (x ∷ xs) =
     let one : length (v .refs ++ (x ∷ [])) ≡ suc (length (v .refs)) = omega (arith, length-append (v .refs) (x ∷ [])) in
@@ -210,7 +199,7 @@ one-by-one v (x ∷ xs) =
 pub touched-one-by-one : (R : Recorder) (xs : List ℕ) (r : TouchAnswer) → TouchedAll R xs r
     → (v : SheetValue) → Valid v → R ≡ recorderOf v
     → (r .verdict ≡ oneByOne v xs .verdict) × (r .verdict ≡ Accepted → r ≡ oneByOne v xs)
-unfolding recorderOf
+unfolding recorderOf headOf
 touched-one-by-one R xs r t v valid e =
     let each = one-by-one v xs in
     let same : r .verdict ≡ oneByOne v xs .verdict = t .verdict-is ∙ rw e (sym (each .verdict-is)) in (
@@ -224,9 +213,10 @@ touched-one-by-one R xs r t v valid e =
 pub all-valid : (R : Recorder) (xs : List ℕ) → touchAllVerdict R xs ≡ Accepted → (v : SheetValue) → Valid v → R ≡ recorderOf v
     → Valid (appended v xs)
 all-valid R xs a v valid e =
-    rw (take-length xs) at (takable-valid v valid xs (takable-of R xs a v valid e) (length xs) (le-refl (length xs)))
+    let can = takable-of R xs a v valid e in
+    appended-valid v valid xs (can .segments) (takable-few (length (v .head .sizes)) (length (v .refs)) xs can (valid .run .refs-within))
 
 -- a reference that is accepted is accepted as a list of one
 pub one-accepted : (R : Recorder) (x : ℕ) → touchVerdict R x ≡ Accepted → touchAllVerdict R (x ∷ []) ≡ Accepted
 unfolding rest-verdict refsVerdict
-one-accepted R x e = verdict-step (min (R .segs) mostSegs) (R .refs) x [] Accepted e
+one-accepted R x e = verdict-step (min (R .head .segs) mostSegs) (R .refs) x [] Accepted e

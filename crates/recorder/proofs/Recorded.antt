@@ -4,23 +4,26 @@ use mathlib.Core.Path.{_≡_, refl, _∙_}
 use native.Mathlib.Omega.{arith}
 use lib.ListN.{length, getD}
 use Rattle.model.specs.Sums.{sum}
-use Rattle.model.specs.Sheets.{SheetValue, Valid}
+use Rattle.model.specs.Sheets.{SheetValue, Valid, traceOf}
 use Rattle.model.specs.declared.Verdict.the-variants.{Accepted}
-use Rattle.figures.specs.Buckets.{bucketCount, tallyOf}
-use Rattle.figures.specs.Sweep.{noBucket}
+use Rattle.model.proofs.Lists.{getD-any}
+use Rattle.figures.specs.Buckets.{bucketCount, tallyOf, noBucket}
 use Rattle.figures.proofs.Filed.{counts-add-up}
-use Rattle.recorder.specs.Recorders.{recorderOf, headOf, touchAllVerdict}
-use Rattle.recorder.proofs.Standing.{head-valid}
+use Rattle.recorder.specs.Recorders.{recorderOf, started, touchAllVerdict}
+use Rattle.recorder.proofs.Standing.{started-valid}
 use Rattle.recorder.proofs.Bulk.{verdict-of, takable-accepted}
 
 -- the counts of the buckets add up to the references
 pub counts-are : (v : SheetValue) → Valid v → sum bucketCount (λ k. getD (recorderOf v .buckets) k noBucket .count) ≡ length (v .refs)
 unfolding recorderOf tallyOf
-counts-are v valid = counts-add-up v valid
+counts-are v valid = counts-add-up (v .head .rows) (valid .rows) (traceOf v) (valid .run)
 
 -- a sheet's references are all accepted, from its head on
-pub sheet-accepted : (v : SheetValue) → Valid v → touchAllVerdict (recorderOf (headOf v)) (v .refs) ≡ Accepted
+pub sheet-accepted : (v : SheetValue) → Valid v → touchAllVerdict (recorderOf (started v)) (v .refs) ≡ Accepted
 sheet-accepted v valid =
-    verdict-of (recorderOf (headOf v)) (v .refs) (headOf v) (head-valid v valid) refl
-    ∙ takable-accepted (length (v .sizes)) 0 (v .refs)
-    (record { segments = valid .ref-within; room = λ t lt. omega (arith, valid .refs-within) })
+    verdict-of (recorderOf (started v)) (v .refs) (started v) (started-valid v valid) refl
+    ∙ takable-accepted (length (v .head .sizes)) 0 (v .refs)
+    (record {
+      segments = λ t lt. rw (getD-any (v .refs) t 0 (length (v .head .sizes)) lt) (valid .run .ref-within t lt);
+      room = λ t lt. omega (arith, valid .run .refs-within);
+    })

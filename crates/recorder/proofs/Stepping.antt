@@ -1,81 +1,55 @@
--- One more reference, as the code takes it: a recorder that stands for a sheet then stands for the sheet with that reference.
+-- More references, as the code takes them: a recorder that stands for a sheet then stands for the sheet with those references.
 -- Assumes nothing.
 use Prim.Native.Nat.{ℕ, _-_, _+_, _^_, _≤_, _<_, min}
-use mathlib.Core.Path.{_≡_, refl, ap, _∙_}
+use mathlib.Core.Path.{_≡_, refl, sym, ap, _∙_}
 use mathlib.Core.List.{List, [], _∷_, _++_}
 use native.Mathlib.Omega.{arith}
-use lib.ListN.{length, getD, take, drop, set, List·getD-append}
-use lib.Seq.{getD-at}
+use lib.ListN.{length, getD, take, set, length-append, List·getD-append}
+use borrow.Author.Tests.{lt-ltb}
 use Rattle.model.specs.Costs.{unitCost}
-use Rattle.model.specs.Figures.{refCost, refVolume}
-use Rattle.model.specs.Sheets.{SheetValue, Valid, traceOf, mostSegs, mostRows, mostRefs}
-use Rattle.model.specs.LastTouches.{lastTable}
-use Rattle.model.proofs.Growth.{grown, steps-grown}
-use Rattle.model.specs.Values.{padded, zeros, zeroRows, sheetOf, valueOf}
-use Rattle.sheet.proofs.Held.{held}
-use Rattle.figures.specs.Buckets.{bucketCount, bucketAfter}
-use Rattle.model.specs.Sums.{tabulate}
-use Rattle.figures.specs.Pass.{rowsOf, pricesOf, touchOf, timeSince, IsTouch, Limited, Within, withTouch}
-use Rattle.figures.specs.declared.Bucket.{Bucket}
-use Rattle.figures.specs.declared.pass.Prices.{Prices}
-use Rattle.figures.specs.declared.pass.Touch.{Touch}
-use Rattle.figures.proofs.PriceRows.{rows-apart}
-use Rattle.figures.proofs.Filling.{filling-room}
+use Rattle.model.specs.Figures.{refCost}
+use Rattle.model.specs.Traces.{segs, steps}
+use Rattle.model.specs.Sheets.{SheetValue, RowsWithin, Valid, traceOf, mostSegs, mostRows, mostRefs}
+use Rattle.model.proofs.Growth.{withRefs, grown, grown-agree, grown-sums, steps-grown, entry-grown}
+use Rattle.model.specs.Values.{zeros, zeroRows, headOf}
+use Rattle.model.specs.declared.Head.{Head}
 use Rattle.model.proofs.Bounds.{unit-within}
-use Rattle.figures.proofs.Passing.{Passing, valid-run, valid-ascending, passing-step}
-use Rattle.figures.proofs.Growing.{passing-grown, run-grown}
-use Rattle.recorder.specs.Recorders.{recorderOf, taken}
+use Rattle.figures.specs.inner.Pass.{touchOf, Limited, Within, withTouch, PassedOn, passedAfter, passedOf}
+use Rattle.search.specs.inner.Quotients.{timeSince, unitsFor, Quoted}
+use Rattle.figures.specs.Buckets.{bucketCount, tallyOf, noBucket}
+use Rattle.figures.specs.inner.Sweep.{byKind, summed, Holds, Tallied}
+use Rattle.figures.specs.declared.Tally.{Tally}
+use Rattle.figures.proofs.Sweeping.{tallied-buckets, tallied-cost, tallied-volume}
+use Rattle.figures.specs.declared.Bucket.{Bucket}
+use Rattle.figures.specs.declared.pass.Touch.{Touch}
+use Rattle.figures.specs.declared.pass.Passed.{Passed}
+use Rattle.figures.proofs.Limits.{cost-within, volume-within}
+use Rattle.figures.proofs.Passing.{pass-step, passed-agree}
+use Rattle.recorder.specs.inner.Passes.{Continued}
+use Rattle.recorder.specs.Recorders.{recorderOf, appended, taken}
 use Rattle.recorder.specs.declared.Recorder.{Recorder}
-use Rattle.recorder.proofs.Standing.{standing, taken-valid, recorder-passed}
-
--- the first rows and sizes of a recorder that stands for a sheet are the sheet's
-pub rows-front : (v : SheetValue) → Valid v → take (min (length (v .rows)) mostRows) (padded (v .rows) (zeroRows mostRows)) ≡ v .rows
-unfolding valueOf sheetOf
-rows-front v valid =
-    let all : min (length (v .rows)) mostRows ≡ length (v .rows) = omega (arith, valid .rows-within) in
-    rw all (ap (λ s. s .rows) (held v))
-
-pub sizes-front : (v : SheetValue) → Valid v → take (min (length (v .sizes)) mostSegs) (padded (v .sizes) (zeros mostSegs)) ≡ v .sizes
-unfolding valueOf sheetOf
-sizes-front v valid =
-    let all : min (length (v .sizes)) mostSegs ≡ length (v .sizes) = omega (arith, valid .segs-within) in
-    rw all (ap (λ s. s .sizes) (held v))
-
--- the prices of a recorder's rows, apart
-pub clamped-rows : (R : Recorder) (p : Prices) → p ≡ pricesOf (R .prices) → (n : ℕ) → n ≡ min (R .rows) mostRows
-    → rowsOf (take n (p .h)) (take n (p .d)) ≡ take (min (R .rows) mostRows) (R .prices)
-clamped-rows R p is n e = rows-apart (R .prices) p is n ∙ ap (λ m. take m (R .prices)) e
-
--- an entry of a list at the front of blanks
-pub padded-at : {A : Type 0} (xs blank : List A) (i : ℕ) (d : A) → i < length xs → getD (padded xs blank) i d ≡ getD xs i d
-unfolding padded
-padded-at xs blank i d lt = List·getD-append xs (drop (length xs) blank) d i lt
+use Rattle.recorder.proofs.Standing.{front, padded-at, head-rows, standing, standing-roomy, taken-valid, recorder-passed}
 
 -- N is the recorder R with one more reference, to segment x: a touch, its bucket, Q and V as the code makes them
 pub record Stepped (R : Recorder) (x : ℕ) (N : Recorder) : Type 0 where
-  pub hs : List ℕ
-  pub ds : List ℕ
+  pub count : ℕ
   pub touch : Touch
-  pub blank : Bucket
   pub bucket : Bucket
   pub unit : ℕ
   pub cost : ℕ
   pub volume : ℕ
-  pub rows-are : rowsOf hs ds ≡ take (min (R .rows) mostRows) (R .prices)
+  pub count-is : count ≡ min (R .head .rows) mostRows
   pub limited : Limited touch
-  pub touch-is : IsTouch (R .kind) (R .a) hs ds (getD (R .sizes) x 0) (getD (R .last) x 0) (R .refs) touch
-  pub bucket-is : Within (getD (R .buckets) (touch .bucket) blank) (2 ^ 60)
-      → bucket ≡ withTouch (getD (R .buckets) (touch .bucket) blank) touch
-  pub unit-is : unit ≡ unitCost (R .kind) (getD (R .sizes) x 0)
+  pub touch-is : RowsWithin (take count (R .head .prices))
+      → touch ≡ touchOf (R .head .kind) (R .head .a) (take count (R .head .prices)) (getD (R .head .sizes) x 0)
+      (timeSince (R .refs) (getD (R .last) x 0))
+  pub bucket-is : Within (getD (R .buckets) (touch .bucket) noBucket) (2 ^ 60)
+      → bucket ≡ withTouch (getD (R .buckets) (touch .bucket) noBucket) touch
+  pub unit-is : unit ≡ unitCost (R .head .kind) (getD (R .head .sizes) x 0)
   pub cost-is : R .cost ≤ 2 ^ 60 → unit ≤ 2 ^ 60 → cost ≡ R .cost + unit
-  pub volume-is : R .volume ≤ 2 ^ 60 → getD (R .sizes) x 0 ≤ 2 ^ 60 → volume ≡ R .volume + getD (R .sizes) x 0
+  pub volume-is : R .volume ≤ 2 ^ 60 → getD (R .head .sizes) x 0 ≤ 2 ^ 60 → volume ≡ R .volume + getD (R .head .sizes) x 0
   pub next-is : N ≡ record {
-    kind = R .kind;
-    a = R .a;
-    segs = R .segs;
-    sizes = R .sizes;
-    rows = R .rows;
-    prices = R .prices;
+    head = R .head;
     refs = R .refs + 1;
     last = set (R .last) x (R .refs + 1);
     buckets = set (R .buckets) (touch .bucket) bucket;
@@ -83,54 +57,107 @@ pub record Stepped (R : Recorder) (x : ℕ) (N : Recorder) : Type 0 where
     volume = volume;
   }
 
-module _ (v : SheetValue) (valid : Valid v) (x : ℕ) (lt : x < length (v .sizes)) (room : length (v .refs) < mostRefs) where
-  -- what a recorder that stands for v holds
-  abbrev held-buckets : List Bucket
-  held-buckets = tabulate bucketCount (bucketAfter (v .rows) (traceOf v) (length (v .refs)))
-
-  abbrev held-last : List ℕ
-  held-last = lastTable (traceOf v) (length (v .refs))
-
-  -- one more step of the pass
-  passing-taken : (y : Touch) → Limited y
-      → y ≡ touchOf (v .kind) (v .a) (v .rows) (getD (v .sizes) x 0) (timeSince (length (v .refs)) (getD held-last x 0))
-      → (b d : Bucket) → b ≡ withTouch (getD held-buckets (y .bucket) d) y → (u : ℕ) → u ≡ unitCost (v .kind) (getD (v .sizes) x 0)
-      → Passing (v .rows) (traceOf (taken v x)) (length (v .refs) + 1) (set held-buckets (y .bucket) b)
-      (set held-last x (length (v .refs) + 1)) (refCost (traceOf v) + u) (refVolume (traceOf v) + getD (v .sizes) x 0)
-  passing-taken y lim is b d added u unit =
-      let T = traceOf v in
-      let n = length (v .refs) in
-      let here : getD (v .refs ++ (x ∷ [])) n 0 ≡ x = getD-at (v .refs) x [] 0 n refl in
-      rw here at
-      (passing-step (v .rows) (grown T x) (run-grown T x (valid-run v valid) room) n held-buckets held-last (refCost T) (refVolume T)
-      (passing-grown (v .rows) T x held-buckets held-last (refCost T) (refVolume T) (standing v valid)) (omega (arith, steps-grown T x)) (rw here lt) y lim
-      (rw here is) b d added u (rw here unit))
-
-  -- a step of the code from the recorder of v
-  stepped-of : (N : Recorder) → Stepped (recorderOf v) x N → N ≡ recorderOf (taken v x)
-  unfolding recorderOf
-  stepped-of N s =
-      let T = traceOf v in
-      let n = length (v .refs) in
-      let pass = standing v valid in
-      let run = valid-run v valid in
-      let size = padded-at (v .sizes) (zeros mostSegs) x 0 lt in
-      let small = run .size-within x lt in
-      let y-is = rw (s .rows-are, rows-front v valid, size) at
-      (s .touch-is (rw (s .rows-are, rows-front v valid) (valid-ascending v valid)) (rw size (valid .size-within x lt))) in
-      let unit-is = rw size at (s .unit-is) in
-      let b-is = s .bucket-is (filling-room _ _ n held-buckets (pass .filling) (s .touch .bucket) (s .limited .is-bucket) (s .blank)) in
-      let cost-is = s .cost-is (omega (arith, pass .cost-within)) (omega (arith, unit-within (v .kind) (getD (v .sizes) x 0) (2 ^ 16 - 1) (omega arith) (omega (arith, small)))) in
-      let volume-is = rw size at (s .volume-is (omega (arith, pass .volume-within)) (rw size (omega arith))) in
-      s .next-is
-      ∙ rw (cost-is, volume-is)
-      (recorder-passed (taken v x) (taken-valid v valid x lt room) (n + 1) (omega (arith, steps-grown T x))
-      (set held-buckets (s .touch .bucket) (s .bucket)) (set held-last x (n + 1)) (refCost T + s .unit)
-      (refVolume T + getD (v .sizes) x 0) (passing-taken (s .touch) (s .limited) y-is (s .bucket) (s .blank) b-is (s .unit) unit-is))
+-- a step of the code from the recorder of v
+stepped-of : (v : SheetValue) → Valid v → (x : ℕ) → x < length (v .head .sizes) → length (v .refs) < mostRefs
+    → (N : Recorder) → Stepped (recorderOf v) x N → N ≡ recorderOf (taken v x)
+unfolding recorderOf headOf
+stepped-of v valid x lt room N s =
+    let T = traceOf v in
+    let n = length (v .refs) in
+    let rows = v .head .rows in
+    let sizes = v .head .sizes in
+    let run = valid .run in
+    let at = front rows (zeroRows mostRows) (s .count) mostRows (valid .rows .rows-within) (s .count-is) in
+    let size = padded-at sizes (zeros mostSegs) x 0 lt in
+    let small = run .size-within x lt in
+    let y-is = rw (at, size) at (s .touch-is (rw at (valid .rows))) in
+    let b-is = s .bucket-is (standing-roomy v valid .each (s .touch .bucket) (s .limited .is-bucket)) in
+    let unit-is = rw size at (s .unit-is) in
+    let unit-small = unit-within (v .head .kind) (getD sizes x 0) (2 ^ 16 - 1) (omega arith) (omega (arith, small)) in
+    let cost-is = s .cost-is (omega (arith, cost-within T run)) (omega (arith, unit-small)) in
+    let volume-is = rw size at (s .volume-is (omega (arith, volume-within T run)) (rw size (omega arith))) in
+    let sums = grown-sums T x 0 0 in
+    let end : n + 1 ≡ steps (grown T x) = omega (arith, steps-grown T x) in
+    let all : passedAfter rows (grown T x) (n + 1) ≡ passedOf rows (grown T x) = ap (passedAfter rows (grown T x)) end in
+    let passed =
+    pass-step rows (grown T x) n (recorderOf v .buckets) (recorderOf v .last)
+    (standing v ∙ passed-agree rows T (v .refs ++ (x ∷ [])) n (grown-agree T x)) (taken-valid v valid x lt room .run)
+    (omega (arith, steps-grown T x)) x (entry-grown T x) lt (s .touch) (s .limited) y-is (s .bucket) b-is in
+    s .next-is
+    ∙ recorder-passed (taken v x) (n + 1) end (set (recorderOf v .buckets) (s .touch .bucket) (s .bucket))
+    (set (recorderOf v .last) x (n + 1)) (s .cost) (s .volume) (passed ∙ all)
+    (cost-is ∙ ap (λ u. refCost T + u) unit-is ∙ sym (rw (lt-ltb x (segs T) lt) at (sums .cost)))
+    (volume-is ∙ sym (rw (lt-ltb x (segs T) lt) at (sums .sizes)))
 
 -- from any recorder that stands for v
-pub stepped-stands : (R N : Recorder) (x : ℕ) → x < min (R .segs) mostSegs → R .refs < mostRefs → Stepped R x N
+pub stepped-stands : (R N : Recorder) (x : ℕ) → x < min (R .head .segs) mostSegs → R .refs < mostRefs → Stepped R x N
     → (v : SheetValue) → Valid v → R ≡ recorderOf v → N ≡ recorderOf (taken v x)
-unfolding recorderOf
+unfolding recorderOf headOf
 stepped-stands R N x lt room s v valid e =
-    stepped-of v valid x (omega (arith, ap (λ (Q : Recorder). Q .segs) e)) (omega (arith, ap (λ (Q : Recorder). Q .refs) e)) N (rw e at s)
+    stepped-of v valid x (omega (arith, ap (λ (Q : Recorder). Q .head .segs) e)) (omega (arith, ap (λ (Q : Recorder). Q .refs) e)) N
+    (rw e at s)
+
+-- the pass goes on from what it has after a sheet
+passed-of : (v : SheetValue) (rows segs : ℕ) (qs : List ℕ) (p : Passed) (n : ℕ) (xs : List ℕ) (r : Passed)
+    → rows ≡ min (headOf (v .head) .rows) mostRows → segs ≡ min (headOf (v .head) .segs) mostSegs
+    → Quoted (unitsFor (headOf (v .head) .a)) (take rows (headOf (v .head) .prices)) qs
+    → PassedOn (headOf (v .head) .kind) (headOf (v .head) .a) (take segs (headOf (v .head) .sizes)) rows qs n xs p r
+    → Valid (appended v xs) → length (v .refs) ≡ n → p ≡ passedOf (v .head .rows) (traceOf v)
+    → r ≡ passedOf (v .head .rows) (traceOf (appended v xs))
+unfolding headOf
+passed-of v rows segs qs p n xs r rows-are segs-are quoted on valid all is =
+    let T = traceOf v in
+    let U = withRefs T (v .refs ++ xs) in
+    let sizes = front (v .head .sizes) (zeros mostSegs) segs mostSegs (valid .run .segs-within) segs-are in
+    (rw sizes at on) (v .head .rows) (head-rows (v .head) (valid .rows) rows rows-are qs quoted) (v .refs) all (valid .run)
+    (rw (← all) (is ∙ passed-agree (v .head .rows) T (v .refs ++ xs) (length (v .refs))
+    (λ t lt. List·getD-append (v .refs) xs (length (v .head .sizes)) t lt)))
+
+pub passed-on : (head : Head) (rows segs : ℕ) (qs : List ℕ) (p : Passed) (n : ℕ) (xs : List ℕ) (r : Passed)
+    → rows ≡ min (head .rows) mostRows → segs ≡ min (head .segs) mostSegs
+    → Quoted (unitsFor (head .a)) (take rows (head .prices)) qs
+    → PassedOn (head .kind) (head .a) (take segs (head .sizes)) rows qs n xs p r → Continued head p n xs r
+passed-on head rows segs qs p n xs r rows-are segs-are quoted on v valid e =
+    passed-of v rows segs qs p n xs r (rw e at rows-are) (rw e at segs-are) (rw e at quoted) (rw e at on) valid
+
+-- several references, as the code takes them from the recorder of v: Q and V are sums of the buckets
+taken-of : (v : SheetValue) (xs : List ℕ) → Valid (appended v xs) → (p : Passed) (all : Bucket) (cost : ℕ)
+    → Continued (recorderOf v .head) (record { buckets = recorderOf v .buckets; last = recorderOf v .last }) (recorderOf v .refs) xs p
+    → (((m : ℕ) → m ≤ bucketCount → Holds mostRefs (summed (p .buckets) m)) → all ≡ summed (p .buckets) bucketCount)
+    → cost ≡ byKind (recorderOf v .head .kind) (all .count) (all .volume)
+    → record {
+      head = recorderOf v .head;
+      refs = recorderOf v .refs + length xs;
+      last = p .last;
+      buckets = p .buckets;
+      cost = cost;
+      volume = all .volume;
+    } ≡ recorderOf (appended v xs)
+unfolding recorderOf headOf tallyOf passedAfter
+taken-of v xs valid p all cost on all-is cost-is =
+    let rows = v .head .rows in
+    let T = traceOf (appended v xs) in
+    let passed = on v valid refl refl (standing v) in
+    let tally : Tally = record { buckets = p .buckets; ends = tallyOf rows T .ends } in
+    let given : Tallied rows T tally =
+    record { rows-ok = valid .rows; run-ok = valid .run; is-tally = rw (ap (λ (q : Passed). q .buckets) passed) refl } in
+    let sums = all-is (tallied-buckets rows T tally given) in
+    recorder-passed (appended v xs) (length (v .refs) + length xs) (sym (length-append (v .refs) xs)) (p .buckets) (p .last) cost
+    (all .volume) passed (cost-is ∙ tallied-cost rows T tally given sums) (tallied-volume rows T tally given sums)
+
+-- from any recorder that stands for v
+pub taken-stands : (R : Recorder) (xs : List ℕ) (p : Passed) (all : Bucket) (cost : ℕ)
+    → Continued (R .head) (record { buckets = R .buckets; last = R .last }) (R .refs) xs p
+    → (((m : ℕ) → m ≤ bucketCount → Holds mostRefs (summed (p .buckets) m)) → all ≡ summed (p .buckets) bucketCount)
+    → cost ≡ byKind (R .head .kind) (all .count) (all .volume)
+    → (v : SheetValue) → Valid (appended v xs) → R ≡ recorderOf v
+    → record {
+      head = R .head;
+      refs = R .refs + length xs;
+      last = p .last;
+      buckets = p .buckets;
+      cost = cost;
+      volume = all .volume;
+    } ≡ recorderOf (appended v xs)
+taken-stands R xs p all cost on all-is cost-is v valid e =
+    rw e (taken-of v xs valid p all cost (rw e at on) all-is (rw e at cost-is))

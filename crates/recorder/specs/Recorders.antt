@@ -12,11 +12,9 @@ use Rattle.model.specs.declared.Refusal.{Refusal}
 use Rattle.model.specs.declared.Refusal.the-variants.{OutOfRange, NoSuchRow, RecorderFull}
 use Rattle.model.specs.declared.Verdict.{Verdict}
 use Rattle.model.specs.declared.Verdict.the-variants.{Accepted, Refused}
-use Rattle.model.specs.declared.Kind.the-variants.{Time}
-use Rattle.model.specs.Values.{padded, zeros, zeroRows}
-use Rattle.figures.specs.Buckets.{bucketCount, bucketAfter}
+use Rattle.model.specs.Values.{headOf, emptyHead}
+use Rattle.figures.specs.Buckets.{bucketCount, bucketAfter, allEmpty}
 use Rattle.model.specs.Sums.{tabulate}
-use Rattle.figures.specs.Pass.{allEmpty}
 use Rattle.model.specs.LastTouches.{allUntouched, lastTable}
 use Rattle.figures.specs.Rows.{noFigures, figuresOf}
 use Rattle.figures.specs.declared.FiguresAnswer.{FiguresAnswer}
@@ -27,43 +25,25 @@ use Rattle.recorder.specs.declared.TouchAnswer.{TouchAnswer}
 unfoldable pub recorderOf : SheetValue → Recorder
 recorderOf v =
     record {
-      kind = v .kind;
-      a = v .a;
-      segs = length (v .sizes);
-      sizes = padded (v .sizes) (zeros mostSegs);
-      rows = length (v .rows);
-      prices = padded (v .rows) (zeroRows mostRows);
+      head = headOf (v .head);
       refs = length (v .refs);
       last = lastTable (traceOf v) (length (v .refs));
-      buckets = tabulate bucketCount (bucketAfter (v .rows) (traceOf v) (length (v .refs)));
+      buckets = tabulate bucketCount (bucketAfter (v .head .rows) (traceOf v) (length (v .refs)));
       cost = refCost (traceOf v);
       volume = refVolume (traceOf v);
     }
 
 -- no segments and no rows: what a refused start hands back
 unfoldable pub emptyRecorder : Recorder
-emptyRecorder =
-    record {
-      kind = Time;
-      a = 0;
-      segs = 0;
-      sizes = zeros mostSegs;
-      rows = 0;
-      prices = zeroRows mostRows;
-      refs = 0;
-      last = allUntouched;
-      buckets = allEmpty;
-      cost = 0;
-      volume = 0;
-    }
+emptyRecorder = record { head = emptyHead; refs = 0; last = allUntouched; buckets = allEmpty; cost = 0; volume = 0 }
 
 -- the head of a sheet, with no references
-abbrev pub headOf : SheetValue → SheetValue
-headOf v = record { kind = v .kind; a = v .a; sizes = v .sizes; rows = v .rows; refs = [] }
+abbrev pub started : SheetValue → SheetValue
+started v = record { head = v .head; refs = [] }
 
 -- a sheet's value with the references xs after its own
 abbrev pub appended : SheetValue → List ℕ → SheetValue
-appended v xs = record { kind = v .kind; a = v .a; sizes = v .sizes; rows = v .rows; refs = v .refs ++ xs }
+appended v xs = record { head = v .head; refs = v .refs ++ xs }
 
 -- one reference more
 abbrev pub taken : SheetValue → ℕ → SheetValue
@@ -84,10 +64,10 @@ refsVerdict segs count (x ∷ xs) =
 
 -- the verdicts of a recorder on one reference and on several
 abbrev pub touchVerdict : Recorder → ℕ → Verdict
-touchVerdict R x = refVerdict (min (R .segs) mostSegs) (R .refs) x
+touchVerdict R x = refVerdict (min (R .head .segs) mostSegs) (R .refs) x
 
 abbrev pub touchAllVerdict : Recorder → List ℕ → Verdict
-touchAllVerdict R xs = refsVerdict (min (R .segs) mostSegs) (R .refs) xs
+touchAllVerdict R xs = refsVerdict (min (R .head .segs) mostSegs) (R .refs) xs
 
 -- what a touch answers
 pub record Touched (R : Recorder) (x : ℕ) (r : TouchAnswer) : Type 0 where
@@ -117,7 +97,7 @@ oneByOne v (x ∷ xs) =
 
 -- what reading the figures of a row answers
 pub record Figured (R : Recorder) (row : ℕ) (r : FiguresAnswer) : Type 0 where
-  pub verdict-is : r .verdict ≡ cond (ltb row (min (R .rows) mostRows)) Accepted (Refused NoSuchRow)
+  pub verdict-is : r .verdict ≡ cond (ltb row (min (R .head .rows) mostRows)) Accepted (Refused NoSuchRow)
   -- refused, all figures are zero
   pub zero-figures : (why : Refusal) → r .verdict ≡ Refused why → r ≡ noFigures why
   -- the figures of a recorder that stands for a sheet are those of the sheet ending there

@@ -1,14 +1,12 @@
 // The recorder: a sheet's head that takes references one by one, and hands out the figures of a row at any moment.
 // What a recorder stands for is written in specs/Recorders.antt; nothing is assumed.
-pub mod guards;
 pub mod reading;
 pub mod taking;
 
 use figures::Bucket;
 use figures::FiguresAnswer;
 use figures::Tally;
-use model::Kind;
-use model::PriceRow;
+use model::Head;
 use model::Refusal;
 use model::RowFigures;
 use model::Sheet;
@@ -16,16 +14,13 @@ use model::Verdict;
 ghost use mathlib.Core.Path.{_≡_};
 ghost use Rattle.model.specs.Sheets.{SheetValue, Valid};
 ghost use Rattle.model.specs.Values.{sheetOf};
-ghost use Rattle.recorder.specs.Recorders.{recorderOf, emptyRecorder, headOf, Touched, TouchedAll, Figured};
+ghost use Rattle.model.specs.LastTouches.{allUntouched};
+ghost use Rattle.figures.specs.Buckets.{allEmpty};
+ghost use Rattle.recorder.specs.Recorders.{recorderOf, emptyRecorder, started, Touched, TouchedAll, Figured};
 
-// A recorder by value: kind, a, sizes and rows of its sheet, the references taken, the table of last touches, the buckets, Q and V.
+// A recorder by value: the head of its sheet, how many references were taken, the table of last touches, the buckets, Q and V.
 pub struct Recorder {
-    pub kind: Kind,
-    pub a: u8,
-    pub segs: usize,
-    pub sizes: [u16; Sheet::MAX_SEGS],
-    pub rows: usize,
-    pub prices: [PriceRow; Sheet::MAX_ROWS],
+    pub head: Head,
     pub refs: usize,
     pub last: [u16; Sheet::MAX_SEGS],
     pub buckets: [Bucket; Tally::BUCKETS],
@@ -39,57 +34,45 @@ pub struct TouchAnswer {
     pub recorder: Recorder,
 }
 
+// A head, and no reference taken yet.
+fn begin(head: Head) -> Recorder
+    ensures { λ r. ⌜ r ≡ record { head = head; refs = 0; last = allUntouched; buckets = allEmpty; cost = 0; volume = 0 } ⌝ }
+{
+    let last = model::untouched();
+    let buckets = figures::pass::empty_buckets();
+    Recorder {
+        head: head,
+        refs: 0,
+        last: last,
+        buckets: buckets,
+        cost: 0,
+        volume: 0,
+    }
+}
+
 impl Recorder {
     // No segments and no rows: what a refused start hands back.
     pub fn empty() -> Recorder
         ensures { λ r. ⌜ r ≡ emptyRecorder ⌝ }
     {
-        let last = model::untouched();
-        let buckets = figures::pass::empty_buckets();
-        Recorder {
-            kind: Kind::Time,
-            a: 0,
-            segs: 0,
-            sizes: [0u16; Sheet::MAX_SEGS],
-            rows: 0,
-            prices: [PriceRow { h: 0, d: 0 }; Sheet::MAX_ROWS],
-            refs: 0,
-            last: last,
-            buckets: buckets,
-            cost: 0,
-            volume: 0,
-        }
+        let head = Head::empty();
+        begin(head)
     }
 
-    // From a sheet's kind, a, sizes and rows, with no references.
+    // From a sheet's head, with no references.
     pub fn start(sheet: Sheet) -> Recorder
-        ensures { λ r. ⌜ ((v : SheetValue) → Valid v → sheet ≡ sheetOf v → r ≡ recorderOf (headOf v)) ⌝ }
+        ensures { λ r. ⌜ ((v : SheetValue) → Valid v → sheet ≡ sheetOf v → r ≡ recorderOf (started v)) ⌝ }
     {
-        let kind = sheet.kind;
-        let sizes = sheet.sizes;
-        let prices = sheet.prices;
-        let last = model::untouched();
-        let buckets = figures::pass::empty_buckets();
-        Recorder {
-            kind: kind,
-            a: sheet.a,
-            segs: sheet.segs,
-            sizes: sizes,
-            rows: sheet.rows,
-            prices: prices,
-            refs: 0,
-            last: last,
-            buckets: buckets,
-            cost: 0,
-            volume: 0,
-        }
+        let head = sheet.head;
+        begin(head)
     }
 
     // Takes one reference: 4 for a segment not below segs, then 13 where there are 2,048 references.
     pub fn touch(self, segment: usize) -> TouchAnswer
         ensures { λ r. ⌜ Touched self segment r ⌝ }
     {
-        let segs = guards::least(self.segs, Sheet::MAX_SEGS);
+        let head = self.head;
+        let segs = guards::least(head.segs, Sheet::MAX_SEGS);
         if segs <= segment {
             return TouchAnswer {
                 verdict: Verdict::Refused(Refusal::OutOfRange),
@@ -112,7 +95,8 @@ impl Recorder {
     pub fn touch_all(self, refs: &[u16]) -> TouchAnswer
         ensures { λ r. ⌜ TouchedAll self (now (refs .entry)) r ⌝ }
     {
-        let segs = guards::least(self.segs, Sheet::MAX_SEGS);
+        let head = self.head;
+        let segs = guards::least(head.segs, Sheet::MAX_SEGS);
         let verdict = taking::acceptable(refs, segs, self.refs);
         if let Verdict::Refused(why) = verdict {
             return TouchAnswer {
@@ -130,7 +114,8 @@ impl Recorder {
     pub fn figures(self, row: usize) -> FiguresAnswer
         ensures { λ r. ⌜ Figured self row r ⌝ }
     {
-        let rows = guards::least(self.rows, Sheet::MAX_ROWS);
+        let head = self.head;
+        let rows = guards::least(head.rows, Sheet::MAX_ROWS);
         if rows <= row {
             return FiguresAnswer {
                 verdict: Verdict::Refused(Refusal::NoSuchRow),

@@ -1,7 +1,6 @@
 // The figures of a row at this moment: the end intervals from the table of last touches, then the sums of the buckets up to the row.
 // Nothing is assumed.
 use crate::Recorder;
-use crate::guards;
 use figures::Bucket;
 use figures::Tally;
 use model::Kind;
@@ -13,9 +12,9 @@ ghost use Prim.Native.Nat.{_+_, _<_, min};
 ghost use Rattle.model.specs.Sheets.{SheetValue, Valid, traceOf, mostRows};
 ghost use Rattle.figures.specs.Buckets.{tallyOf};
 ghost use Rattle.figures.specs.Rows.{figuresAt};
-ghost use Rattle.figures.specs.Sweep.{Summable, RowFits, wsoccFrom, rowFrom};
+ghost use Rattle.figures.specs.inner.Sweep.{Summable, RowFits, wsoccFrom, rowFrom};
 ghost use Rattle.recorder.specs.Recorders.{recorderOf};
-ghost use Rattle.recorder.specs.Guards.{Tells};
+ghost use Rattle.guards.specs.inner.Tests.{Tells};
 
 // Below this an occupancy can be multiplied by 1,000.
 const OCCUPANCY: u64 = 9_007_199_254_740_992;
@@ -88,60 +87,41 @@ fn row_of(
     figures::rows::row_figures(kind, a, row, refs, cost, volume, all, kept, ends)
 }
 
-// The buckets of the end intervals at this moment; empty ones where the thresholds do not ascend or a size is larger than a sheet has.
+// The buckets of the end intervals at this moment.
 fn ends_now(recorder: Recorder) -> [Bucket; Tally::BUCKETS]
-    ensures { λ r. ⌜ ((v : SheetValue) → Valid v → recorder ≡ recorderOf v → r ≡ tallyOf (v .rows) (traceOf v) .ends) ⌝ }
+    ensures { λ r. ⌜ ((v : SheetValue) → Valid v → recorder ≡ recorderOf v → r ≡ tallyOf (v .head .rows) (traceOf v) .ends) ⌝ }
 {
-    let kind = recorder.kind;
-    let a = recorder.a;
-    let rows = guards::least(recorder.rows, Sheet::MAX_ROWS);
-    let segs = guards::least(recorder.segs, Sheet::MAX_SEGS);
-    let steps = guards::least(recorder.refs, Sheet::MAX_REFS);
-    let prices = recorder.prices;
-    let apart = figures::pass::split(prices);
-    let h = apart.h;
-    let d = apart.d;
-    let all_sizes = recorder.sizes;
+    let head = recorder.head;
+    let kind = head.kind;
+    let a = head.a;
+    let rows = guards::least(head.rows, Sheet::MAX_ROWS);
+    let segs = guards::least(head.segs, Sheet::MAX_SEGS);
+    let steps = guards::least(recorder.refs, Sheet::MAX_REFS) as u16;
+    let prices = head.prices;
+    let all_sizes = head.sizes;
     let last = recorder.last;
-    let hs = &h[..rows];
-    let ds = &d[..rows];
     let sizes = &all_sizes[..segs];
-    if !guards::ascends(hs, ds) {
-        return figures::pass::empty_buckets();
-    }
-    if !guards::sized(sizes) {
-        return figures::pass::empty_buckets();
-    }
-    let quotients = figures::search::quotients(a, hs, ds);
-    let rates = figures::search::rates(kind, a, sizes);
-    figures::pass::ends(
-        kind,
-        a,
-        hs,
-        ds,
-        &quotients,
-        &rates,
-        sizes,
-        &last,
-        steps as u16,
-    )
+    let quotients = search::quotients(a, prices, rows);
+    let rates = search::rates(kind, a, sizes);
+    figures::pass::ends(kind, a, rows, &quotients, &rates, sizes, &last, steps)
 }
 
 // The figures of a row of the recorder.
 pub fn row_now(recorder: Recorder, row: usize) -> RowFigures
-    requires { ⌜ row < min (recorder .rows) mostRows ⌝ }
+    requires { ⌜ row < min (recorder .head .rows) mostRows ⌝ }
     ensures { λ r. ⌜ ((v : SheetValue) → Valid v → recorder ≡ recorderOf v → r ≡ figuresAt v row) ⌝ }
 {
     let ended = ends_now(recorder);
-    let kind = recorder.kind;
+    let head = recorder.head;
+    let kind = head.kind;
+    let prices = head.prices;
     let buckets = recorder.buckets;
-    let prices = recorder.prices;
     let all = guards::sum_first(buckets, Tally::BUCKETS);
     let kept = guards::sum_first(buckets, row + 1);
     let ends = guards::sum_first(ended, row + 1);
     row_of(
         kind,
-        recorder.a,
+        head.a,
         prices[row],
         recorder.refs,
         recorder.cost,

@@ -1,32 +1,36 @@
 // Taking references: one, or several in one loop over local arrays.
 // Nothing is assumed.
 use crate::Recorder;
-use crate::guards;
+use figures::Tally;
+use figures::pass::Passed;
+use model::Head;
 use model::Refusal;
 use model::Sheet;
 use model::Verdict;
 ghost use mathlib.Core.Path.{_≡_};
 ghost use Prim.Native.Nat.{_<_, min};
 ghost use mathlib.Core.List.{[]};
+ghost use lib.ListN.{length};
 ghost use Rattle.model.specs.Sheets.{SheetValue, Valid, mostRefs, mostSegs};
 ghost use Rattle.model.specs.declared.Verdict.the-variants.{Accepted};
+ghost use Rattle.figures.specs.inner.Pass.{Passable};
+ghost use Rattle.recorder.specs.inner.Passes.{Continued};
 ghost use Rattle.recorder.specs.Recorders.{recorderOf, appended, taken, refsVerdict, touchAllVerdict};
 
 // The recorder with one more reference.
 pub fn take_one(mut recorder: Recorder, segment: usize) -> Recorder
-    requires { ⌜ (segment < min (recorder .segs) mostSegs) × (recorder .refs < mostRefs) ⌝ }
+    requires { ⌜ (segment < min (recorder .head .segs) mostSegs) × (recorder .refs < mostRefs) ⌝ }
     ensures { λ r. ⌜ ((v : SheetValue) → Valid v → recorder ≡ recorderOf v → r ≡ recorderOf (taken v segment)) ⌝ }
 {
-    let rows = guards::least(recorder.rows, Sheet::MAX_ROWS);
-    let prices = recorder.prices;
-    let apart = figures::pass::split(prices);
-    let h = apart.h;
-    let d = apart.d;
-    let kind = recorder.kind;
-    let z = recorder.sizes[segment];
+    let head = recorder.head;
+    let kind = head.kind;
+    let sizes = head.sizes;
+    let prices = head.prices;
+    let rows = guards::least(head.rows, Sheet::MAX_ROWS);
+    let z = sizes[segment];
     let t = recorder.refs;
-    let mut x = figures::pass::touch_of(kind, recorder.a, z, recorder.last[segment], t as u16);
-    let k = figures::search::bucket(&h[..rows], &d[..rows], x.reuse, x.retention, x.swap);
+    let mut x = figures::pass::touch_of(kind, head.a, z, recorder.last[segment], t as u16);
+    let k = search::bucket(prices, rows, x.reuse, x.retention, x.swap);
     x.bucket = k;
     let b = recorder.buckets[k];
     recorder.buckets[k] = guards::file(b, x);
@@ -54,58 +58,53 @@ pub fn acceptable(refs: &[u16], segs: usize, count: usize) -> Verdict
     Verdict::Accepted
 }
 
-// The recorder with all references.
+// What the pass has after these references, from what it has after `count` others.
+fn pass_on(head: Head, from: Passed, count: usize, refs: &[u16]) -> Passed
+    requires { ⌜ Passable from (min (head .segs) mostSegs) count (length (now refs)) ⌝ }
+    ensures { λ r. ⌜ Continued head from count (now (refs .entry)) r ⌝ }
+{
+    let kind = head.kind;
+    let a = head.a;
+    let rows = guards::least(head.rows, Sheet::MAX_ROWS);
+    let segs = guards::least(head.segs, Sheet::MAX_SEGS);
+    let prices = head.prices;
+    let all_sizes = head.sizes;
+    let sizes = &all_sizes[..segs];
+    let quotients = search::quotients(a, prices, rows);
+    let rates = search::rates(kind, a, sizes);
+    figures::pass::references(kind, a, rows, &quotients, &rates, sizes, from, count, refs)
+}
+
+// The recorder with all references. One put together by hand, whose sums leave no room, stays as it was.
 pub fn take_all(recorder: Recorder, refs: &[u16]) -> Recorder
     requires { ⌜ touchAllVerdict recorder (now refs) ≡ Accepted ⌝ }
     ensures none { λ r. ⌜ (now (refs .entry) ≡ [] → r ≡ recorder) ⌝ }
     ensures all { λ r. ⌜ ((v : SheetValue) → Valid v → recorder ≡ recorderOf v → r ≡ recorderOf (appended v (now (refs .entry)))) ⌝ }
 {
-    let rows = guards::least(recorder.rows, Sheet::MAX_ROWS);
-    let prices = recorder.prices;
-    let apart = figures::pass::split(prices);
-    let h = apart.h;
-    let d = apart.d;
-    let hs = &h[..rows];
-    let ds = &d[..rows];
-    let kind = recorder.kind;
-    let a = recorder.a;
-    let sizes = recorder.sizes;
-    let quotients = figures::search::quotients(a, hs, ds);
-    let qs = &quotients[..Sheet::MAX_ROWS];
-    let rates = figures::search::rates(kind, a, &sizes);
-    let mut last = recorder.last;
-    let mut buckets = recorder.buckets;
-    let mut cost = recorder.cost;
-    let mut volume = recorder.volume;
-    let mut count = recorder.refs;
-    let mut t = 0;
-    while t < refs.len() {
-        let i = refs[t] as usize;
-        let z = sizes[i];
-        let mark = last[i];
-        let mut x = figures::pass::touch_of(kind, a, z, mark, count as u16);
-        let k = figures::search::bucket_of(rows, qs, rates[i], mark, count as u16);
-        x.bucket = k;
-        let mut b = buckets[k];
-        b = guards::file(b, x);
-        buckets[k] = b;
-        count += 1;
-        last[i] = count as u16;
-        cost = guards::more(cost, model::unit_cost(kind, z));
-        volume = guards::more(volume, guards::wide(z));
-        t += 1;
+    if refs.len() == 0 {
+        return recorder;
     }
-    Recorder {
-        kind: kind,
-        a: a,
-        segs: recorder.segs,
-        sizes: sizes,
-        rows: recorder.rows,
-        prices: prices,
-        refs: count,
-        last: last,
+    let head = recorder.head;
+    let kind = head.kind;
+    let buckets = recorder.buckets;
+    let last = recorder.last;
+    if !guards::roomy(buckets) {
+        return recorder;
+    }
+    let from = Passed {
         buckets: buckets,
-        cost: cost,
-        volume: volume,
+        last: last,
+    };
+    let passed = pass_on(head, from, recorder.refs, refs);
+    let next = passed.buckets;
+    let table = passed.last;
+    let all = guards::sum_first(next, Tally::BUCKETS);
+    Recorder {
+        head: head,
+        refs: recorder.refs + refs.len(),
+        last: table,
+        buckets: next,
+        cost: figures::rows::by_kind(kind, all.count, all.volume),
+        volume: all.volume,
     }
 }

@@ -15,9 +15,10 @@ use Rattle.sheet.specs.Reading.{Outcome, accepted, rejected, readSheet}
 use Rattle.sheet.proofs.Accepted.{accepted-valid}
 use Rattle.figures.specs.Rows.{figuresAt}
 use Rattle.model.proofs.Tables.{tabulate-eq}
-use Rattle.analyser.specs.Answers.{onSheet}
-use Rattle.analyser.proofs.Results.{figures-at}
-use Rattle.records.specs.Listed.{sheetAnswer, sheetAfter, listAnswer, listAfter, noRecords, recordsFor, recordsFound}
+use Rattle.sheet.specs.Accepting.{onSheet}
+use Rattle.rows.proofs.RowFigures.{figures-at}
+use Rattle.records.specs.Listed.{sheetAnswer, sheetAfter, listAnswer, listAfter}
+use Rattle.records.specs.inner.Held.{noRecords, recordsFor, recordsFound}
 use Rattle.records.specs.declared.Records.{Records}
 use Rattle.records.proofs.Fronts.{front, front-none}
 
@@ -34,27 +35,27 @@ recordOf r i = getD (r .figures) i zeroFigures
 abbrev pub written : Records → List RowFigures → List RowFigures
 written r list = front (recordOf r) list (r .answer .length)
 
-module _ (v : SheetValue) (most : length (v .rows) ≤ mostRows) (list : List RowFigures) where
-  sheet-counted : (b : Bool) → leb (length (v .rows)) (length list) ≡ b → Counted (recordsFor v (length list)) list
+module _ (v : SheetValue) (most : length (v .head .rows) ≤ mostRows) (list : List RowFigures) where
+  sheet-counted : (b : Bool) → leb (length (v .head .rows)) (length list) ≡ b → Counted (recordsFor v (length list)) list
   unfolding recordsFor sheetAnswer noRecords
   sheet-counted true e = rw e (record { within = leb-true _ _ e; most = most })
   sheet-counted false e = rw e (record { within = omega arith; most = omega arith })
 
-  sheet-answer : (b : Bool) → leb (length (v .rows)) (length list) ≡ b → recordsFor v (length list) .answer ≡ sheetAnswer v (length list)
+  sheet-answer : (b : Bool) → leb (length (v .head .rows)) (length list) ≡ b → recordsFor v (length list) .answer ≡ sheetAnswer v (length list)
   unfolding recordsFor sheetAnswer noRecords
   sheet-answer true e = rw e
   sheet-answer false e = rw e
 
-  sheet-after : (b : Bool) → leb (length (v .rows)) (length list) ≡ b → written (recordsFor v (length list)) list ≡ sheetAfter v list
+  sheet-after : (b : Bool) → leb (length (v .head .rows)) (length list) ≡ b → written (recordsFor v (length list)) list ≡ sheetAfter v list
   unfolding recordsFor sheetAnswer sheetAfter noRecords
   sheet-after true e =
-      rw e (ap (λ t. t ++ drop (length (v .rows)) list) (tabulate-eq (length (v .rows)) _ (figuresAt v) (λ j lt. figures-at v j zeroFigures lt most)))
+      rw e (ap (λ t. t ++ drop (length (v .head .rows)) list) (tabulate-eq (length (v .head .rows)) _ (figuresAt v) (λ j lt. figures-at v j zeroFigures lt most)))
   sheet-after false e = rw e (sym (front-none _ list))
 
 module _ (s : List ℕ) (list : List RowFigures) where
   counted-on : (o : Outcome) → readSheet s ≡ o → Counted (onSheet o noRecords (λ v. recordsFor v (length list))) list
   unfolding noRecords
-  counted-on (accepted v) e = sheet-counted v (accepted-valid s v e .rows-within) list _ refl
+  counted-on (accepted v) e = sheet-counted v (accepted-valid s v e .rows .rows-within) list _ refl
   counted-on (rejected q) e = record { within = omega arith; most = omega arith }
 
   pub found-counted : Counted (recordsFound s (length list)) list
@@ -63,7 +64,7 @@ module _ (s : List ℕ) (list : List RowFigures) where
 
   answer-on : (o : Outcome) → readSheet s ≡ o → onSheet o noRecords (λ v. recordsFor v (length list)) .answer ≡ listAnswer s list
   unfolding noRecords listAnswer
-  answer-on (accepted v) e = rw e (sheet-answer v (accepted-valid s v e .rows-within) list _ refl)
+  answer-on (accepted v) e = rw e (sheet-answer v (accepted-valid s v e .rows .rows-within) list _ refl)
   answer-on (rejected q) e = rw e
 
   -- what is answered
@@ -73,7 +74,7 @@ module _ (s : List ℕ) (list : List RowFigures) where
 
   after-on : (o : Outcome) → readSheet s ≡ o → written (onSheet o noRecords (λ v. recordsFor v (length list))) list ≡ listAfter s list
   unfolding noRecords listAfter
-  after-on (accepted v) e = rw e (sheet-after v (accepted-valid s v e .rows-within) list _ refl)
+  after-on (accepted v) e = rw e (sheet-after v (accepted-valid s v e .rows .rows-within) list _ refl)
   after-on (rejected q) e = rw e (sym (front-none _ list))
 
   -- the list afterwards

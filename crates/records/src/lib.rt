@@ -10,10 +10,10 @@ ghost use Prim.Native.Nat.{_<_};
 ghost use lib.ListN.{getD};
 ghost use Rattle.model.specs.Sheets.{mostRows};
 ghost use Rattle.model.specs.Rows.{zeroFigures};
+ghost use Rattle.model.specs.Standing.{Standing};
 ghost use Rattle.model.specs.Values.{valueOf};
-ghost use Rattle.figures.specs.Rows.{allFigures};
-ghost use Rattle.analyser.specs.Answers.{Standing};
-ghost use Rattle.records.specs.Listed.{noRecords, recordsFor, recordsFound, listAnswer, listAfter};
+ghost use Rattle.records.specs.Listed.{listAnswer, listAfter};
+ghost use Rattle.records.specs.inner.Held.{noRecords, recordsFor, recordsFound};
 
 // The records to be written: the answer, whose length is how many they are, and the figures of every row, zeros where there is none.
 pub struct Records {
@@ -34,34 +34,20 @@ fn no_records(why: Refusal) -> Records
     }
 }
 
-// The figures of every row of an accepted sheet.
-fn all_figures(s: Sheet) -> [RowFigures; Sheet::MAX_ROWS]
-    requires { ⌜ Standing s ⌝ }
-    ensures { λ r. ⌜ r ≡ allFigures (valueOf s) ⌝ }
-{
-    let kind = s.kind;
-    let segs = s.segs;
-    let refs = s.refs;
-    let sizes = s.sizes;
-    let touches = s.touches;
-    let prices = s.prices;
-    figures::figures(kind, s.a, prices, s.rows, &sizes[..segs], &touches[..refs])
-}
-
 // The records of an accepted sheet for a list of so many, or 11.
 fn sheet_records(s: Sheet, room: usize) -> Records
     requires { ⌜ Standing s ⌝ }
     ensures { λ r. ⌜ r ≡ recordsFor (valueOf s) room ⌝ }
 {
-    if room < s.rows {
+    if room < s.head.rows {
         return no_records(Refusal::PlaceTooShort);
     }
     Records {
         answer: PlaceAnswer {
             verdict: Verdict::Accepted,
-            length: s.rows,
+            length: s.head.rows,
         },
-        figures: all_figures(s),
+        figures: rows::all_figures(s),
     }
 }
 
@@ -70,7 +56,7 @@ fn sheet_records(s: Sheet, room: usize) -> Records
 pub fn all_records(bytes: &[u8], room: usize) -> Records
     ensures { λ r. ⌜ r ≡ recordsFound (now (bytes .entry)) room ⌝ }
 {
-    let answer = sheet::reading::read(bytes);
+    let answer = reading::read(bytes);
     let verdict = answer.verdict;
     let s = answer.sheet;
     match verdict {

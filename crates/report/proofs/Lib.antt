@@ -1,3 +1,2 @@
-pub mod FigureBounds
 pub mod ListingMost
 pub mod ListingParts

@@ -1,10 +1,10 @@
 -- The listing of an accepted sheet has at most 11,547 bytes: how many digits each figure can have. Assumes nothing.
 use Prim.Native.Nat.{ℕ, suc, _+_, _*_, _^_, _≤_, _<_}
-use mathlib.Core.Path.{_≡_, refl}
+use mathlib.Core.Path.{_≡_}
 use mathlib.Core.List.{List}
 use mathlib.Core.Option.{Option, none}
 use native.Mathlib.Omega.{arith}
-use lib.ListN.{length, getD}
+use lib.ListN.{length}
 use lib.Seq.{take-all}
 use Rattle.decimal.specs.Decimal.{written}
 use Rattle.decimal.proofs.Written.{written-length}
@@ -16,15 +16,15 @@ use Rattle.model.specs.Traces.{steps}
 use Rattle.model.specs.declared.Refusal.{Refusal}
 use Rattle.model.specs.declared.RowFigures.{RowFigures}
 use Rattle.model.proofs.Bounds.{product-within}
-use Rattle.sheet.specs.Writing.{numberText}
-use Rattle.sheet.proofs.Lengths.{line-length}
-use Rattle.sheet.proofs.Runs.{each-of, lines-length}
+use Rattle.lines.specs.Texts.{numberText}
+use Rattle.lines.proofs.Lengths.{line-length}
+use Rattle.lines.proofs.Runs.{each-of, lines-length}
 use Rattle.model.specs.Sums.{tabulate}
 use Rattle.figures.specs.Rows.{figuresAt}
 use Rattle.model.proofs.Tables.{length-tabulate, getD-tabulate}
-use Rattle.report.specs.Listing.{hKey, dKey, missesKey, volumeKey, loadKey, optmemKey, opttotalKey, optoccKey, wsmemKey, wsoccKey, meanKey, refusedKey, refusedText, rowListing, mostListing, listing, listingOf}
-use Rattle.sheet.specs.Keys.{refsKey, segsKey, rowsKey}
-use Rattle.report.proofs.FigureBounds.{
+use Rattle.report.specs.Listing.{hKey, dKey, missesKey, volumeKey, loadKey, optmemKey, opttotalKey, optoccKey, wsmemKey, wsoccKey, meanKey, refusedKey, refusedText, rowListing, mostListing, listingOf}
+use Rattle.lines.specs.Keys.{refsKey, segsKey, rowsKey}
+use Rattle.bounds.proofs.FigureBounds.{
   allSizes,
   optmem-within,
   optocc-within,
@@ -32,7 +32,7 @@ use Rattle.report.proofs.FigureBounds.{
   wsocc-within,
   mean-within,
   misses-within,
-  missed-within,
+  volume-within,
   sizes-within,
 }
 use Rattle.report.proofs.ListingParts.{three-length, row-length, rows-listing, listing-length}
@@ -84,57 +84,57 @@ row-most f w =
 
 module _ (v : SheetValue) (c : Valid v) where
   -- the figures of a row
-  row-digits : (r : ℕ) → r < length (v .rows) → Digits (figuresAt v r)
+  row-digits : (r : ℕ) → r < length (v .head .rows) → Digits (figuresAt v r)
   unfolding rowFigures load opttotal
   row-digits r lt =
       let T = traceOf v in
       let h = rowAt v r .h in
       let d = rowAt v r .d in
-      let S = sizes-within v c h d in
-      let held : steps T * (1 * allSizes T) ≤ 2048 * 1048320 = product-within (steps T) (1 * allSizes T) 2048 1048320 (c .refs-within) (omega arith) in
-      let dS = product-within d (allSizes T) 65535 1048320 (c .d-within r lt) (omega arith) in
+      let S = sizes-within T (c .run) h d in
+      let held : steps T * (1 * allSizes T) ≤ 2048 * 1048320 = product-within (steps T) (1 * allSizes T) 2048 1048320 (c .run .refs-within) (omega arith) in
+      let dS = product-within d (allSizes T) 65535 1048320 (c .rows .d-within r lt) (omega arith) in
       let priced : steps T * (d * allSizes T) ≤ 2048 * (65535 * 1048320) =
-      product-within (steps T) (d * allSizes T) 2048 (65535 * 1048320) (c .refs-within) dS in
-      let m = misses-within v c h d in
-      let l = product-within (v .a) _ 255 (2048 * 4095) (c .a-within) (missed-within v c h d) in
-      let M = optmem-within v c h d in
+      product-within (steps T) (d * allSizes T) 2048 (65535 * 1048320) (c .run .refs-within) dS in
+      let m = misses-within T (c .run) h d in
+      let l = product-within (v .head .a) _ 255 (2048 * 4095) (c .run .a-within) (volume-within T (c .run) h d) in
+      let M = optmem-within T (c .run) h d in
       record {
-        h-digits = omega (arith, c .h-within r lt);
-        d-digits = omega (arith, c .d-within r lt);
-        misses-digits = omega (arith, c .refs-within);
-        volume-digits = omega (arith, missed-within v c h d);
-        load-digits = omega (arith, c .refs-within);
+        h-digits = omega (arith, c .rows .h-within r lt);
+        d-digits = omega (arith, c .rows .d-within r lt);
+        misses-digits = omega (arith, c .run .refs-within);
+        volume-digits = omega (arith, volume-within T (c .run) h d);
+        load-digits = omega (arith, c .run .refs-within);
         optmem-digits = omega arith;
         opttotal-digits =
             omega (
               arith,
-              product-within d (optmem T h d) 65535 2146959360 (c .d-within r lt) (omega arith),
-              product-within h (load T h d) 65535 2138574848 (c .h-within r lt) (omega (arith, c .refs-within)),
+              product-within d (optmem T h d) 65535 2146959360 (c .rows .d-within r lt) (omega arith),
+              product-within h (load T h d) 65535 2138574848 (c .rows .h-within r lt) (omega (arith, c .run .refs-within)),
             );
-        optocc-digits = omega (arith, optocc-within v c h d);
-        wsmem-digits = omega (arith, wsmem-within v c h d);
-        wsocc-digits = omega (arith, wsocc-within v c h d);
-        mean-digits = omega (arith, mean-within v c h d);
+        optocc-digits = omega (arith, optocc-within T (c .run) h d);
+        wsmem-digits = omega (arith, wsmem-within T (c .run) h d);
+        wsocc-digits = omega (arith, wsocc-within T (c .run) h d);
+        mean-digits = omega (arith, mean-within T (c .run) h d);
       }
 
   -- the listing
   pub listing-most : length (listingOf v) ≤ mostListing
   unfolding listingOf
   listing-most =
-      let fs = tabulate (length (v .rows)) (figuresAt v) in
-      let n : length fs ≡ length (v .rows) = length-tabulate (length (v .rows)) (figuresAt v) in
+      let fs = tabulate (length (v .head .rows)) (figuresAt v) in
+      let n : length fs ≡ length (v .head .rows) = length-tabulate (length (v .head .rows)) (figuresAt v) in
       let rows =
       lines-length rowListing Fits 0 180 (λ prev f w. (omega arith, row-most f w)) none fs
-      (each-of Fits zeroFigures none fs (λ i lt. rw (getD-tabulate (length (v .rows)) (figuresAt v) i zeroFigures (omega arith)) (row-digits i (omega arith)))) in
+      (each-of Fits zeroFigures none fs (λ i lt. rw (getD-tabulate (length (v .head .rows)) (figuresAt v) i zeroFigures (omega arith)) (row-digits i (omega arith)))) in
       omega (
         arith,
         rows,
-        c .rows-within,
-        line-most refsKey 3 (length (v .refs)) (omega (arith, c .refs-within)),
-        line-most segsKey 2 (length (v .sizes)) (omega (arith, c .segs-within)),
-        line-most rowsKey 1 (length fs) (omega (arith, c .rows-within)),
-        three-length refsKey (length (v .refs)) segsKey (length (v .sizes)) rowsKey (length fs),
-        rw (take-all (length fs) fs (omega arith), rows-listing fs) at (listing-length (length (v .refs)) (length (v .sizes)) (length fs) fs (omega arith)),
+        c .rows .rows-within,
+        line-most refsKey 3 (length (v .refs)) (omega (arith, c .run .refs-within)),
+        line-most segsKey 2 (length (v .head .sizes)) (omega (arith, c .run .segs-within)),
+        line-most rowsKey 1 (length fs) (omega (arith, c .rows .rows-within)),
+        three-length refsKey (length (v .refs)) segsKey (length (v .head .sizes)) rowsKey (length fs),
+        rw (take-all (length fs) fs (omega arith), rows-listing fs) at (listing-length (length (v .refs)) (length (v .head .sizes)) (length fs) fs (omega arith)),
       )
     where
       Fits : Option RowFigures → RowFigures → Type 0

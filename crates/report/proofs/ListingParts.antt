@@ -5,11 +5,11 @@ use mathlib.Core.List.{List, [], _∷_, _++_, append-assoc}
 use lib.ListN.{length, take, length-append}
 use lib.Seq.{length-take-le}
 use Rattle.model.specs.declared.RowFigures.{RowFigures}
-use Rattle.sheet.specs.Writing.{numberText}
-use Rattle.sheet.proofs.Runs.{linesText}
+use Rattle.lines.specs.Texts.{numberText}
+use Rattle.lines.specs.Texts.{linesText}
 use Rattle.report.specs.Listing.{hKey, dKey, missesKey, volumeKey, loadKey, optmemKey, opttotalKey, optoccKey, wsmemKey, wsoccKey, meanKey, rowListing, rowsListing, listing}
-use Rattle.sheet.specs.Keys.{refsKey, segsKey, rowsKey}
-use Rattle.report.specs.Parts.{threeText}
+use Rattle.lines.specs.Keys.{refsKey, segsKey, rowsKey}
+use Rattle.report.specs.inner.Parts.{threeText}
 
 -- three lines
 pub three-length : (k : List ℕ) (x : ℕ) (l : List ℕ) (y : ℕ) (m : List ℕ) (z : ℕ) → length (threeText k x l y m z)

@@ -6,8 +6,8 @@ use Rattle.model.specs.Refusals.{numberOf}
 use Rattle.model.specs.Sheets.{SheetValue}
 use Rattle.model.specs.declared.Refusal.{Refusal}
 use Rattle.model.specs.declared.RowFigures.{RowFigures}
-use Rattle.sheet.specs.Keys.{refsKey, segsKey, rowsKey}
-use Rattle.sheet.specs.Writing.{numberText}
+use Rattle.lines.specs.Keys.{refsKey, segsKey, rowsKey}
+use Rattle.lines.specs.Texts.{numberText}
 use Rattle.model.specs.Sums.{tabulate}
 use Rattle.figures.specs.Rows.{figuresAt}
 
@@ -86,7 +86,7 @@ listing refs segs fs =
 
 -- the listing of a sheet
 unfoldable pub listingOf : SheetValue → List ℕ
-listingOf v = listing (length (v .refs)) (length (v .sizes)) (tabulate (length (v .rows)) (figuresAt v))
+listingOf v = listing (length (v .refs)) (length (v .head .sizes)) (tabulate (length (v .head .rows)) (figuresAt v))
 
 -- no listing of an accepted sheet has more bytes: 64 rows, each figure with as many digits as it can have
 abbrev pub mostListing : ℕ

@@ -1,23 +1,23 @@
 // The listing as text: its length first where the place may be too short, then its lines one after the other into the lent place.
 // What the text is stands in specs/Listing.antt, and its parts in specs/Parts.antt. Nothing is assumed.
+use lines::number_length;
+use lines::put;
+use lines::put_digits;
+use lines::put_number;
 use model::PlaceAnswer;
 use model::Refusal;
 use model::RowFigures;
 use model::Sheet;
 use model::Verdict;
-use sheet::writing::number_length;
-use sheet::writing::put;
-use sheet::writing::put_digits;
-use sheet::writing::put_number;
 ghost use mathlib.Core.Path.{_≡_};
 ghost use Prim.Native.Nat.{_+_, _≤_};
 ghost use lib.Dec.{ltb};
 ghost use lib.ListN.{length, take};
 ghost use Rattle.model.specs.Sheets.{mostRows};
-ghost use Rattle.model.specs.Places.{placed, placeAnswer};
-ghost use Rattle.sheet.specs.Parts.{Put};
+ghost use Rattle.model.specs.Places.{gives, PlaceLeft};
+ghost use Rattle.lines.specs.Puts.{Put};
 ghost use Rattle.report.specs.Listing.{rowListing, rowsListing, listing, mostListing, refusedText};
-ghost use Rattle.report.specs.Parts.{threeText};
+ghost use Rattle.report.specs.inner.Parts.{threeText};
 
 // The most bytes of the listing of a sheet.
 pub const MAX_BYTES: usize = 11547;
@@ -185,14 +185,10 @@ pub fn write(
     out: &mut [u8],
 ) -> PlaceAnswer
     requires { ⌜ (rows ≤ mostRows) × (length (listing refs segs (take rows figures)) ≤ mostListing) ⌝ }
-    ensures { λ r. ⌜ (r ≡ placeAnswer (listing refs segs (take rows figures)) (now (out .entry)))
-        × (now (out .exit) ≡ placed (listing refs segs (take rows figures)) (now (out .entry))) ⌝ }
+    ensures { λ r. ⌜ PlaceLeft (gives (listing refs segs (take rows figures))) (now (out .entry)) (now (out .exit)) r ⌝ }
 {
     if too_short(refs, segs, figures, rows, out.len()) {
-        return PlaceAnswer {
-            verdict: Verdict::Refused(Refusal::PlaceTooShort),
-            length: 0,
-        };
+        return PlaceAnswer::refused(Refusal::PlaceTooShort);
     }
     let first = put_three(
         b"refs=",
@@ -214,16 +210,12 @@ pub fn write(
 // The line for a refusal into a lent place, then its old contents; refusal 11 and no change where the place is shorter. Since
 // `put_digits` is called here too, the compiler keeps it apart and puts the small `put_number` into the writers of lines.
 pub fn write_refusal(why: Refusal, out: &mut [u8]) -> PlaceAnswer
-    ensures { λ r. ⌜ (r ≡ placeAnswer (refusedText why) (now (out .entry)))
-        × (now (out .exit) ≡ placed (refusedText why) (now (out .entry))) ⌝ }
+    ensures { λ r. ⌜ PlaceLeft (gives (refusedText why)) (now (out .entry)) (now (out .exit)) r ⌝ }
 {
     let n = model::number(why);
     let length = number_length(b"refused=", n);
     if out.len() < length {
-        return PlaceAnswer {
-            verdict: Verdict::Refused(Refusal::PlaceTooShort),
-            length: 0,
-        };
+        return PlaceAnswer::refused(Refusal::PlaceTooShort);
     }
     let value = put(b"refused=", out, 0);
     put_digits(n, 10, out, value);

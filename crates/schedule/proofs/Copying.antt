@@ -8,7 +8,7 @@ use native.Mathlib.Nat.{add-zero, zero-add}
 use native.Mathlib.Numerals.{add-one}
 use lib.ListN.{length, getD, set, drop-of-length-le}
 use lib.Seq.{paste, paste-zero, paste-suc, length-paste, drop-paste, getD-drop, take-all}
-use Rattle.schedule.specs.Writing.{maskTable, masked, stepWith}
+use Rattle.schedule.specs.inner.Writing.{maskTable, masked, stepWith}
 use Rattle.schedule.proofs.Masks.{maskTable-at}
 use Rattle.schedule.proofs.StepBytes.{length-stepWith, stepWith-at}
 

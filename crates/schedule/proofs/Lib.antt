@@ -1,10 +1,6 @@
-pub mod Changes
 pub mod Copying
-pub mod Costs
 pub mod Filling
 pub mod Marks
 pub mod Masks
-pub mod Runs
+pub mod Segments
 pub mod StepBytes
-pub mod Verdicts
-pub mod Words

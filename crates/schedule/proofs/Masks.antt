@@ -11,7 +11,7 @@ use lib.Seq.{ext-getD}
 use borrow.Author.Tests.{eqb-true, eqb-false, eq-eqb, ne-eqb, lt-ltb, le-ltb, ltb-true, ltb-false}
 use Rattle.model.specs.Sums.{tabulate}
 use Rattle.model.proofs.Tables.{length-tabulate, getD-tabulate, tabulate-eq, tabulate-set}
-use Rattle.schedule.specs.Writing.{noMasks, maskByte, maskTable}
+use Rattle.schedule.specs.inner.Writing.{noMasks, maskByte, maskTable}
 
 -- what the table of masks holds
 pub maskTable-at : (i j : ℕ) → i ≤ 256 → j < 32 → getD maskTable (32 * i + j) 0 ≡ maskByte i j
@@ -39,7 +39,8 @@ masksBelow-start =
 
 pub masksBelow-step : (i : ℕ) → i < 256 → set (masksBelow i) (32 * i + i / 8) (2 ^ (i % 8)) ≡ masksBelow (suc i)
 unfolding masksBelow maskByte
-masksBelow-step i lt = rw value at (tabulate-set 8224 (entry i) (entry (suc i)) (32 * i + i / 8) (omega arith) (λ n l ne. sym (other n l ne)))
+masksBelow-step i lt = rw value at (tabulate-set 8224 (entry i) (entry (suc i)) (32 * i + i / 8) (omega arith)
+    (λ n l ne. sym (other n l ne)))
   where
     entry : ℕ → ℕ → ℕ
     entry m n = cond (ltb (n / 32) m) (maskByte (n / 32) (n % 32)) 0

@@ -16,7 +16,7 @@ use Rattle.model.specs.Schedules.{bit}
 use Rattle.model.proofs.Sums.{sum-eq, term-le, last-or-below}
 use Rattle.model.proofs.Tables.{length-tabulate, getD-tabulate, tabulate-eq}
 use Rattle.model.proofs.Bits.{ofBits, bit-ofBits}
-use Rattle.schedule.specs.Writing.{noSegments, maskByte, masked, stepWith}
+use Rattle.schedule.specs.inner.Writing.{noSegments, maskByte, masked, stepWith}
 
 -- sums whose terms differ at k only differ by these two terms
 sum-change : (n k : ℕ) (f g : ℕ → ℕ) → k < n → ((j : ℕ) → j < n → (j ≡ k → ⊥) → f j ≡ g j) → sum n f + g k ≡ sum n g + f k

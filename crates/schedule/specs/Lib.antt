@@ -1,4 +1,1 @@
-pub mod Checking
-pub mod Pricing
-pub mod Requires
-pub mod Writing
+pub mod inner

@@ -1,12 +1,8 @@
-// Schedules: writing the optimal one of a row, and checking and pricing one handed in.
+// Schedules: their shape, and writing them, the optimal one of a row among them.
 // What a schedule is and costs is written in crate `model`; nothing is assumed.
-pub mod pricing;
 pub mod writing;
 
-use model::LoadUnits;
-use model::MemoryUnits;
 use model::Sheet;
-use model::Verdict;
 ghost use mathlib.Core.Path.{_≡_};
 ghost use Prim.Native.Nat.{_*_, _≤_};
 ghost use Rattle.model.specs.Sheets.{mostRefs};
@@ -39,12 +35,4 @@ impl Schedule {
     {
         Schedule::STEP_BYTES * self.steps
     }
-}
-
-// What pricing a schedule gives: its memory, load and total, all zero where it is refused.
-pub struct PriceAnswer {
-    pub verdict: Verdict,
-    pub memory: MemoryUnits,
-    pub load: LoadUnits,
-    pub total: u64,
 }

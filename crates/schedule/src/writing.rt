@@ -1,5 +1,5 @@
-// Writing the optimal schedule of a row: a pass over the references tells which touches are kept, and the steps are then written from
-// the last to the first, with a running set of the segments whose next touch is kept. Nothing is assumed.
+// Writing schedules: a pass over the references decides which touches are kept, and the steps are then written by the decisions from the
+// last to the first, with a running set of the segments whose next touch is kept. Nothing is assumed.
 use crate::Schedule;
 use model::Kind;
 use model::PriceRow;
@@ -10,10 +10,12 @@ ghost use mathlib.Core.List.{_++_};
 ghost use Prim.Native.Nat.{_+_, _*_, _≤_, _<_};
 ghost use lib.ListN.{length, drop};
 ghost use lib.Seq.{paste};
-ghost use Rattle.model.specs.Sheets.{mostSegs};
+ghost use Rattle.model.specs.Sheets.{mostSegs, runOf, RunWithin};
+ghost use Rattle.model.specs.Traces.{Trace, segs};
 ghost use Rattle.model.specs.Schedules.{optimalSchedule};
-ghost use Rattle.schedule.specs.Requires.{runOf, RunWithin, segmentOf};
-ghost use Rattle.schedule.specs.Writing.{noMarks, noSegments, noMasks, maskTable, masked, stepWith, keptBy, KeptMarks};
+ghost use Rattle.model.specs.Decisions.{decidedSchedule, decisionsOf};
+ghost use Rattle.schedule.specs.inner.Segments.{segmentOf};
+ghost use Rattle.schedule.specs.inner.Writing.{noMarks, noSegments, noMasks, maskTable, masked, stepWith, keptBy, KeptMarks};
 
 // The number that stands for no segment.
 pub const NO_SEGMENT: usize = Sheet::MAX_SEGS;
@@ -139,6 +141,32 @@ fn put_step(
     }
 }
 
+// The schedule by decisions, one for each step, at the head of a lent place, whatever stood there; what stands beyond it stays. It is that
+// of every run of so many segments and these references, whatever counts as touched before step 1 and whichever steps touch nothing.
+pub fn write_decided(segments: usize, refs: &[u16], decisions: &[bool], out: &mut [u8])
+    requires { ⌜ (segments ≤ mostSegs) × (length (now decisions) ≡ length (now refs)) × (32 * length (now refs) ≤ length (now out)) ⌝ }
+    ensures { λ _.
+        ⌜ ((T : Trace) → segs T ≡ segments → T .refs ≡ now (refs .entry)
+        → now (out .exit) ≡ decidedSchedule T (decisionsOf (now (decisions .entry)))
+        ++ drop (32 * length (now (refs .entry))) (now (out .entry))) ⌝ }
+{
+    let masks = mask_table();
+    let mut next = no_segments();
+    let mut t = refs.len();
+    while 0 < t {
+        t -= 1;
+        let i = segment_of(segments, refs[t]);
+        put_step(
+            &masks,
+            i,
+            all_bits(decisions[t]),
+            Schedule::STEP_BYTES * t,
+            &mut next,
+            out,
+        );
+    }
+}
+
 // The optimal schedule of a row at the head of a lent place, whatever stood there; what stands beyond it stays.
 pub fn write_optimal(kind: Kind, a: u8, row: PriceRow, sizes: &[u16], refs: &[u16], out: &mut [u8])
     requires { ⌜ RunWithin (runOf kind a (now sizes) (now refs)) ⌝ }
@@ -148,19 +176,6 @@ pub fn write_optimal(kind: Kind, a: u8, row: PriceRow, sizes: &[u16], refs: &[u1
         ++ drop (32 * length (now (refs .entry))) (now (out .entry)) ⌝ }
 {
     let marks = kept_marks(kind, a, row, sizes, refs);
-    let masks = mask_table();
-    let mut next = no_segments();
-    let mut t = refs.len();
-    while 0 < t {
-        t -= 1;
-        let i = segment_of(sizes.len(), refs[t]);
-        put_step(
-            &masks,
-            i,
-            all_bits(marks[t]),
-            Schedule::STEP_BYTES * t,
-            &mut next,
-            out,
-        );
-    }
+    let n = refs.len();
+    write_decided(sizes.len(), refs, &marks[..n], out);
 }

@@ -9,15 +9,15 @@ use borrow.Author.Tests.{le-leb, leb-true, lt-ltb, ltb-true, ltb-false}
 use lib.Dec.{leb, ltb}
 use lib.ListN.{length}
 use Rattle.decimal.proofs.Digits.{both}
-use Rattle.model.specs.Sheets.{SheetValue, Valid, rowAt, largestSize, largestPrice}
+use Rattle.model.specs.Sheets.{SheetValue, Valid, rowAt, largestSize, largestPrice, mostBytes}
 use Rattle.model.specs.declared.PriceRow.{PriceRow}
 use Rattle.model.specs.declared.Refusal.{Refusal}
 use Rattle.model.specs.declared.Refusal.the-variants.{SheetTooLong}
 use Rattle.sheet.specs.Lines.{Parsed, read, refused}
-use Rattle.sheet.specs.Reading.{above, inPrices, sheetLines, Outcome, accepted, rejected, atEnd, readSheet}
-use Rattle.model.specs.Sheets.{mostBytes}
+use Rattle.sheet.specs.Values.{above, inPrices}
+use Rattle.sheet.specs.Reading.{sheetLines, Outcome, accepted, rejected, atEnd, readSheet}
 use Rattle.sheet.proofs.Parsing.{by-test}
-use Rattle.sheet.proofs.Runs.{before, each-at, each-of}
+use Rattle.lines.proofs.Runs.{before, each-at, each-of}
 use Rattle.sheet.proofs.Words.{RowFits}
 use Rattle.sheet.proofs.SheetLines.{From, Readable, sheet-reads}
 
@@ -44,25 +44,31 @@ zeroRow = record { h = 0; d = 0 }
 pub readable-valid : (v : SheetValue) → Readable v → Valid v
 unfolding zeroRow
 readable-valid v c =
-    let size = each-at (From 1 largestSize) 0 none (v .sizes) (c .sizes-fit) in
-    let touch = each-at (From 0 (length (v .sizes) - 1)) 0 none (v .refs) (c .touches-fit) in
-    let row = each-at RowFits zeroRow none (v .rows) (c .prices-fit) in
-    let price : (r : ℕ) → r < length (v .rows) → (rowAt v r .h ≤ largestPrice) × (1 ≤ rowAt v r .d) × (rowAt v r .d ≤ largestPrice) =
+    let size = each-at (From 1 largestSize) 0 none (v .head .sizes) (c .sizes-fit) in
+    let touch = each-at (From 0 (length (v .head .sizes) - 1)) (length (v .head .sizes)) none (v .refs) (c .touches-fit) in
+    let row = each-at RowFits zeroRow none (v .head .rows) (c .prices-fit) in
+    let price : (r : ℕ) → r < length (v .head .rows) → (rowAt v r .h ≤ largestPrice) × (1 ≤ rowAt v r .d) × (rowAt v r .d ≤ largestPrice) =
     λ r l. prices-within (rowAt v r .h) (rowAt v r .d) (row r l .0) in
     record {
-      a-within = c .a-fits .1;
-      some-segs = c .segs-fit .0;
-      segs-within = c .segs-fit .1;
-      some-size = λ i l. size i l .0;
-      size-within = λ i l. size i l .1;
-      some-rows = c .rows-fit .0;
-      rows-within = c .rows-fit .1;
-      h-within = λ r l. price r l .0;
-      some-d = λ r l. price r l .1;
-      d-within = λ r l. price r l .2;
-      ascending = λ r l. ltb-true _ _ (row (suc r) l .1);
-      refs-within = c .refs-fit .1;
-      ref-within = λ t l. omega (arith, touch t l .1, c .segs-fit .0);
+      rows =
+          record {
+            some-rows = c .rows-fit .0;
+            rows-within = c .rows-fit .1;
+            h-within = λ r l. price r l .0;
+            some-d = λ r l. price r l .1;
+            d-within = λ r l. price r l .2;
+            ascending = λ r l. ltb-true _ _ (row (suc r) l .1);
+          };
+      run =
+          record {
+            a-within = c .a-fits .1;
+            some-segs = c .segs-fit .0;
+            segs-within = c .segs-fit .1;
+            some-size = λ i l. size i l .0;
+            size-within = λ i l. size i l .1;
+            refs-within = c .refs-fit .1;
+            ref-within = λ t l. omega (arith, touch t l .1, c .segs-fit .0);
+          };
     }
 
 -- and the limits ask all that the lines do
@@ -70,19 +76,19 @@ pub valid-readable : (v : SheetValue) → Valid v → Readable v
 unfolding zeroRow
 valid-readable v c =
     record {
-      a-fits = omega (arith, c .a-within);
-      segs-fit = (c .some-segs, c .segs-within);
-      sizes-fit = each-of (From 1 largestSize) 0 none (v .sizes) (λ i l. (c .some-size i l, c .size-within i l));
-      rows-fit = (c .some-rows, c .rows-within);
-      prices-fit = each-of RowFits zeroRow none (v .rows)
-          (λ r l. (within-prices _ _ (c .h-within r l) (c .some-d r l) (c .d-within r l), ascends r l));
-      refs-fit = omega (arith, c .refs-within);
-      touches-fit = each-of (From 0 (length (v .sizes) - 1)) 0 none (v .refs) (λ t l. omega (arith, c .ref-within t l));
+      a-fits = omega (arith, c .run .a-within);
+      segs-fit = (c .run .some-segs, c .run .segs-within);
+      sizes-fit = each-of (From 1 largestSize) 0 none (v .head .sizes) (λ i l. (c .run .some-size i l, c .run .size-within i l));
+      rows-fit = (c .rows .some-rows, c .rows .rows-within);
+      prices-fit = each-of RowFits zeroRow none (v .head .rows)
+          (λ r l. (within-prices _ _ (c .rows .h-within r l) (c .rows .some-d r l) (c .rows .d-within r l), ascends r l));
+      refs-fit = omega (arith, c .run .refs-within);
+      touches-fit = each-of (From 0 (length (v .head .sizes) - 1)) (length (v .head .sizes)) none (v .refs) (λ t l. omega (arith, c .run .ref-within t l));
     }
   where
-    ascends : (r : ℕ) → r < length (v .rows) → above (before zeroRow none (v .rows) r) (rowAt v r) ≡ true
+    ascends : (r : ℕ) → r < length (v .head .rows) → above (before zeroRow none (v .head .rows) r) (rowAt v r) ≡ true
     ascends zero l = refl
-    ascends (suc r) l = lt-ltb _ _ (c .ascending r l)
+    ascends (suc r) l = lt-ltb _ _ (c .rows .ascending r l)
 
 -- ---- what is accepted
 

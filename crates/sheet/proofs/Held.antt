@@ -6,7 +6,7 @@ use lib.ListN.{length, take, drop}
 use lib.Seq.{take-append-seam}
 use Rattle.model.specs.Sheets.{SheetValue, mostSegs, mostRows, mostRefs}
 use Rattle.sheet.specs.Reading.{accepted, readSheet}
-use Rattle.model.specs.Values.{zeros, zeroRows, padded, sheetOf, valueOf}
+use Rattle.model.specs.Values.{zeros, zeroRows, padded, headOf, headValueOf, sheetOf, valueOf}
 use Rattle.sheet.specs.Writing.{sheetText}
 use Rattle.sheet.proofs.RoundTrip.{read-then-written}
 
@@ -17,8 +17,8 @@ front xs blank = take-append-seam xs (drop (length xs) blank)
 
 -- so is each list of the sheet, and the value is the same
 pub held : (v : SheetValue) → valueOf (sheetOf v) ≡ v
-unfolding valueOf sheetOf
-held v = rw (front (v .sizes) (zeros mostSegs), front (v .rows) (zeroRows mostRows), front (v .refs) (zeros mostRefs))
+unfolding valueOf headValueOf sheetOf headOf
+held v = rw (front (v .head .sizes) (zeros mostSegs), front (v .head .rows) (zeroRows mostRows), front (v .refs) (zeros mostRefs))
 
 -- the text of an accepted sheet, as it is held, is the bytes that were read
 pub held-text : (s : List ℕ) (v : SheetValue) → readSheet s ≡ accepted v → sheetText (valueOf (sheetOf v)) ≡ s

@@ -9,58 +9,57 @@ use borrow.Author.Tests.{lt-ltb}
 use lib.ListN.{length, length-append, replicate, length-replicate}
 use Rattle.decimal.specs.Decimal.{written, writtenIn}
 use Rattle.decimal.proofs.Written.{written-length, written-longer}
-use Rattle.model.specs.Sheets.{SheetValue, Valid, largestA, mostSegs, largestSize, mostRows, mostRefs}
+use Rattle.model.specs.Sheets.{SheetValue, Valid, largestA, mostSegs, largestSize, mostRows, mostRefs, mostBytes}
 use Rattle.model.specs.declared.Kind.{Kind}
 use Rattle.model.specs.declared.Kind.the-variants.{Time, Space}
 use Rattle.model.specs.declared.PriceRow.{PriceRow}
-use Rattle.sheet.specs.Keys.{lineFeed, kindKey, aKey, segsKey, sizeKey, rowsKey, refsKey, refKey, kindWord}
-use Rattle.sheet.specs.Reading.{above, inPrices}
-use Rattle.model.specs.Sheets.{mostBytes}
-use Rattle.sheet.specs.Writing.{lineText, numberText, numbersText, rowText, rowsText, sheetText}
-use Rattle.sheet.proofs.Runs.{Each, each-map, linesText, numbers-text, rows-text, lines-length}
+use Rattle.lines.specs.Keys.{kindKey, aKey, segsKey, sizeKey, rowsKey, refsKey, refKey, kindWord}
+use Rattle.sheet.specs.Values.{above, inPrices, rowText}
+use Rattle.lines.specs.Texts.{lineText, numberText, linesText}
+use Rattle.sheet.proofs.PartTexts.{sizes-text, prices-text, refs-text, head-text, sheet-text}
+use Rattle.sheet.specs.Writing.{sheetText}
+use Rattle.lines.proofs.Lengths.{number-within}
+use Rattle.lines.proofs.Runs.{Each, each-map, lines-length}
 use Rattle.sheet.proofs.Words.{RowFits}
 use Rattle.sheet.proofs.SheetLines.{From, Readable}
 use Rattle.sheet.proofs.Accepted.{readable-valid, valid-readable, prices-within, within-prices}
 
 -- ---- the length of a text is that of its lines
 
--- a line: its key and its value, and one
-pub line-length : (key v : List ℕ) → length (lineText key v) ≡ length key + (length v + 1)
-line-length key v = rw (length-append key (v ++ (lineFeed ∷ [])), length-append v (lineFeed ∷ []))
-
--- eight parts one after another
-eight : (a b c d e f g h : List ℕ) → length (a ++ (b ++ (c ++ (d ++ (e ++ (f ++ (g ++ h)))))))
+-- eight texts, in the parts of a sheet
+eight : (a b c d e f g h : List ℕ) → length ((a ++ (b ++ ((c ++ d) ++ (e ++ f)))) ++ (g ++ h))
     ≡ length a + (length b + (length c + (length d + (length e + (length f + (length g + length h))))))
-eight a b c d e f g h = simp length-append
+eight a b c d e f g h = simp length-append (omega arith)
 
--- a sheet: its eight parts
+-- a sheet: its eight texts
 text-length : (v : SheetValue) → length (sheetText v)
-    ≡ length (lineText kindKey (kindWord (v .kind)))
-    + (length (numberText aKey (v .a))
-    + (length (numberText segsKey (length (v .sizes)))
-    + (length (linesText (numberText sizeKey) (v .sizes))
-    + (length (numberText rowsKey (length (v .rows)))
-    + (length (linesText rowText (v .rows))
+    ≡ length (lineText kindKey (kindWord (v .head .kind)))
+    + (length (numberText aKey (v .head .a))
+    + (length (numberText segsKey (length (v .head .sizes)))
+    + (length (linesText (numberText sizeKey) (v .head .sizes))
+    + (length (numberText rowsKey (length (v .head .rows)))
+    + (length (linesText rowText (v .head .rows))
     + (length (numberText refsKey (length (v .refs)))
     + length (linesText (numberText refKey) (v .refs))))))))
-unfolding sheetText
 text-length v =
-    rw (← numbers-text sizeKey (v .sizes), ← rows-text (v .rows), ← numbers-text refKey (v .refs))
+    rw (
+      sheet-text v,
+      head-text (v .head),
+      sizes-text (v .head .sizes),
+      prices-text (v .head .rows),
+      refs-text (length (v .head .sizes)) (v .refs),
+    )
     (eight
-    (lineText kindKey (kindWord (v .kind)))
-    (numberText aKey (v .a))
-    (numberText segsKey (length (v .sizes)))
-    (numbersText sizeKey (v .sizes))
-    (numberText rowsKey (length (v .rows)))
-    (rowsText (v .rows))
+    (lineText kindKey (kindWord (v .head .kind)))
+    (numberText aKey (v .head .a))
+    (numberText segsKey (length (v .head .sizes)))
+    (linesText (numberText sizeKey) (v .head .sizes))
+    (numberText rowsKey (length (v .head .rows)))
+    (linesText rowText (v .head .rows))
     (numberText refsKey (length (v .refs)))
-    (numbersText refKey (v .refs)))
+    (linesText (numberText refKey) (v .refs)))
 
 -- ---- at most 20,012 bytes
-
--- the line of a number below 10 ^ suc k
-number-within : (key : List ℕ) (k n : ℕ) → n < 10 ^ suc k → length (numberText key n) ≤ length key + (suc k + 1)
-number-within key k n h = rw (line-length key (written n)) (omega (arith, written-length k n h))
 
 -- the lines of numbers below 10 ^ suc k
 numbers-within : (key : List ℕ) (lo hi k : ℕ) → hi < 10 ^ suc k → (xs : List ℕ) → Each (From lo hi) none xs
@@ -95,14 +94,14 @@ text-within v c =
     rw (text-length v)
     (omega (
       arith,
-      kind-within (v .kind),
-      number-within aKey 2 (v .a) (omega (arith, c .a-within)),
-      number-within segsKey 2 (length (v .sizes)) (omega (arith, c .segs-within)),
-      numbers-within sizeKey 1 largestSize 3 (omega arith) (v .sizes) (r .sizes-fit),
-      number-within rowsKey 1 (length (v .rows)) (omega (arith, c .rows-within)),
-      rows-within (v .rows) (r .prices-fit),
-      number-within refsKey 3 (length (v .refs)) (omega (arith, c .refs-within)),
-      numbers-within refKey 0 (length (v .sizes) - 1) 2 (omega (arith, c .segs-within)) (v .refs) (r .touches-fit),
+      kind-within (v .head .kind),
+      number-within aKey 2 (v .head .a) (omega (arith, c .run .a-within)),
+      number-within segsKey 2 (length (v .head .sizes)) (omega (arith, c .run .segs-within)),
+      numbers-within sizeKey 1 largestSize 3 (omega arith) (v .head .sizes) (r .sizes-fit),
+      number-within rowsKey 1 (length (v .head .rows)) (omega (arith, c .rows .rows-within)),
+      rows-within (v .head .rows) (r .prices-fit),
+      number-within refsKey 3 (length (v .refs)) (omega (arith, c .run .refs-within)),
+      numbers-within refKey 0 (length (v .head .sizes) - 1) 2 (omega (arith, c .run .segs-within)) (v .refs) (r .touches-fit),
     ))
 
 -- ---- and one valid value with as many
@@ -120,10 +119,7 @@ wideRows k (suc n) = wideRow k ∷ wideRows (suc k) n
 filled : ℕ → ℕ → ℕ → SheetValue
 filled n m k =
     record {
-      kind = Space;
-      a = largestA;
-      sizes = replicate n largestSize;
-      rows = wideRows 0 m;
+      head = record { kind = Space; a = largestA; sizes = replicate n largestSize; rows = wideRows 0 m };
       refs = replicate k 255;
     }
 

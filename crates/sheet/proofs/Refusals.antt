@@ -14,15 +14,17 @@ use Rattle.decimal.specs.Decimal.{isNumber, value, readingOf}
 use Rattle.decimal.specs.declared.Reading.{Reading}
 use Rattle.decimal.specs.declared.Reading.the-variants.{NotNumber, OutOfRange as Beyond, Number}
 use Rattle.model.specs.Refusals.{numberOf}
-use Rattle.model.specs.Sheets.{SheetValue, Valid, largestA, mostSegs, largestSize, mostRows, mostRefs}
+use Rattle.model.specs.Sheets.{SheetValue, Valid, largestA, mostSegs, largestSize, mostRows, mostRefs, mostBytes}
 use Rattle.model.specs.declared.Kind.the-variants.{Time, Space}
 use Rattle.model.specs.declared.PriceRow.{PriceRow}
 use Rattle.model.specs.declared.Refusal.{Refusal}
 use Rattle.model.specs.declared.Refusal.the-variants.{SheetTooLong, LineMalformed, ValueMalformed, OutOfRange, ThresholdNotAbove, BytesAfterEnd}
-use Rattle.sheet.specs.Keys.{lineFeed, slash, kindKey, aKey, segsKey, sizeKey, rowsKey, rowKey, refsKey, refKey, kindWord}
+use Rattle.lines.specs.Keys.{lineFeed, slash, kindKey, aKey, segsKey, sizeKey, rowsKey, rowKey, refsKey, refKey, kindWord}
 use Rattle.sheet.specs.Lines.{Parsed, read, refused, andThen, Split, parts, none as unsplit, splitAt, sameBytes, afterKey, ofLine, valueLine, inRange, numberLine}
-use Rattle.sheet.specs.Reading.{kindOf, kindLine, above, inPrices, rowParts, rowLine, numberLines, rowLines, sheetLines, Outcome, accepted, rejected, atEnd, readSheet}
-use Rattle.model.specs.Sheets.{mostBytes}
+use Rattle.sheet.specs.Values.{kindOf, kindLine, above, inPrices, rowParts, rowLine, rowLines}
+use Rattle.sheet.specs.Lines.{numberLines}
+use Rattle.sheet.specs.Order.{sizesPart, pricesPart, tablesPart, headPart, refsPart, runPart, sheetPart}
+use Rattle.sheet.specs.Reading.{sheetLines, Outcome, accepted, rejected, atEnd, readSheet}
 use Rattle.sheet.proofs.Parsing.{by-test}
 use Rattle.sheet.proofs.Runs.{lines, number-lines, row-lines}
 use Rattle.sheet.proofs.Accepted.{accepted-valid}
@@ -127,19 +129,34 @@ module _ (m : ℕ) where
   rows-refuse : 5 ≤ m → (n : ℕ) (s : List ℕ) → Refuses m (rowLines n none s)
   rows-refuse h n s = rw (row-lines n none s) (lines-refuse rowLine (row-refuses h) n none s)
 
--- the lines of a sheet refuse with 2 to 5
-pub sheet-refuses : (s : List ℕ) → Refuses 5 (sheetLines s)
-unfolding sheetLines
-sheet-refuses s =
+-- the head refuses with 2 to 5
+head-refuses : (s : List ℕ) → Refuses 5 (headPart .reads s)
+unfolding headPart tablesPart sizesPart pricesPart
+head-refuses s =
     stepping 5 (kindLine s) _ (kind-refuses 5 (omega arith) s) λ kind s₁.
     stepping 5 (numberLine aKey 0 largestA s₁) _ (number-refuses 5 (omega arith) aKey 0 largestA s₁) λ a s₂.
-    stepping 5 (numberLine segsKey 1 mostSegs s₂) _ (number-refuses 5 (omega arith) segsKey 1 mostSegs s₂) λ segs s₃.
-    stepping 5 (numberLines sizeKey 1 largestSize segs s₃) _ (numbers-refuse 5 (omega arith) sizeKey 1 largestSize segs s₃) λ sizes s₄.
-    stepping 5 (numberLine rowsKey 1 mostRows s₄) _ (number-refuses 5 (omega arith) rowsKey 1 mostRows s₄) λ n s₅.
-    stepping 5 (rowLines n none s₅) _ (rows-refuse 5 (omega arith) n s₅) λ rows s₆.
-    stepping 5 (numberLine refsKey 0 mostRefs s₆) _ (number-refuses 5 (omega arith) refsKey 0 mostRefs s₆) λ k s₇.
-    stepping 5 (numberLines refKey 0 (segs - 1) k s₇) _ (numbers-refuse 5 (omega arith) refKey 0 (segs - 1) k s₇) λ refs s₈.
-    reading 5 _ s₈
+    stepping 5 (sizesPart .reads s₂) _
+    (stepping 5 (numberLine segsKey 1 mostSegs s₂) _ (number-refuses 5 (omega arith) segsKey 1 mostSegs s₂)
+    (numbers-refuse 5 (omega arith) sizeKey 1 largestSize)) λ sizes s₃.
+    stepping 5 (pricesPart .reads s₃) _
+    (stepping 5 (numberLine rowsKey 1 mostRows s₃) _ (number-refuses 5 (omega arith) rowsKey 1 mostRows s₃)
+    (rows-refuse 5 (omega arith))) λ rows s₄.
+    reading 5 _ s₄
+
+-- so do the references
+refs-refuse : (segs : ℕ) (s : List ℕ) → Refuses 5 (refsPart segs .reads s)
+unfolding refsPart
+refs-refuse segs s =
+    stepping 5 (numberLine refsKey 0 mostRefs s) _ (number-refuses 5 (omega arith) refsKey 0 mostRefs s)
+    (numbers-refuse 5 (omega arith) refKey 0 (segs - 1))
+
+-- and the lines of a sheet
+pub sheet-refuses : (s : List ℕ) → Refuses 5 (sheetLines s)
+unfolding sheetPart runPart
+sheet-refuses s =
+    stepping 5 (headPart .reads s) _ (head-refuses s) λ head s₁.
+    stepping 5 (refsPart (length (head .sizes)) .reads s₁) _ (refs-refuse (length (head .sizes)) s₁) λ refs s₂.
+    reading 5 _ s₂
 
 -- ---- a sheet
 

@@ -5,10 +5,9 @@ use mathlib.Core.Path.{_≡_, sym, ap, _∙_}
 use mathlib.Core.List.{List, [], append-nil}
 use borrow.Author.Tests.{le-ltb}
 use lib.ListN.{length}
-use Rattle.model.specs.Sheets.{SheetValue, Valid}
+use Rattle.model.specs.Sheets.{SheetValue, Valid, mostBytes}
 use Rattle.sheet.specs.Lines.{read}
 use Rattle.sheet.specs.Reading.{sheetLines, accepted, readSheet}
-use Rattle.model.specs.Sheets.{mostBytes}
 use Rattle.sheet.specs.Writing.{sheetText}
 use Rattle.sheet.proofs.SheetLines.{sheet-reads}
 use Rattle.sheet.proofs.Accepted.{valid-readable, accepted-read}

@@ -2,7 +2,7 @@
 use Prim.Native.Nat.{ℕ, _≤_}
 use mathlib.Core.Path.{_≡_, refl, sym, _∙_}
 use mathlib.Core.Bool.{true, false, _&&_}
-use mathlib.Core.List.{List, [], _∷_, _++_}
+use mathlib.Core.List.{List, [], _∷_}
 use mathlib.Core.Option.{Option}
 use native.Mathlib.Omega.{arith}
 use borrow.Author.Tests.{eqb-true}
@@ -16,10 +16,10 @@ use Rattle.decimal.proofs.Readings.{reading-written, reading-number}
 use Rattle.model.specs.declared.Kind.{Kind}
 use Rattle.model.specs.declared.Kind.the-variants.{Time, Space}
 use Rattle.model.specs.declared.PriceRow.{PriceRow}
-use Rattle.sheet.specs.Keys.{lineFeed, slash, kindKey, rowKey, kindWord}
+use Rattle.lines.specs.Keys.{lineFeed, slash, kindKey, rowKey, kindWord}
 use Rattle.sheet.specs.Lines.{read, Split, parts, none as unsplit, splitAt, sameBytes, inRange, numberLine}
-use Rattle.sheet.specs.Reading.{kindOf, kindLine, above, inPrices, rowOf, rowParts, rowLine}
-use Rattle.sheet.specs.Writing.{lineText, numberText, rowText}
+use Rattle.sheet.specs.Values.{kindOf, kindLine, above, inPrices, rowOf, rowParts, rowLine, rowWord, rowText}
+use Rattle.lines.specs.Texts.{lineText, numberText}
 use Rattle.sheet.proofs.Parsing.{by-test, refused-read, passed, lacks, lacks-append, lacks-digits, split-forth, split-back, Reads, Words, line-reads}
 
 -- ---- a number
@@ -90,10 +90,6 @@ unfolding kindLine
 kind-reads = line-reads kindKey kindOf kindWord (λ k. Unit {0}) refl kind-words
 
 -- ---- a row
-
--- the value of a row's line: h/d
-abbrev rowWord : PriceRow → List ℕ
-rowWord q = written (q .h) ++ (slash ∷ written (q .d))
 
 -- a row's prices lie within their ranges, and its threshold exceeds the one before
 abbrev pub RowFits : Option PriceRow → PriceRow → Type 0

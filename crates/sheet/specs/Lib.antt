@@ -1,7 +1,8 @@
+pub mod Accepting
 pub mod Answers
-pub mod AtPlace
-pub mod Keys
 pub mod Lines
+pub mod Order
 pub mod Parts
 pub mod Reading
+pub mod Values
 pub mod Writing

@@ -1,6 +1,6 @@
 -- Reading one line after another from the head of a run of bytes. A line is what stands before a line feed; its value is what stands
 -- after its key and "=". Assumes nothing.
-use Prim.Native.Nat.{ℕ}
+use Prim.Native.Nat.{ℕ, zero, suc}
 use mathlib.Core.Bool.{Bool, true, false, cond}
 use mathlib.Core.List.{List, [], _∷_}
 use lib.Dec.{eqb}
@@ -9,7 +9,7 @@ use Rattle.model.specs.declared.Refusal.the-variants.{LineMalformed, ValueMalfo
 use Rattle.decimal.specs.Decimal.{readingOf}
 use Rattle.decimal.specs.declared.Reading.{Reading}
 use Rattle.decimal.specs.declared.Reading.the-variants.{NotNumber, OutOfRange as Beyond, Number}
-use Rattle.sheet.specs.Keys.{lineFeed}
+use Rattle.lines.specs.Keys.{lineFeed}
 
 -- what reading gives: a value and the bytes that follow it, or the refusal
 pub data Parsed (A : Type 0) : Type 0 where
@@ -67,3 +67,9 @@ inRange (Number n) rest = read n rest
 -- the number lo to hi of the line at the head of s
 unfoldable pub numberLine : List ℕ → ℕ → ℕ → List ℕ → Parsed ℕ
 numberLine key lo hi s = andThen (valueLine key s) (λ v rest. inRange (readingOf lo hi v) rest)
+
+-- n lines with the same key, each a number lo to hi
+unfoldable pub numberLines : List ℕ → ℕ → ℕ → ℕ → List ℕ → Parsed (List ℕ)
+numberLines key lo hi zero s = read [] s
+numberLines key lo hi (suc n) s =
+    andThen (numberLine key lo hi s) (λ x rest. andThen (numberLines key lo hi n rest) (λ xs end. read (x ∷ xs) end))

@@ -1,33 +1,36 @@
--- The parts in which a sheet is written: its lines in three parts, and a text put into a lent place from an index on.
--- Assumes nothing.
-use Prim.Native.Nat.{ℕ, _+_, _≤_}
-use mathlib.Core.Path.{_≡_}
-use mathlib.Core.List.{List, _++_}
-use lib.ListN.{length, take, drop}
-use Rattle.model.specs.Sheets.{SheetValue}
-use Rattle.model.specs.declared.Kind.{Kind}
-use Rattle.model.specs.declared.PriceRow.{PriceRow}
-use Rattle.sheet.specs.Keys.{kindKey, aKey, segsKey, sizeKey, rowsKey, kindWord}
-use Rattle.sheet.specs.Writing.{lineText, numberText, numbersText, rowsText}
+-- Parts of a text: which lines a value has, and which value is read from the head of a run of bytes. Parts follow one another, each
+-- read after the values of those before it. Assumes nothing.
+use Prim.Native.Nat.{ℕ}
+use mathlib.Core.List.{List, [], _++_}
+use lib.ListN.{length}
+use Rattle.lines.specs.Texts.{lineText, linesText}
+use Rattle.sheet.specs.Lines.{Parsed, read, andThen}
 
--- the place with the text from the index at on: what stood before it and what stood beyond it stay
-unfoldable pub putAt : ℕ → List ℕ → List ℕ → List ℕ
-putAt at text place = take at place ++ (text ++ drop (at + length text) place)
+-- a line: its key and its value
+abbrev pub Line : Type 0
+Line = List ℕ × List ℕ
 
--- the text was put into the place from the index at on: it fits, where it ends, and what the place is afterwards
-pub record Put (text : List ℕ) (at : ℕ) (place : List ℕ) (end : ℕ) (after : List ℕ) : Type 0 where
-  pub fits : at + length text ≤ length place
-  pub ends : end ≡ at + length text
-  pub holds : after ≡ putAt at text place
+-- the text of lines
+abbrev pub textOf : List Line → List ℕ
+textOf ls = linesText (λ l. lineText (l .0) (l .1)) ls
 
--- the line that counts the numbers, and the line of each
-abbrev pub countedText : List ℕ → List ℕ → List ℕ → List ℕ
-countedText count key xs = numberText count (length xs) ++ numbersText key xs
+-- a part: the lines of a value, and how it is read
+pub record Part (A : Type 0) : Type 0 where
+  pub lines : A → List Line
+  pub reads : List ℕ → Parsed A
 
--- a sheet's lines up to the sizes
-unfoldable pub segmentsText : Kind → ℕ → List ℕ → List ℕ
-segmentsText kind a sizes = lineText kindKey (kindWord kind) ++ (numberText aKey a ++ countedText segsKey sizeKey sizes)
+-- no more lines: the value v
+abbrev pub whole : {B : Type 0} → B → Part B
+whole v = record { lines = λ w. []; reads = λ s. read v s }
 
--- the line that counts the rows, and the line of each
-unfoldable pub pricedText : List PriceRow → List ℕ
-pricedText rows = numberText rowsKey (length rows) ++ rowsText rows
+-- the part p, with the value that the whole gives it, and what follows it
+abbrev pub then : {A B : Type 0} → Part A → (B → A) → (A → Part B) → Part B
+then p of more =
+    record {
+      lines = λ v. p .lines (of v) ++ more (of v) .lines v;
+      reads = λ s. andThen (p .reads s) (λ a rest. more a .reads rest);
+    }
+
+-- the line that counts the elements of a list, and so many lines
+abbrev pub counted : {A : Type 0} → Part ℕ → (ℕ → Part (List A)) → Part (List A)
+counted count each = then count length each

@@ -1,8 +1,5 @@
-// The text of a sheet: the value that it stands for, reading it with refusals 1 to 6, and writing it.
+// The text of a sheet: the value that it stands for, reading it with refusals 1 to 6, and its text.
 // What reading and writing mean is written in specs/; nothing is assumed.
-pub mod reading;
-pub mod writing;
-
 use model::Sheet;
 use model::Verdict;
 

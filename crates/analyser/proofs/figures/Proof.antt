@@ -3,7 +3,7 @@ use mathlib.Core.Path.{sym, _∙_}
 use borrow.Author.Needs.{needs}
 use Rattle.figures.specs.Rows.{noFigures, figuresOf}
 use Rattle.analyser.specs.Answers.{figuresAnswer}
-use Rattle.analyser.proofs.Standings.{on-refused, on-accepted, stands}
+use Rattle.sheet.proofs.Accepting.{on-refused, on-accepted, stands}
 use Rattle.analyser.proofs.figures.Statement.{statement}
 use Rattle.analyser.proofs.figures.Tie as tie
 

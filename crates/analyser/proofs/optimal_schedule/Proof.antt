@@ -1,7 +1,8 @@
 -- `analyser::optimal_schedule` meets its contract: what the sheet reads as decides. Assumes nothing.
 use borrow.Author.Needs.{needs}
-use Rattle.analyser.specs.Answers.{refuses, scheduleFor, scheduleResult}
-use Rattle.analyser.proofs.Standings.{result-refused, on-accepted, stands}
+use Rattle.plans.specs.Plans.{scheduleFor}
+use Rattle.analyser.specs.Answers.{scheduleResult}
+use Rattle.sheet.proofs.Accepting.{result-refused, result-accepted, stands}
 use Rattle.analyser.proofs.optimal_schedule.Statement.{statement}
 use Rattle.analyser.proofs.optimal_schedule.Tie as tie
 
@@ -15,15 +16,14 @@ unfolding scheduleResult
 returns c =
     let r = c .before .before .before .before .before in
     let a = c .before .before .before .before .before .before .before .before .args in
-    result-refused (a .bytes .now) (r .read .result) (r .read .ensures) (a .out .now) (λ v. scheduleFor v (a .row)) (c .nothing .ensures) (cc)
+    result-refused (a .bytes .now) (r .read .result) (r .read .ensures) (a .out .now) (λ v. scheduleFor v (a .row)) (c .refused .ensures) (cc)
 
 returns-2 : tie.Need-returns-2
 unfolding scheduleResult
 returns-2 c =
     let r = c .before .before .before .before .before .before .before in
     let a = c .before .before .before .before .before .before .before .before .before .before .args in
-    rw (on-accepted (a .bytes .now) (r .read .result) (r .read .ensures) (cc) refuses (λ v. scheduleFor v (a .row)))
-    (c .before .before .sheet-schedule .ensures)
+    result-accepted (a .bytes .now) (r .read .result) (r .read .ensures) (λ v. scheduleFor v (a .row)) (c .before .before .sheet-schedule .ensures) (cc)
 
 pub optimal-schedule-spec : {M : Type 1} → statement M
 optimal-schedule-spec =

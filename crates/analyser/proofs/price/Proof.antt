@@ -1,9 +1,10 @@
 -- `analyser::price` meets its contract: what the sheet reads as decides. Assumes nothing.
 use mathlib.Core.Path.{sym, _∙_}
 use borrow.Author.Needs.{needs}
-use Rattle.schedule.specs.Checking.{noPrice}
-use Rattle.analyser.specs.Answers.{priceFor, pricing}
-use Rattle.analyser.proofs.Standings.{on-refused, on-accepted, stands}
+use Rattle.pricing.specs.Checking.{noPrice}
+use Rattle.plans.specs.Plans.{priceFor}
+use Rattle.analyser.specs.Answers.{pricing}
+use Rattle.sheet.proofs.Accepting.{on-refused, on-accepted, stands}
 use Rattle.analyser.proofs.price.Statement.{statement}
 use Rattle.analyser.proofs.price.Tie as tie
 
@@ -17,7 +18,7 @@ unfolding pricing
 returns c =
     let r = c .before .before .before .before .before in
     let a = r .before .before .before .args in
-    c .no-price .ensures ∙ sym (on-refused _ (r .read .result) (r .read .ensures) _ (cc) noPrice (λ v. priceFor v (a .row) (a .schedule .now)))
+    c .refused .ensures ∙ sym (on-refused _ (r .read .result) (r .read .ensures) _ (cc) noPrice (λ v. priceFor v (a .row) (a .schedule .now)))
 
 returns-2 : tie.Need-returns-2
 unfolding pricing

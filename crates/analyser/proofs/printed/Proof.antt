@@ -2,8 +2,7 @@
 use borrow.Author.Needs.{needs}
 use Rattle.report.specs.Listing.{listingOf, refusedText}
 use Rattle.analyser.specs.Answers.{printedText}
-use Rattle.analyser.proofs.Results.{text-left}
-use Rattle.analyser.proofs.Standings.{text-refused, on-accepted, stands}
+use Rattle.sheet.proofs.Accepting.{text-refused, on-accepted, stands}
 use Rattle.analyser.proofs.printed.Statement.{statement}
 use Rattle.analyser.proofs.printed.Tie as tie
 
@@ -17,7 +16,7 @@ unfolding printedText
 returns c =
     let r = c .before .before .before .before .before .before .before .before in
     let a = r .before .before .before .args in
-    text-refused (a .bytes .now) (r .read .result) (r .read .ensures) refusedText listingOf (text-left (c .before .before .write-refusal .ensures))
+    text-refused (a .bytes .now) (r .read .result) (r .read .ensures) refusedText listingOf (c .before .before .write-refusal .ensures)
     (c .before .before .before .before .before .verdict .given .1)
 
 returns-2 : tie.Need-returns-2

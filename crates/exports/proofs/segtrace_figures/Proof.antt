@@ -1,6 +1,6 @@
 -- `exports::segtrace_figures` meets its contract: the verdict of the figures decides. Assumes nothing.
 use borrow.Author.Needs.{needs}
-use Rattle.exports.specs.Exported.{figureList}
+use Rattle.numbers.specs.Figures.{figureList}
 use Rattle.exports.proofs.Told.{accepted-tells, refused-tells}
 use Rattle.exports.proofs.segtrace_figures.Statement.{statement}
 use Rattle.exports.proofs.segtrace_figures.Tie as tie
@@ -8,7 +8,7 @@ use Rattle.exports.proofs.segtrace_figures.Tie as tie
 returns : tie.Need-returns
 returns c =
     let r = c .before .before .before in
-    accepted-tells (λ a. a .verdict) (λ a. figureList (a .figures)) (r .figures .result) _ (r .figures .ensures) _ (cc) (c .numbers .ensures)
+    accepted-tells (λ a. a .verdict) (λ a. figureList (a .figures)) (r .figures .result) _ (r .figures .ensures) _ (cc) (c .of-row .ensures)
 
 returns-2 : tie.Need-returns-2
 returns-2 c =

@@ -1,8 +1,8 @@
 -- `exports::segtrace_rewrite` meets its contract: what the sheet reads as decides. Assumes nothing.
 use borrow.Author.Needs.{needs}
 use Rattle.sheet.specs.Writing.{sheetText}
-use Rattle.analyser.specs.Answers.{gives, refuses}
-use Rattle.analyser.proofs.Standings.{on-refused, on-accepted}
+use Rattle.model.specs.Places.{gives, refuses}
+use Rattle.sheet.proofs.Accepting.{on-refused, on-accepted}
 use Rattle.exports.specs.Exported.{rewriteResult}
 use Rattle.exports.proofs.Told.{place-call, place-refused}
 use Rattle.exports.proofs.segtrace_rewrite.Statement.{statement}

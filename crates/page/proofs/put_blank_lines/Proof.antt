@@ -3,8 +3,8 @@ use mathlib.Core.Path.{_≡_, refl, sym}
 use Prim.Native.Nat.{_+_, _*_, _-_, _≤_}
 use native.Mathlib.Omega.{arith}
 use lib.ListN.{length, replicate}
-use Rattle.sheet.specs.Parts.{Put}
-use Rattle.sheet.proofs.Putting.{put-nothing, put-then, put-same}
+use Rattle.lines.specs.Puts.{Put}
+use Rattle.lines.proofs.Putting.{put-nothing, put-then, put-same}
 use Rattle.page.specs.Page.{blankLine, joined}
 use Rattle.page.proofs.Parts.{blank-lines-next}
 use borrow.Author.Needs.{needs}

@@ -3,7 +3,8 @@ use mathlib.Core.Path.{sym, _∙_}
 use Prim.Native.Nat.{_≤_}
 use native.Mathlib.Omega.{arith}
 use lib.ListN.{length}
-use Rattle.sheet.proofs.Placing.{place-short, place-put}
+use Rattle.model.proofs.Places.{text-short}
+use Rattle.lines.proofs.Placing.{text-put}
 use Rattle.page.proofs.Lines.{pages-least, pages-two, taken-length}
 use borrow.Author.Needs.{needs}
 use Rattle.page.proofs.write.Statement.{statement}
@@ -11,11 +12,11 @@ use Rattle.page.proofs.write.Tie as tie
 
 returns : tie.Need-returns
 returns c =
-    let s = c .before .before .before in
+    let s = c .before .before .before .before in
     let a = s .args in
     let room : a .rows ≤ length (a .figures) = omega (arith, s .pre, s .good) in
     let l = taken-length (a .kind) (a .a) (a .figures) (a .rows) (omega (arith, s .good)) (s .pre .0) room (s .pre .1) in
-    place-short _ _ (omega (arith, l, c .before .pages-length .ensures, c .if1 .taken))
+    rw (c .refused .ensures) (text-short _ _ (omega (arith, l, c .before .before .pages-length .ensures, c .before .if1 .taken)))
 
 put-pages-requires : tie.Need-put-pages-requires
 put-pages-requires c κs =
@@ -33,8 +34,8 @@ returns-2 c =
     let a = s .args in
     let room : a .rows ≤ length (a .figures) = omega (arith, s .pre, s .good) in
     let l = taken-length (a .kind) (a .a) (a .figures) (a .rows) (omega (arith, s .good)) (s .pre .0) room (s .pre .1) in
-    place-put _ _ _ _ _ (c .before .before .before .before .before .pages-length .ensures ∙ sym l) (c .before .before .put-pages .ensures)
+    text-put _ _ _ _ _ (c .before .before .before .before .before .pages-length .ensures ∙ sym l) (c .before .before .put-pages .ensures)
 
 pub write-spec : {M : Type 1} → statement M
 write-spec =
-    tie.close (tie.spec (λ c κs. search needs) returns put-pages-requires (λ c. search needs) returns-2)
+    tie.close (tie.spec (λ c κs. search needs) (λ c κs. search needs) returns put-pages-requires (λ c. search needs) returns-2)

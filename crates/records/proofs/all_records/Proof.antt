@@ -1,8 +1,8 @@
 -- `records::all_records` meets its contract: what the sheet reads as decides. Assumes nothing.
 use mathlib.Core.Path.{sym, _∙_}
 use borrow.Author.Needs.{needs}
-use Rattle.analyser.proofs.Standings.{on-refused, on-accepted, stands}
-use Rattle.records.specs.Listed.{noRecords, recordsFor, recordsFound}
+use Rattle.sheet.proofs.Accepting.{on-refused, on-accepted, stands}
+use Rattle.records.specs.inner.Held.{noRecords, recordsFor, recordsFound}
 use Rattle.records.proofs.all_records.Statement.{statement}
 use Rattle.records.proofs.all_records.Tie as tie
 

@@ -4,8 +4,9 @@ use borrow.Author.Needs.{needs}
 use borrow.Author.Tests.{le-leb, lt-leb}
 use lib.ListN.{length}
 use Rattle.model.specs.Values.{valueOf}
-use Rattle.analyser.proofs.Standings.{rows-counted}
-use Rattle.records.specs.Listed.{sheetAnswer, recordsFor}
+use Rattle.model.proofs.Standing.{rows-counted}
+use Rattle.records.specs.Listed.{sheetAnswer}
+use Rattle.records.specs.inner.Held.{recordsFor}
 use Rattle.records.proofs.sheet_records.Statement.{statement}
 use Rattle.records.proofs.sheet_records.Tie as tie
 
@@ -14,14 +15,14 @@ unfolding recordsFor
 returns c =
     let s = c .before .before .before in
     let n = rows-counted (s .args .s) (s .pre) in
-    rw (lt-leb (length (valueOf (s .args .s) .rows)) (s .args .room) (omega (arith, c .before .if1 .taken))) (c .no-records .ensures)
+    rw (lt-leb (length (valueOf (s .args .s) .head .rows)) (s .args .room) (omega (arith, c .before .if1 .taken))) (c .no-records .ensures)
 
 returns-2 : tie.Need-returns-2
 unfolding recordsFor sheetAnswer
 returns-2 c =
     let s = c .before .before .before in
     let n = rows-counted (s .args .s) (s .pre) in
-    rw (le-leb (length (valueOf (s .args .s) .rows)) (s .args .room) (omega (arith, c .before .if1 .left)), n, c .all-figures .ensures)
+    rw (le-leb (length (valueOf (s .args .s) .head .rows)) (s .args .room) (omega (arith, c .before .if1 .left)), n, c .all-figures .ensures)
 
 pub sheet-records-spec : {M : Type 1} → statement M
 sheet-records-spec =

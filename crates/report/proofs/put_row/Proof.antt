@@ -1,7 +1,7 @@
 -- `report::put_row` meets its contract: the parts are put one after another. Assumes nothing.
 use native.Mathlib.Omega.{arith}
 use borrow.Author.Needs.{needs}
-use Rattle.sheet.proofs.Putting.{put-then, put-same}
+use Rattle.lines.proofs.Putting.{put-then, put-same}
 use Rattle.report.proofs.ListingParts.{row-length, row-parts}
 use Rattle.report.proofs.put_row.Statement.{statement}
 use Rattle.report.proofs.put_row.Tie as tie

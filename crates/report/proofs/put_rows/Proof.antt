@@ -6,9 +6,10 @@ use native.Mathlib.Omega.{arith}
 use borrow.Author.Needs.{needs}
 use lib.ListN.{length, take}
 use Rattle.model.specs.Rows.{zeroFigures}
-use Rattle.sheet.specs.Parts.{Put}
-use Rattle.sheet.proofs.Putting.{put-nothing, put-same, put-then}
-use Rattle.sheet.proofs.Runs.{linesText, lines-next, lines-room}
+use Rattle.lines.specs.Puts.{Put}
+use Rattle.lines.proofs.Putting.{put-nothing, put-same, put-then}
+use Rattle.lines.specs.Texts.{linesText}
+use Rattle.lines.proofs.Runs.{lines-next, lines-room}
 use Rattle.report.specs.Listing.{rowListing}
 use Rattle.report.proofs.ListingParts.{rows-listing}
 use Rattle.report.proofs.put_rows.Statement.{statement}

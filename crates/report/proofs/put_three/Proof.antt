@@ -1,8 +1,8 @@
 -- `report::put_three` meets its contract: the lines are put one after another. Assumes nothing.
 use native.Mathlib.Omega.{arith}
 use borrow.Author.Needs.{needs}
-use Rattle.sheet.proofs.Putting.{put-then}
-use Rattle.report.specs.Parts.{threeText}
+use Rattle.lines.proofs.Putting.{put-then}
+use Rattle.report.specs.inner.Parts.{threeText}
 use Rattle.report.proofs.ListingParts.{three-length}
 use Rattle.report.proofs.put_three.Statement.{statement}
 use Rattle.report.proofs.put_three.Tie as tie

@@ -5,7 +5,8 @@ use Prim.Native.Nat.{_*_, _-_, _≤_}
 use native.Mathlib.Omega.{arith}
 use borrow.Author.Needs.{needs}
 use lib.ListN.{length, take}
-use Rattle.sheet.proofs.Runs.{linesText, lines-sum}
+use Rattle.lines.specs.Texts.{linesText}
+use Rattle.lines.proofs.Runs.{lines-sum}
 use Rattle.report.specs.Listing.{rowListing}
 use Rattle.report.proofs.ListingParts.{rows-listing}
 use Rattle.report.proofs.rows_length.Statement.{statement}

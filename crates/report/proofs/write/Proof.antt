@@ -4,16 +4,17 @@ use native.Mathlib.Omega.{arith}
 use borrow.Author.Needs.{needs}
 use borrow.Author.Tests.{ltb-true, ltb-false}
 use lib.ListN.{length}
-use Rattle.sheet.proofs.Placing.{place-short, place-put}
-use Rattle.sheet.proofs.Putting.{put-then, put-same}
+use Rattle.model.proofs.Places.{text-short}
+use Rattle.lines.proofs.Placing.{text-put}
+use Rattle.lines.proofs.Putting.{put-then, put-same}
 use Rattle.report.proofs.ListingParts.{listing-parts, listing-length}
 use Rattle.report.proofs.write.Statement.{statement}
 use Rattle.report.proofs.write.Tie as tie
 
 returns : tie.Need-returns
 returns c =
-    let a = c .before .before .before .args in
-    place-short _ _ (ltb-true (length (a .out .now)) _ (sym (c .before .too-short .ensures) ∙ c .if1 .taken))
+    let a = c .before .before .before .before .args in
+    rw (c .refused .ensures) (text-short _ _ (ltb-true (length (a .out .now)) _ (sym (c .before .before .too-short .ensures) ∙ c .before .if1 .taken)))
 
 put-three-requires : tie.Need-put-three-requires
 put-three-requires c κs =
@@ -39,12 +40,13 @@ returns-2 c =
     let q = put-same
     (listing-parts (a .refs) (a .segs) (a .rows) (a .figures) (omega (arith, s .pre)))
     (put-then (h .put-three .ensures) (p .put-rows .ensures)) in
-    place-put _ _ _ _ _ (omega (arith, q .ends)) q
+    text-put _ _ _ _ _ (omega (arith, q .ends)) q
 
 pub write-spec : {M : Type 1} → statement M
 write-spec =
     tie.close
     (tie.spec
+    (λ c κs. search needs)
     (λ c κs. search needs)
     returns
     (λ c. search needs)

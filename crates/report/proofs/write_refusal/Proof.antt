@@ -4,9 +4,10 @@ use native.Mathlib.Omega.{arith}
 use borrow.Author.Needs.{needs}
 use lib.ListN.{length-append}
 use Rattle.decimal.specs.Decimal.{written}
-use Rattle.sheet.proofs.Lengths.{line-length}
-use Rattle.sheet.proofs.Placing.{place-short, place-put}
-use Rattle.sheet.proofs.Putting.{put-then}
+use Rattle.lines.proofs.Lengths.{line-length}
+use Rattle.model.proofs.Places.{text-short}
+use Rattle.lines.proofs.Placing.{text-put}
+use Rattle.lines.proofs.Putting.{put-then}
 use Rattle.report.specs.Listing.{refusedKey, refusedText}
 use Rattle.report.proofs.write_refusal.Statement.{statement}
 use Rattle.report.proofs.write_refusal.Tie as tie
@@ -14,9 +15,9 @@ use Rattle.report.proofs.write_refusal.Tie as tie
 returns : tie.Need-returns
 unfolding refusedText
 returns c =
-    let l = c .before in
+    let l = c .before .before in
     let e = rw (l .before .before .number .ensures) at (l .number-length .ensures .0) in
-    place-short _ _ (omega arith)
+    rw (c .refused .ensures) (text-short _ _ (omega (arith, c .before .if1 .taken)))
 
 put-requires : tie.Need-put-requires
 put-requires c κs =
@@ -34,7 +35,7 @@ returns-2 c =
     let p = c .before .before .before .before .before .before in
     let l = p .before .before .before .before in
     let e = l .before .before .number .ensures in
-    place-put _ _ _ _ _ (rw e at (l .number-length .ensures .0)) (rw e at (put-then (p .put .ensures) (c .before .before .put-digits .ensures)))
+    text-put _ _ _ _ _ (rw e at (l .number-length .ensures .0)) (rw e at (put-then (p .put .ensures) (c .before .before .put-digits .ensures)))
 
 pub write-refusal-spec : {M : Type 1} → statement M
 write-refusal-spec =
@@ -42,6 +43,7 @@ write-refusal-spec =
     (tie.spec
     (λ c κs. search needs)
     (λ c. search needs)
+    (λ c κs. search needs)
     (λ c κs. search needs)
     returns
     (λ c. search needs)

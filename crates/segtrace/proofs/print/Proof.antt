@@ -3,7 +3,7 @@ use borrow.Author.Needs.{needs}
 use mathlib.Core.Path.{sym}
 use native.Mathlib.Omega.{arith}
 use lib.Seq.{length-take-le}
-use Rattle.analyser.proofs.Results.{left-length}
+use Rattle.model.proofs.Places.{left-length}
 use Rattle.segtrace.proofs.print.Statement.{statement}
 use Rattle.segtrace.proofs.print.Tie as tie
 

@@ -1,8 +1,9 @@
 -- `billing::bill` meets its contract: what the sheet reads as decides. Assumes nothing.
 use mathlib.Core.Path.{sym, _∙_}
 use borrow.Author.Needs.{needs}
-use Rattle.analyser.specs.Billing.{noBill, billFor, tariffOf, billAnswer}
-use Rattle.analyser.proofs.Standings.{on-refused, on-accepted, stands}
+use Rattle.rows.specs.Billing.{noBill, billFor, tariffOf}
+use Rattle.analyser.specs.Answers.{billAnswer}
+use Rattle.sheet.proofs.Accepting.{on-refused, on-accepted, stands}
 use Rattle.analyser.proofs.billing.bill.Statement.{statement}
 use Rattle.analyser.proofs.billing.bill.Tie as tie
 

@@ -1,8 +1,9 @@
 -- `margins::margin` meets its contract: what the sheet reads as decides. Assumes nothing.
 use mathlib.Core.Path.{sym, _∙_}
 use borrow.Author.Needs.{needs}
-use Rattle.analyser.specs.Margins.{noMargin, marginFor, marginAnswer}
-use Rattle.analyser.proofs.Standings.{on-refused, on-accepted, stands}
+use Rattle.margin.specs.Margins.{noMargin, marginFor}
+use Rattle.analyser.specs.Answers.{marginAnswer}
+use Rattle.sheet.proofs.Accepting.{on-refused, on-accepted, stands}
 use Rattle.analyser.proofs.margins.margin.Statement.{statement}
 use Rattle.analyser.proofs.margins.margin.Tie as tie
 

@@ -3,34 +3,34 @@ use mathlib.Core.Path.{_≡_, sym, ap, _∙_}
 use borrow.Author.Needs.{needs}
 use Rattle.model.specs.declared.Verdict.the-variants.{Accepted}
 use Rattle.model.specs.Values.{valueOf}
-use Rattle.recorder.specs.Recorders.{recorderOf, headOf}
+use Rattle.recorder.specs.Recorders.{recorderOf, started}
 use Rattle.recorder.specs.declared.Recorder.{Recorder}
 use Rattle.recorder.specs.declared.TouchAnswer.{TouchAnswer}
 use Rattle.analyser.specs.Recording.{noRecorder, startAnswer}
-use Rattle.analyser.proofs.Standings.{on-refused, on-accepted, stands, sheet-is}
+use Rattle.sheet.proofs.Accepting.{on-refused, on-accepted, stands, sheet-is}
 use Rattle.analyser.proofs.recording.start.Statement.{statement}
 use Rattle.analyser.proofs.recording.start.Tie as tie
 
-started : Recorder → TouchAnswer
-started R = record { verdict = Accepted; recorder = R }
+with-recorder : Recorder → TouchAnswer
+with-recorder R = record { verdict = Accepted; recorder = R }
 
 returns : tie.Need-returns
 unfolding startAnswer
 returns c =
     let r = c .before .before .before .before .before in
     c .no-recorder .ensures
-    ∙ sym (on-refused _ (r .read .result) (r .read .ensures) _ (cc) noRecorder (λ v. record { verdict = Accepted; recorder = recorderOf (headOf v) }))
+    ∙ sym (on-refused _ (r .read .result) (r .read .ensures) _ (cc) noRecorder (λ v. record { verdict = Accepted; recorder = recorderOf (started v) }))
 
 returns-2 : tie.Need-returns-2
-unfolding startAnswer started
+unfolding startAnswer with-recorder
 returns-2 c =
     let r = c .before .before .before .before in
     let A = r .read .result in
     let e = r .read .ensures in
     let a : A .verdict ≡ Accepted = cc in
     let v = valueOf (A .sheet) in
-    ap started (c .start .ensures v (stands _ A e a .valid) (sheet-is _ A e a))
-    ∙ sym (on-accepted _ A e a noRecorder (λ w. record { verdict = Accepted; recorder = recorderOf (headOf w) }))
+    ap with-recorder (c .start .ensures v (stands _ A e a .valid) (sheet-is _ A e a))
+    ∙ sym (on-accepted _ A e a noRecorder (λ w. record { verdict = Accepted; recorder = recorderOf (started w) }))
 
 pub start-spec : {M : Type 1} → statement M
 start-spec =

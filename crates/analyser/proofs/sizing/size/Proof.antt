@@ -2,8 +2,9 @@
 use mathlib.Core.Path.{sym, _∙_}
 use borrow.Author.Needs.{needs}
 use Rattle.model.specs.Sizing.{sizedRow}
-use Rattle.analyser.specs.Sizing.{noSize, sizing, sizeAnswer}
-use Rattle.analyser.proofs.Standings.{on-refused, on-accepted, stands}
+use Rattle.rows.specs.Sizing.{noSize, sizing}
+use Rattle.analyser.specs.Answers.{sizeAnswer}
+use Rattle.sheet.proofs.Accepting.{on-refused, on-accepted, stands}
 use Rattle.analyser.proofs.sizing.size.Statement.{statement}
 use Rattle.analyser.proofs.sizing.size.Tie as tie
 

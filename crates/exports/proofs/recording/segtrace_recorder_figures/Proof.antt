@@ -11,7 +11,7 @@ returns : tie.Need-returns
 returns c =
     let f = c .before .before .before in
     figures-accepted _ _ _ _ _ _ _ _ _ _ (f .figures .result) (f .before .recorder-of .ensures) (f .figures .ensures) _ (c .before .enum-told .given .1)
-    (c .numbers .ensures)
+    (c .of-row .ensures)
 
 returns-2 : tie.Need-returns-2
 returns-2 c =

@@ -13,21 +13,6 @@ products c =
       product-within (x .swap) (x .size) (2 ^ 32) (2 ^ 16) (omega arith) (omega arith),
     )
 
-cast-z : tie.Need-cast-z
-cast-z c = omega arith
-
-add-t4 : tie.Need-add-t4
-add-t4 c = omega arith
-
-add-t5 : tie.Need-add-t5
-add-t5 c = omega arith
-
-add-t6 : tie.Need-add-t6
-add-t6 c = omega arith
-
-add-t7 : tie.Need-add-t7
-add-t7 c = omega arith
-
 mul-t8 : tie.Need-mul-t8
 mul-t8 c = let s = c .before .before .before .before .before .before .before .before in omega (arith, products s)
 
@@ -46,4 +31,5 @@ add-t11 c =
 
 pub add-touch-spec : {M : Type 1} → statement M
 add-touch-spec =
-    tie.close (tie.spec cast-z add-t4 add-t5 add-t6 add-t7 mul-t8 add-t9 mul-t10 add-t11 (λ c. search needs))
+    tie.close (tie.spec (λ c. search needs) (λ c. search needs) (λ c. search needs) (λ c. search needs)
+    (λ c. search needs) mul-t8 add-t9 mul-t10 add-t11 (λ c. search needs))

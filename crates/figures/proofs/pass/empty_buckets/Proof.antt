@@ -1,6 +1,6 @@
 -- `pass::empty_buckets` meets its contract. Assumes nothing.
 use borrow.Author.Needs.{needs}
-use Rattle.figures.specs.Pass.{allEmpty}
+use Rattle.figures.specs.Buckets.{allEmpty}
 use Rattle.figures.proofs.pass.empty_buckets.Statement.{statement}
 use Rattle.figures.proofs.pass.empty_buckets.Tie as tie
 

@@ -1,84 +1,84 @@
--- `pass::references` meets its contract. The loop's invariant: the buckets, the table of last touches, Q and V are those after t steps. The
--- measure is what is left of the references. Assumes nothing.
+-- `pass::references` meets its contract. The loop's invariant: the buckets and the table of last touches are those after `steps` + t steps,
+-- and the sums have room for the others. The measure is what is left of the references. Assumes nothing.
 use borrow.Author.Needs.{needs}
-use Prim.Native.Nat.{_-_, _<_}
-use mathlib.Core.Path.{refl}
+use Prim.Native.Nat.{ℕ, _+_, _-_, _*_, _^_, _≤_, _<_}
+use mathlib.Core.List.{List, _++_}
+use mathlib.Core.Path.{_≡_}
 use native.Mathlib.Omega.{arith}
-use lib.ListN.{length, getD}
-use Rattle.model.specs.Sheets.{SheetValue, Valid, traceOf}
-use Rattle.figures.specs.Pass.{rowsOf, sheetApart, Limited}
-use Rattle.figures.proofs.Filling.{filling-room}
-use Rattle.figures.proofs.Passing.{valid-run, valid-ascending, Passing, passing-start, passing-step, passing-idle, passing-end}
-use Rattle.figures.proofs.Passing.{cost-room, volume-room}
-use Rattle.figures.proofs.Marks.{last-start}
-use Rattle.figures.proofs.Rates.{touch-placed}
-use Rattle.figures.proofs.Touches.{placed, placed-limited}
+use lib.ListN.{length, getD, length-append}
+use Rattle.model.specs.Sheets.{RunWithin, runOf}
+use Rattle.model.specs.Traces.{entry}
+use Rattle.model.specs.declared.PriceRow.{PriceRow}
+use Rattle.figures.specs.inner.Pass.{Limited, Roomy, RowsOf, passedAfter}
+use Rattle.figures.proofs.Filling.{roomy-touch, roomy-more}
+use Rattle.figures.proofs.Passing.{pass-step, pass-idle, entry-on}
+use Rattle.figures.proofs.Touches.{placed, placed-limited, touch-placed}
 use Rattle.figures.proofs.pass.references.Statement.{statement}
 use Rattle.figures.proofs.pass.references.Tie as tie
 
 abbrev Inv-loop : tie.InvT-loop
-Inv-loop kind a hs ds qs rates sizes refs buckets₀ last₀ cost₀ volume₀ t₀ buckets last cost volume t =
-    Passing (rowsOf hs ds) (traceOf (sheetApart kind a sizes hs ds refs)) t buckets last cost volume
+Inv-loop kind a rows qs rates sizes steps refs buckets₀ last₀ t₀ buckets last t =
+    (t ≤ length refs) × Roomy buckets (2 ^ 60 + t * 2 ^ 48)
+    × ((list : List PriceRow) → RowsOf a rows qs list → (before : List ℕ) → length before ≡ steps
+    → RunWithin (runOf kind a sizes (before ++ refs))
+    → record { buckets = buckets₀; last = last₀ } ≡ passedAfter list (runOf kind a sizes (before ++ refs)) steps
+    → record { buckets = buckets; last = last } ≡ passedAfter list (runOf kind a sizes (before ++ refs)) (steps + t))
 
 abbrev μ-loop : tie.MeasureT-loop
-μ-loop kind a hs ds qs rates sizes refs buckets₀ last₀ cost₀ volume₀ t₀ buckets last cost volume t = length refs - t
+μ-loop kind a rows qs rates sizes steps refs buckets₀ last₀ t₀ buckets last t = length refs - t
 
--- the function's entry, from a turn of the loop; the sheet is valid
-abbrev entry : tie.In-loop Inv-loop μ-loop → tie.Start Inv-loop μ-loop
-entry c = c .before .before .before .before .before .before .before .before .before .before
-
-abbrev args-sheet : tie.Start Inv-loop μ-loop → SheetValue
-args-sheet s =
-    sheetApart (s .args .kind) (s .args .a) (s .args .sizes .now) (s .args .hs .now) (s .args .ds .now) (s .args .refs .now)
-
-valid : (c : tie.In-loop Inv-loop μ-loop) → Valid (args-sheet (entry c))
-valid c = entry c .pre .1 .1 .1
+-- the function's entry, from a turn of the loop
+abbrev start : tie.In-loop Inv-loop μ-loop → tie.Start Inv-loop μ-loop
+start c = c .before .before .before .before .before .before .before .before
 
 -- the turn of the loop in which a segment is touched
 abbrev loop-of : tie.Then1 Inv-loop μ-loop → tie.In-loop Inv-loop μ-loop
 loop-of c = c .before .before
 
--- the touched segment is one of the sheet, so among those of the table
-is-segment : (c : tie.Then1 Inv-loop μ-loop)
-    → getD (entry (loop-of c) .args .refs .now) (loop-of c .before .loop .t) 0 < length (entry (loop-of c) .args .sizes .now)
-is-segment c = c .if1 .taken
+-- the steps are within the limits
+few : (c : tie.In-loop Inv-loop μ-loop) → start c .args .steps + c .before .loop .t < 2048
+few c = omega (arith, c .loop-test .taken, start c .pre .1 .few-steps)
 
-in-table : (c : tie.Then1 Inv-loop μ-loop) → getD (entry (loop-of c) .args .refs .now) (loop-of c .before .loop .t) 0 < 256
-in-table c = omega (arith, is-segment c, valid (loop-of c) .segs-within)
+-- the touched segment is among those of the table, and has a rate
+in-table : (c : tie.Then1 Inv-loop μ-loop) → getD (start (loop-of c) .args .refs .now) (loop-of c .before .loop .t) 0 < 256
+in-table c = omega (arith, c .if1 .taken, start (loop-of c) .pre .1 .few-segs)
 
--- it has a rate
 in-rates : (c : tie.Then1 Inv-loop μ-loop)
-    → getD (entry (loop-of c) .args .refs .now) (loop-of c .before .loop .t) 0 < length (entry (loop-of c) .args .rates .now)
-in-rates c = omega (arith, is-segment c, entry (loop-of c) .pre .1 .1 .0 .as-many)
+    → getD (start (loop-of c) .args .refs .now) (loop-of c .before .loop .t) 0 < length (start (loop-of c) .args .rates .now)
+in-rates c = omega (arith, c .if1 .taken, start (loop-of c) .pre .0 .1 .as-many)
 
 loop-holds : tie.Need-loop-holds Inv-loop μ-loop
 loop-holds c =
-    let s = c .before .before .before .before .before .before .before .before in
-    rw (c .before .empty-buckets .ensures, c .untouched .ensures) (passing-start _ _ (valid-run _ (s .pre .1 .1 .1)) _ (last-start (traceOf (args-sheet s)) (λ i. refl)))
-
-mul-i : tie.Need-mul-i Inv-loop μ-loop
-mul-i c = omega arith
-
-shared-slice-read-i : tie.Need-shared-slice-read-i Inv-loop μ-loop
-shared-slice-read-i c = omega arith
+    let s = c .before .before .before .before .before .before in
+    let same : s .args .steps + 0 ≡ s .args .steps = omega arith in (
+      omega arith,
+      roomy-more _ (2 ^ 60) (2 ^ 60 + 0 * 2 ^ 48) (omega arith) (s .pre .1 .roomy),
+      λ list of before at run is. rw same is,
+    )
 
 cast-i : tie.Need-cast-i Inv-loop μ-loop
-cast-i c = omega (arith, c .shared-slice-known7 .given (c .before .before .loop .t))
+cast-i c = omega (arith, c .shared-slice-known5 .given (c .before .before .loop .t))
 
-mul-z : tie.Need-mul-z Inv-loop μ-loop
-mul-z c = omega (arith, in-table c)
+add-step : tie.Need-add-step Inv-loop μ-loop
+add-step c = omega (arith, few (c .before))
 
-shared-slice-read-z : tie.Need-shared-slice-read-z Inv-loop μ-loop
-shared-slice-read-z c = is-segment (c .before)
+add-t : tie.Need-add-t Inv-loop μ-loop
+add-t c = omega (arith, few (c .before))
 
 mul-mark : tie.Need-mul-mark Inv-loop μ-loop
-mul-mark c = omega (arith, in-table (c .before))
+mul-mark c = omega (arith, in-table c)
 
 array-read-mark : tie.Need-array-read-mark Inv-loop μ-loop
-array-read-mark c = in-table (c .before)
+array-read-mark c = in-table c
+
+mul-touch-of : tie.Need-mul-touch-of Inv-loop μ-loop
+mul-touch-of c = omega (arith, in-table c)
+
+shared-slice-read-touch-of : tie.Need-shared-slice-read-touch-of Inv-loop μ-loop
+shared-slice-read-touch-of c = c .before .if1 .taken
 
 cast-touch-of : tie.Need-cast-touch-of Inv-loop μ-loop
-cast-touch-of c = omega arith
+cast-touch-of c = omega (arith, few (loop-of (c .before)))
 
 mul-bucket-of : tie.Need-mul-bucket-of Inv-loop μ-loop
 mul-bucket-of c = omega (arith, in-table (c .before .before))
@@ -87,100 +87,97 @@ shared-slice-read-bucket-of : tie.Need-shared-slice-read-bucket-of Inv-loop μ-l
 shared-slice-read-bucket-of c = in-rates (c .before .before .before)
 
 cast-bucket-of : tie.Need-cast-bucket-of Inv-loop μ-loop
-cast-bucket-of c = omega arith
+cast-bucket-of c = omega (arith, few (loop-of (c .before .before .before)))
 
 bucket-of-requires : tie.Need-bucket-of-requires Inv-loop μ-loop
 bucket-of-requires c κs =
     let l = c .before .before .before in
-    let s = entry (loop-of l) in (s .pre .1 .0 .listed, s .pre .1 .1 .0 .within _ (in-rates l))
-
-mul-b : tie.Need-mul-b Inv-loop μ-loop
-mul-b c = omega arith
-
-array-copy-out-b : tie.Need-array-copy-out-b Inv-loop μ-loop
-array-copy-out-b c = omega arith
+    let s = start (loop-of l) in (s .pre .0 .0, s .pre .0 .1 .within _ (in-rates l))
 
 -- the touch with its bucket
 touch-limited : (c : tie.After-bucket-of Inv-loop μ-loop) → Limited (placed (c .before .before .touch-of .result) (c .bucket-of .result))
 touch-limited c = placed-limited _ _ (c .before .before .touch-of .ensures .0) (c .bucket-of .ensures .0)
 
+-- a turn of the loop, from the place where the bucket is found
+abbrev turn : tie.After-bucket-of Inv-loop μ-loop → tie.Then1 Inv-loop μ-loop
+turn c = c .before .before .before .before
+
 add-touch-requires : tie.Need-add-touch-requires Inv-loop μ-loop
 add-touch-requires c κs =
     let d = c .before in
-    let l = d .before .before .before .before .before .before .before in
-    (filling-room _ _ _ _ (l .loop .inv .filling) _ (d .bucket-of .ensures .0) _, touch-limited d)
-
-mul-buckets : tie.Need-mul-buckets Inv-loop μ-loop
-mul-buckets c = omega arith
-
-array-set-from-buckets : tie.Need-array-set-from-buckets Inv-loop μ-loop
-array-set-from-buckets c = omega arith
+    let l = loop-of (turn d) in
+    (omega (arith, l .before .loop .inv .1 .each _ (d .bucket-of .ensures .0), few l), touch-limited d)
 
 add-last : tie.Need-add-last Inv-loop μ-loop
-add-last c = omega arith
+add-last c = omega (arith, few (loop-of (turn (c .before .before))))
 
 cast-last : tie.Need-cast-last Inv-loop μ-loop
-cast-last c = omega arith
+cast-last c = omega (arith, few (loop-of (turn (c .before .before))))
 
 mul-last : tie.Need-mul-last Inv-loop μ-loop
-mul-last c = omega (arith, in-table (c .before .before .before .before .before .before))
+mul-last c = omega (arith, in-table (turn (c .before .before)))
 
 array-write-last : tie.Need-array-write-last Inv-loop μ-loop
-array-write-last c = in-table (c .before .before .before .before .before .before)
+array-write-last c = in-table (turn (c .before .before))
 
-add-t : tie.Need-add-t Inv-loop μ-loop
-add-t c = omega arith
+-- the entry of the turn's step, for any entries before
+here : (c : tie.In-loop Inv-loop μ-loop) (before : List ℕ) → length before ≡ start c .args .steps
+    → entry (runOf (start c .args .kind) (start c .args .a) (start c .args .sizes .now) (before ++ start c .args .refs .now))
+    (start c .args .steps + c .before .loop .t)
+    ≡ getD (start c .args .refs .now) (c .before .loop .t) 0
+here c before at =
+    let s = start c in
+    entry-on (s .args .kind) (s .args .a) (s .args .sizes .now) before _ _ _ at (c .loop-test .taken)
 
--- a turn of the loop, from its end
-abbrev turn : tie.After-unit-cost Inv-loop μ-loop → tie.Then1 Inv-loop μ-loop
-turn c = c .before .before .before .before .before .before .before
-
-add-cost : tie.Need-add-cost Inv-loop μ-loop
-add-cost c =
-    let e = loop-of (turn c) in
-    record {
-      fits = cost-room _ _ (valid-run _ (valid e)) _ _ _ _ _ (e .before .loop .inv) (e .loop-test .taken) (is-segment (turn c)) _ (c .unit-cost .ensures);
-    }
-
-add-volume : tie.Need-add-volume Inv-loop μ-loop
-add-volume c =
-    let e = loop-of (turn c) in
-    record { fits = volume-room _ _ (valid-run _ (valid e)) _ _ _ _ _ (e .before .loop .inv) (e .loop-test .taken) (is-segment (turn c)) }
-
-cast-volume : tie.Need-cast-volume Inv-loop μ-loop
-cast-volume c = omega (arith, add-volume c)
-
-loop-less : tie.Need-loop-less Inv-loop μ-loop
-loop-less c = omega arith
+-- which is one of the run's
+within : (c : tie.In-loop Inv-loop μ-loop) (before : List ℕ) → length before ≡ start c .args .steps
+    → start c .args .steps + c .before .loop .t < length (before ++ start c .args .refs .now)
+within c before at = omega (arith, length-append before (start c .args .refs .now), c .loop-test .taken)
 
 loop-again : tie.Need-loop-again Inv-loop μ-loop
 loop-again c =
-    let d = c .before .before .before in
-    let e = loop-of (turn c) in
-    let s = entry e in
-    let v = valid e in
-    let here = is-segment (turn c) in
-    passing-step _ _ (valid-run _ v) _ _ _ _ _ (e .before .loop .inv) (e .loop-test .taken) here _ (touch-limited d)
-    (touch-placed _ _ _ _ _ (s .pre .0) (s .pre .1 .0) _ _ _ _ _ _ (v .a-within) (v .size-within _ here)
-    (omega (arith, e .loop-test .taken, v .refs-within)) (s .pre .1 .1 .0 .of-segment _ here) (d .before .before .touch-of .ensures .1)
-    (d .bucket-of .ensures .1) (valid-ascending _ v)) _ _ (c .before .add-touch .ensures) _ (c .unit-cost .ensures)
-
-add-t-2 : tie.Need-add-t-2 Inv-loop μ-loop
-add-t-2 c = omega arith
-
-loop-less-2 : tie.Need-loop-less-2 Inv-loop μ-loop
-loop-less-2 c = omega arith
+    let d = c .before .before in
+    let e = turn d in
+    let l = loop-of e in
+    let s = start l in
+    let lim = touch-limited d in
+    let t = l .before .loop .t in
+    let same : s .args .steps + (t + 1) ≡ s .args .steps + t + 1 = omega arith in (
+      omega (arith, l .loop-test .taken),
+      roomy-touch _ (2 ^ 60 + t * 2 ^ 48) (2 ^ 60 + (t + 1) * 2 ^ 48) (omega arith) (l .before .loop .inv .1) _ lim _
+          (c .add-touch .ensures),
+      λ list of before at run is.
+          rw same
+          (pass-step list _ _ _ _ (l .before .loop .inv .2 list of before at run is) run (within l before at) _ (here l before at)
+          (e .if1 .taken) _ lim
+          (touch-placed _ _ _ _ (of .quoted) _ _ _ (s .args .steps + t) _ _ (run .a-within) (run .size-within _ (e .if1 .taken))
+          (omega (arith, few l))
+          (s .pre .0 .1 .of-segment _ (e .if1 .taken)) (d .before .before .touch-of .ensures .1)
+          (rw (of .counted) (d .bucket-of .ensures .1))
+          (of .within))
+          _ (c .add-touch .ensures)),
+    )
 
 -- a step in which nothing is touched
 loop-again-2 : tie.Need-loop-again-2 Inv-loop μ-loop
 loop-again-2 c =
-    let e = c .before .before in
-    passing-idle _ _ (valid-run _ (valid e)) _ _ _ _ _ (e .before .loop .inv) (e .loop-test .taken) (c .if1 .left)
+    let l = c .before .before in
+    let s = start l in
+    let t = l .before .loop .t in
+    let same : s .args .steps + (t + 1) ≡ s .args .steps + t + 1 = omega arith in (
+      omega (arith, l .loop-test .taken),
+      roomy-more _ (2 ^ 60 + t * 2 ^ 48) (2 ^ 60 + (t + 1) * 2 ^ 48) (omega arith) (l .before .loop .inv .1),
+      λ list of before at run is.
+          rw same (pass-idle list _ _ _ _ (l .before .loop .inv .2 list of before at run is) (rw (here l before at) (c .if1 .left))),
+    )
 
 returns : tie.Need-returns Inv-loop μ-loop
 returns c =
-    let s = c .before .before .before .before .before .before .before .before .before .before in
-    passing-end _ _ (valid-run _ (s .pre .1 .1 .1)) _ _ _ _ _ (c .before .loop .inv) (c .loop-test .left)
+    let s = c .before .before .before .before .before .before .before .before in
+    λ list of before at run is.
+    let all : s .args .steps + c .before .loop .t ≡ length (before ++ s .args .refs .now) =
+    omega (arith, length-append before (s .args .refs .now), at, c .before .loop .inv .0, c .loop-test .left) in
+    rw all at (c .before .loop .inv .2 list of before at run is)
 
 pub references-spec : {M : Type 1} → statement M
 references-spec =
@@ -188,39 +185,33 @@ references-spec =
     (tie.spec
     Inv-loop
     μ-loop
-    (λ c κs. search needs)
-    (λ c κs. search needs)
     loop-holds
-    mul-i
-    shared-slice-read-i
+    (λ c. search needs)
+    (λ c. search needs)
     cast-i
-    mul-z
-    shared-slice-read-z
+    add-step
+    add-t
     mul-mark
     array-read-mark
+    mul-touch-of
+    shared-slice-read-touch-of
     cast-touch-of
     (λ c κs. search needs)
     mul-bucket-of
     shared-slice-read-bucket-of
     cast-bucket-of
     bucket-of-requires
-    mul-b
-    array-copy-out-b
+    (λ c. search needs)
+    (λ c. search needs)
     add-touch-requires
-    mul-buckets
-    array-set-from-buckets
+    (λ c. search needs)
+    (λ c. search needs)
     add-last
     cast-last
     mul-last
     array-write-last
-    add-t
-    (λ c κs. search needs)
-    add-cost
-    cast-volume
-    add-volume
-    loop-less
+    (λ c. search needs)
     loop-again
-    add-t-2
-    loop-less-2
+    (λ c. search needs)
     loop-again-2
     returns)

@@ -1,87 +1,99 @@
--- `pass::tally` meets its contract: what is split and lent is the rows. Assumes nothing.
+-- `pass::tally` meets its contract: the pass starts with empty buckets and no segment touched. Assumes nothing.
 use borrow.Author.Needs.{needs}
-use mathlib.Core.Path.{_≡_, sym, _∙_}
+use Prim.Native.Nat.{_^_}
+use mathlib.Core.List.{[]}
+use mathlib.Core.Path.{_≡_, refl, ap}
 use native.Mathlib.Omega.{arith}
-use lib.ListN.{length, take}
+use lib.ListN.{take}
 use lib.Seq.{length-take-le}
-use Rattle.figures.specs.Pass.{rowsOf, Paired}
-use Rattle.figures.proofs.PriceRows.{rows-apart, h-length, d-length}
+use Rattle.model.specs.Sheets.{runOf}
+use Rattle.figures.specs.Buckets.{tallyOf}
+use Rattle.figures.specs.inner.Pass.{RowsOf, passedOf, passedAfter}
+use Rattle.figures.specs.declared.pass.Passed.{Passed}
+use Rattle.figures.proofs.Filling.{roomy-start, roomy-more}
+use Rattle.figures.proofs.Passing.{pass-start}
 use Rattle.figures.proofs.pass.tally.Statement.{statement}
 use Rattle.figures.proofs.pass.tally.Tie as tie
 
-prices-length : (c : tie.Start) → length (c .args .prices) ≡ 64
-prices-length c = search needs
+-- the function's entry, from the quotients
+abbrev start : tie.After-quotients → tie.Start
+start c = c .before .before .before
 
-h-apart : (c : tie.After-split) → length (c .split .result .h) ≡ 64
-h-apart c =
-    let s = c .before .before .before in
-    h-length (s .args .prices) (c .split .result) (c .split .ensures) ∙ prices-length s
+-- the quotients are those of the rows
+of-rows : (c : tie.After-quotients)
+    → RowsOf (start c .args .a) (start c .args .rows) (c .quotients .result) (take (start c .args .rows) (start c .args .prices))
+of-rows c =
+    let s = start c in
+    record {
+      quoted = c .quotients .ensures .0;
+      within = s .pre .1;
+      counted = length-take-le (s .args .rows) (s .args .prices) (omega (arith, s .good, s .pre .0));
+    }
 
-d-apart : (c : tie.After-split) → length (c .split .result .d) ≡ 64
-d-apart c =
-    let s = c .before .before .before in
-    d-length (s .args .prices) (c .split .result) (c .split .ensures) ∙ prices-length s
-
-rows-are : (c : tie.After-split)
-    → rowsOf (take (c .before .before .before .args .rows) (c .split .result .h))
-    (take (c .before .before .before .args .rows) (c .split .result .d))
-    ≡ take (c .before .before .before .args .rows) (c .before .before .before .args .prices)
-rows-are c =
-    let s = c .before .before .before in
-    rows-apart (s .args .prices) (c .split .result) (c .split .ensures) (s .args .rows)
-
-array-share-prefix-h : tie.Need-array-share-prefix-h
-array-share-prefix-h c = omega (arith, h-apart (c .before .before))
-
-slice-aggregate-hs : tie.Need-slice-aggregate-hs
-slice-aggregate-hs c = sym (length-take-le _ _ (array-share-prefix-h (c .before)))
-
-array-share-prefix-d : tie.Need-array-share-prefix-d
-array-share-prefix-d c = omega (arith, d-apart (c .before .before .before))
-
-slice-aggregate-ds : tie.Need-slice-aggregate-ds
-slice-aggregate-ds c = sym (length-take-le _ _ (array-share-prefix-d (c .before)))
-
--- the prices lent are as many as the rows
-paired : (c : tie.After-d2)
-    → Paired (take (c .before .before .before .before .before .before .before .args .rows) (c .before .before .before .before .split .result .h))
-    (take (c .before .before .before .before .before .before .before .args .rows) (c .before .before .before .before .split .result .d))
-paired c =
-    let s = c .before .before .before .before .before .before .before in
-    let h = slice-aggregate-hs (c .before) in
-    let d = slice-aggregate-ds c in record { equal = sym h ∙ d; few = omega (arith, h, s .pre .0) }
-
-quotients-requires : tie.Need-quotients-requires
-quotients-requires c κs = paired c
-
-rates-requires : tie.Need-rates-requires
-rates-requires c κs = c .before .before .before .before .before .before .before .before .pre .1 .segs-within
-
-tally-apart-requires : tie.Need-tally-apart-requires
-tally-apart-requires c κs =
-    let r = c .before .before in
+references-requires : tie.Need-references-requires
+references-requires c κs =
+    let r = c .before .before .before .before in
     let q = r .before in
-    let d = q .before in
-    let a = d .before .before .before .before in
-    let s = a .before .before .before in
-    (paired d, (q .quotients .ensures, (r .rates .ensures, rw (rows-are a) (s .pre .1))))
+    let run = start q .pre .2 in (
+      (q .quotients .ensures .1, r .rates .ensures),
+      record {
+        roomy = rw (c .before .empty-buckets .ensures) (roomy-more _ 0 (2 ^ 60) (omega arith) roomy-start);
+        few-segs = run .segs-within;
+        few-steps = omega (arith, run .refs-within);
+      },
+    )
+
+slice-aggregate-ends : tie.Need-slice-aggregate-ends
+slice-aggregate-ends c = search needs
+
+ends-requires : tie.Need-ends-requires
+ends-requires c κs =
+    let r = c .before .before .before .before .before .before .before .before in
+    let q = r .before in
+    let run = start q .pre .2 in (
+      (q .quotients .ensures .1, r .rates .ensures),
+      (run .segs-within, omega (arith, slice-aggregate-ends c, run .segs-within)),
+    )
+
+-- the pass over all references
+passed : (c : tie.After-references)
+    → c .references .result
+    ≡ passedOf
+    (take (start (c .before .before .before .before .before .before) .args .rows)
+    (start (c .before .before .before .before .before .before) .args .prices))
+    (runOf
+    (start (c .before .before .before .before .before .before) .args .kind)
+    (start (c .before .before .before .before .before .before) .args .a)
+    (start (c .before .before .before .before .before .before) .args .sizes .now)
+    (start (c .before .before .before .before .before .before) .args .refs .now))
+passed c =
+    let u = c .before in
+    let q = u .before .before .before .before .before in
+    c .references .ensures _ (of-rows q) [] refl (start q .pre .2)
+    (rw (u .before .empty-buckets .ensures, u .untouched .ensures) (pass-start _ _ (λ i. refl)))
 
 returns : tie.Need-returns
+unfolding tallyOf passedAfter
 returns c =
-    rw (← rows-are (c .before .before .before .before .before .before .before .before .before)) (c .tally-apart .ensures)
+    let p = c .before .before .before .before in
+    let q = p .before .before .before .before .before .before in
+    rw (
+      ap (λ (x : Passed). x .buckets) (passed p),
+      c .ends .ensures _ (of-rows q) _ refl (start q .pre .2) (ap (λ (x : Passed). x .last) (passed p)),
+    ) refl
 
 pub tally-spec : {M : Type 1} → statement M
 tally-spec =
     tie.close
     (tie.spec
     (λ c κs. search needs)
-    array-share-prefix-h
-    slice-aggregate-hs
-    array-share-prefix-d
-    slice-aggregate-ds
-    quotients-requires
-    rates-requires
+    (λ c κs. search needs)
     (λ c. search needs)
     (λ c. search needs)
-    tally-apart-requires
+    (λ c κs. search needs)
+    (λ c κs. search needs)
+    references-requires
+    (λ c. search needs)
+    slice-aggregate-ends
+    ends-requires
     returns)

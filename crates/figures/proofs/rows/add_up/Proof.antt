@@ -4,7 +4,7 @@ use mathlib.Core.Path.{_≡_, _∙_, sym}
 use native.Mathlib.Numerals.{add-one}
 use native.Mathlib.Omega.{arith}
 use borrow.Author.Needs.{needs}
-use Rattle.figures.specs.Sweep.{summed}
+use Rattle.figures.specs.inner.Sweep.{summed}
 use Rattle.figures.proofs.Sweeps.{summed-none, summed-suc, summed-more}
 use Rattle.figures.proofs.rows.add_up.Statement.{statement}
 use Rattle.figures.proofs.rows.add_up.Tie as tie
@@ -18,23 +18,11 @@ abbrev μ-loop : tie.MeasureT-loop
 loop-holds : tie.Need-loop-holds Inv-loop μ-loop
 loop-holds c = (omega arith, c .none .ensures ∙ sym (summed-none (c .before .args .t1)))
 
-mul-b : tie.Need-mul-b Inv-loop μ-loop
-mul-b c = omega arith
-
-array-copy-out-b : tie.Need-array-copy-out-b Inv-loop μ-loop
-array-copy-out-b c = omega arith
-
 add-requires : tie.Need-add-requires Inv-loop μ-loop
 add-requires c κs =
     let s = c .before .before .before .before in
     let k = c .before .before .loop .k in
     rw (c .before .before .loop .inv .1, ← summed-suc (s .args .t1) k) (s .pre (suc k) (omega arith))
-
-add-k : tie.Need-add-k Inv-loop μ-loop
-add-k c = omega arith
-
-loop-less : tie.Need-loop-less Inv-loop μ-loop
-loop-less c = omega arith
 
 loop-again : tie.Need-loop-again Inv-loop μ-loop
 loop-again c =
@@ -53,10 +41,10 @@ add-up-spec =
     μ-loop
     (λ c κs. search needs)
     loop-holds
-    mul-b
-    array-copy-out-b
+    (λ c. search needs)
+    (λ c. search needs)
     add-requires
-    add-k
-    loop-less
+    (λ c. search needs)
+    (λ c. search needs)
     loop-again
     returns)

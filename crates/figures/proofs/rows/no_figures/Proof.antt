@@ -1,7 +1,7 @@
 -- `figures::rows::no_figures` meets its contract. Assumes nothing.
 use mathlib.Core.Path.{refl}
 use Rattle.model.specs.Sums.{tabulate}
-use Rattle.figures.specs.Sweep.{noRowFigures}
+use Rattle.figures.specs.inner.Sweep.{noRowFigures}
 use borrow.Author.Needs.{needs}
 use Rattle.figures.proofs.rows.no_figures.Statement.{statement}
 use Rattle.figures.proofs.rows.no_figures.Tie as tie

@@ -6,7 +6,7 @@ use native.Mathlib.Omega.{arith}
 use borrow.Author.Needs.{needs}
 use Rattle.model.specs.declared.LoadUnits.{LoadUnits}
 use Rattle.model.proofs.Bounds.{product-within}
-use Rattle.figures.specs.Sweep.{rowFrom, loadFrom}
+use Rattle.figures.specs.inner.Sweep.{rowFrom, loadFrom}
 use Rattle.figures.proofs.Sweeps.{byKind-within}
 use Rattle.figures.proofs.rows.row_figures.Statement.{statement}
 use Rattle.figures.proofs.rows.row_figures.Tie as tie

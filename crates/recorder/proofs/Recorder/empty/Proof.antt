@@ -1,14 +1,13 @@
 -- `Recorder::empty` meets its contract. Assumes nothing.
-use mathlib.Core.Path.{refl}
+use mathlib.Core.Path.{refl, _∙_}
 use borrow.Author.Needs.{needs}
-use Rattle.model.specs.Values.{zeros, zeroRows}
 use Rattle.recorder.specs.Recorders.{emptyRecorder}
 use Rattle.recorder.proofs.Recorder.empty.Statement.{statement}
 use Rattle.recorder.proofs.Recorder.empty.Tie as tie
 
 returns : tie.Need-returns
-unfolding emptyRecorder zeros zeroRows
-returns c = rw (c .empty-buckets .ensures, c .before .untouched .ensures) refl
+unfolding emptyRecorder
+returns c = c .begin .ensures ∙ rw (c .before .empty .ensures) refl
 
 pub empty-spec : {M : Type 1} → statement M
 empty-spec = tie.close (tie.spec (λ c κs. search needs) (λ c κs. search needs) returns)

@@ -16,7 +16,8 @@ take-one-requires c κs = (omega (arith, c .before .before .if1 .left, c .before
 
 returns-3 : tie.Need-returns-3
 returns-3 c = let d = c .before in
-    accepted _ _ _ (omega (arith, d .before .before .if1 .left, d .before .before .before .least .ensures)) (d .if2 .left) (c .take-one .ensures)
+    accepted _ _ _ (omega (arith, d .before .before .if1 .left, d .before .before .before .least .ensures)) (d .if2 .left)
+    (c .take-one .ensures)
 
 pub touch-spec : {M : Type 1} → statement M
 touch-spec = tie.close (tie.spec (λ c κs. search needs) returns returns-2 take-one-requires returns-3)

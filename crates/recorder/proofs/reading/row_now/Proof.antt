@@ -6,14 +6,14 @@ use Rattle.recorder.proofs.reading.row_now.Tie as tie
 
 returns : tie.Need-returns
 returns c = let p = c .before .before .before .before in
-    let s = p .before .before .before .before in
+    let s = p .before .before .before .before .before in
     swept-stands (s .args .recorder) (s .args .row) _ (s .pre)
     (record {
-      ended = p .before .before .before .ends-now .result;
+      ended = p .before .before .before .before .ends-now .result;
       all = p .sum-first .result;
       kept = c .before .before .before .sum-first2 .result;
       ends = c .before .before .sum-first3 .result;
-      ended-are = p .before .before .before .ends-now .ensures;
+      ended-are = p .before .before .before .before .ends-now .ensures;
       all-is = p .sum-first .ensures;
       kept-is = c .before .before .before .sum-first2 .ensures;
       ends-is = c .before .before .sum-first3 .ensures;

@@ -2,7 +2,7 @@
 use native.Mathlib.Omega.{arith}
 use borrow.Author.Needs.{needs}
 use Rattle.recorder.proofs.RowNow.{summable-of}
-use Rattle.recorder.proofs.Telling.{failed, passed}
+use Rattle.guards.proofs.Telling.{failed, passed}
 use Rattle.recorder.proofs.reading.row_of.Statement.{statement}
 use Rattle.recorder.proofs.reading.row_of.Tie as tie
 

@@ -1,7 +1,7 @@
 -- `recorder::reading::summable` meets its contract. Assumes nothing.
 use native.Mathlib.Omega.{arith}
 use borrow.Author.Needs.{needs}
-use Rattle.recorder.proofs.Telling.{tells-false, failed, passed}
+use Rattle.guards.proofs.Telling.{tells-false, failed, passed}
 use Rattle.recorder.proofs.reading.summable.Statement.{statement}
 use Rattle.recorder.proofs.reading.summable.Tie as tie
 

@@ -1,11 +1,13 @@
 -- `kept_marks` meets its contract: the invariant of its loop is `Marked`, the measure the steps that are left. Assumes nothing.
 use Prim.Native.Nat.{_-_, _<_}
-use mathlib.Core.Path.{refl}
+use mathlib.Core.Path.{refl, sym, _∙_}
 use native.Mathlib.Omega.{arith}
 use lib.ListN.{length, getD}
 use denote.Ref.{now}
 use borrow.Author.Needs.{needs}
-use Rattle.schedule.specs.Requires.{runOf}
+use Rattle.model.specs.Traces.{Trace}
+use Rattle.model.specs.Sheets.{runOf}
+use Rattle.model.proofs.LastTouches.{lastTable-start}
 use Rattle.schedule.proofs.Marks.{Marked, marked-start, marked-step, marked-idle}
 use Rattle.schedule.proofs.writing.kept_marks.Statement.{statement}
 use Rattle.schedule.proofs.writing.kept_marks.Tie as tie
@@ -22,15 +24,20 @@ Entry c = c .before .before .before .before .before .before
 
 -- the reference of a turn is a segment
 is-segment : (c : tie.Then1 Inv-loop μ-loop)
-    → getD (now (Entry (c .before .before) .args .refs)) (c .before .before .before .loop .t) 0 < length (now (Entry (c .before .before) .args .sizes))
+    → let a = Entry (c .before .before) .args in
+    getD (now (a .refs)) (c .before .before .before .loop .t) 0 < length (now (a .sizes))
 is-segment c = c .if1 .taken
+
+-- the run that the function is called with
+abbrev Run : tie.Start Inv-loop μ-loop → Trace
+Run s = runOf (s .args .kind) (s .args .a) (now (s .args .sizes)) (now (s .args .refs))
 
 loop-holds : tie.Need-loop-holds Inv-loop μ-loop
 loop-holds c =
     let s = c .before .before .before .before in
-    let a = s .args in
-    rw (c .before .no-marks .ensures, c .untouched .ensures)
-    (marked-start (a .kind) (a .a) (a .row) (now (a .sizes)) (now (a .refs)) (s .pre))
+    rw (c .before .no-marks .ensures)
+    (marked-start (Run s) (s .args .row) (s .pre .segs-within) (s .pre .refs-within) (c .untouched .result)
+    (c .untouched .ensures ∙ sym (lastTable-start (Run s) (λ i. refl))))
 
 cast-i : tie.Need-cast-i Inv-loop μ-loop
 cast-i c = omega (arith, c .shared-slice-known3 .given (c .before .before .loop .t))
@@ -67,19 +74,16 @@ loop-again c =
     let touch = c .before .before in
     let turn = touch .before .before in
     let s = Entry turn in
-    let a = s .args in
     let l = turn .before .loop in
     marked-step
-    (a .kind)
-    (a .a)
-    (a .row)
-    (now (a .sizes))
-    (now (a .refs))
-    (s .pre)
+    (Run s)
+    (s .args .row)
+    (s .pre .segs-within)
+    (s .pre .refs-within)
     (l .marks)
     (l .last)
     (l .t)
-    (getD (now (a .refs)) (l .t) 0)
+    (getD (now (s .args .refs)) (l .t) 0)
     (c .touch-kept .result)
     (l .inv)
     (turn .loop-test .taken)
@@ -91,9 +95,8 @@ loop-again-2 : tie.Need-loop-again-2 Inv-loop μ-loop
 loop-again-2 c =
     let turn = c .before .before in
     let s = Entry turn in
-    let a = s .args in
     let l = turn .before .loop in
-    marked-idle (a .kind) (a .a) (a .row) (now (a .sizes)) (now (a .refs)) (s .pre) (l .marks) (l .last) (l .t) (l .inv)
+    marked-idle (Run s) (s .args .row) (s .pre .segs-within) (s .pre .refs-within) (l .marks) (l .last) (l .t) (l .inv)
     (turn .loop-test .taken) (c .if1 .left)
 
 returns : tie.Need-returns Inv-loop μ-loop

@@ -3,7 +3,7 @@
 use lib.Bits.{and-le-l, or-lt, or-add-and}
 use native.Mathlib.Omega.{arith}
 use mathlib.Core.Path.{refl}
-use Rattle.schedule.specs.Writing.{masked}
+use Rattle.schedule.specs.inner.Writing.{masked}
 use Rattle.schedule.proofs.writing.masked.Statement.{statement}
 use Rattle.schedule.proofs.writing.masked.Tie as tie
 

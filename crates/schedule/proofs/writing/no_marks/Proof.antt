@@ -1,5 +1,5 @@
 -- `no_marks` meets its contract. Assumes nothing.
-use Rattle.schedule.specs.Writing.{noMarks}
+use Rattle.schedule.specs.inner.Writing.{noMarks}
 use mathlib.Core.Path.{refl}
 use Rattle.schedule.proofs.writing.no_marks.Statement.{statement}
 use Rattle.schedule.proofs.writing.no_marks.Tie as tie

@@ -1,5 +1,5 @@
 -- `no_masks` meets its contract. Assumes nothing.
-use Rattle.schedule.specs.Writing.{noMasks}
+use Rattle.schedule.specs.inner.Writing.{noMasks}
 use mathlib.Core.Path.{refl}
 use Rattle.schedule.proofs.writing.no_masks.Statement.{statement}
 use Rattle.schedule.proofs.writing.no_masks.Tie as tie

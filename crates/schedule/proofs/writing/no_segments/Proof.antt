@@ -1,5 +1,5 @@
 -- `no_segments` meets its contract. Assumes nothing.
-use Rattle.schedule.specs.Writing.{noSegments}
+use Rattle.schedule.specs.inner.Writing.{noSegments}
 use mathlib.Core.Path.{refl}
 use Rattle.schedule.proofs.writing.no_segments.Statement.{statement}
 use Rattle.schedule.proofs.writing.no_segments.Tie as tie

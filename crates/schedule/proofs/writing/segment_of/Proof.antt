@@ -1,5 +1,4 @@
 -- `writing::segment_of` meets its contract. Assumes nothing.
-use mathlib.Core.Path.{sym}
 use borrow.Author.Tests.{lt-ltb, le-ltb}
 use Rattle.schedule.proofs.writing.segment_of.Statement.{statement}
 use Rattle.schedule.proofs.writing.segment_of.Tie as tie

@@ -5,18 +5,12 @@ use Rattle.model.proofs.Charges.{ranges, charge-within, bill-raised, bi
 use Rattle.model.proofs.tariff.Tariff.bill.Statement.{statement}
 use Rattle.model.proofs.tariff.Tariff.bill.Tie as tie
 
-started-thousands-requires : tie.Need-started-thousands-requires
-started-thousands-requires c κs = search needs
-
 mul-for-memory : tie.Need-mul-for-memory
 mul-for-memory c =
     let s = c .before .before in
     let m = c .before .started-thousands in
     let fit = ranges (s .args .self) (s .pre .2) in
     omega (arith, charge-within (s .args .memory .0) (m .result) (s .args .self .«memory_rate») (s .pre .0) (m .ensures) (fit .memory))
-
-started-thousands-requires-2 : tie.Need-started-thousands-requires-2
-started-thousands-requires-2 c κs = search needs
 
 mul-for-load : tie.Need-mul-for-load
 mul-for-load c =
@@ -55,9 +49,9 @@ pub bill-spec : {M : Type 1} → statement M
 bill-spec =
     tie.close
     (tie.spec
-    started-thousands-requires
+    (λ c κs. search needs)
     mul-for-memory
-    started-thousands-requires-2
+    (λ c κs. search needs)
     mul-for-load
     add-charge
     returns

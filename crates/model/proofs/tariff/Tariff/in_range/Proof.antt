@@ -1,5 +1,4 @@
 -- `Tariff::in_range` meets its contract, test by test. Assumes nothing.
-use borrow.Author.Needs.{needs}
 use borrow.Author.Tests.{le-leb, lt-leb}
 use Rattle.model.specs.Tariff.{largestRate}
 use Rattle.model.proofs.tariff.Tariff.in_range.Statement.{statement}

@@ -1,0 +1,38 @@
+-- `figures::figures` meets its contract: the sizes lent are those that the head counts. Assumes nothing.
+use borrow.Author.Needs.{needs}
+use mathlib.Core.Path.{_≡_, sym}
+use native.Mathlib.Omega.{arith}
+use lib.ListN.{length}
+use lib.Seq.{length-take-le}
+use Rattle.model.specs.Values.{headValueOf}
+use Rattle.figures.proofs.figures.Statement.{statement}
+use Rattle.figures.proofs.figures.Tie as tie
+
+sizes-length : (s : tie.Start) → length (s .args .head .sizes) ≡ 256
+sizes-length s = search needs
+
+array-share-prefix-all-sizes : tie.Need-array-share-prefix-all-sizes
+array-share-prefix-all-sizes c =
+    let s = c .before .before .before in omega (arith, sizes-length s, s .pre .0)
+
+slice-aggregate-sizes : tie.Need-slice-aggregate-sizes
+slice-aggregate-sizes c = sym (length-take-le _ _ (array-share-prefix-all-sizes (c .before)))
+
+tally-requires : tie.Need-tally-requires
+unfolding headValueOf
+tally-requires c κs =
+    let v = c .before .before .before .before .pre in (v .1, v .2 .rows, v .2 .run)
+
+all-rows-requires : tie.Need-all-rows-requires
+unfolding headValueOf
+all-rows-requires c κs =
+    let v = c .before .before .before .before .before .pre in
+    (v .1, record { rows-ok = v .2 .rows; run-ok = v .2 .run; is-tally = c .tally .ensures })
+
+returns : tie.Need-returns
+unfolding headValueOf
+returns c = c .all-rows .ensures
+
+pub figures-spec : {M : Type 1} → statement M
+figures-spec =
+    tie.close (tie.spec array-share-prefix-all-sizes slice-aggregate-sizes tally-requires all-rows-requires returns)

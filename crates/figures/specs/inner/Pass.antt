@@ -1,0 +1,114 @@
+-- What the functions of the single pass give: a touch with its bucket, the table of last touches, and buckets filled touch by touch.
+-- Assumes nothing.
+use Prim.Native.Nat.{ℕ, _+_, _*_, _^_, _≤_, _<_}
+use mathlib.Core.Path.{_≡_}
+use mathlib.Core.Bool.{cond}
+use mathlib.Core.List.{List, _++_}
+use mathlib.Core.Option.{Option}
+use lib.ListN.{length, getD}
+use Rattle.model.specs.Costs.{swapCost, retention}
+use Rattle.model.specs.Sums.{tabulate}
+use Rattle.model.specs.Traces.{Trace, steps}
+use Rattle.model.specs.Figures.{ofTime, isReuse}
+use Rattle.model.specs.Sheets.{RowsWithin, RunWithin, runOf, mostSegs, mostRefs}
+use Rattle.model.specs.declared.Kind.{Kind}
+use Rattle.model.specs.declared.PriceRow.{PriceRow}
+use Rattle.model.specs.LastTouches.{lastTable}
+use Rattle.figures.specs.Buckets.{bucketCount, bucketAfter, tallyOf, noBucket}
+use Rattle.search.specs.FirstRow.{lastBucket, firstRow}
+use Rattle.search.specs.inner.Quotients.{unitsFor, Quoted}
+use Rattle.figures.specs.declared.Bucket.{Bucket}
+use Rattle.figures.specs.declared.pass.Touch.{Touch}
+use Rattle.figures.specs.declared.pass.Passed.{Passed}
+
+-- a touch of a segment of size z with unreferenced time o, or its end interval, before its bucket is looked for: with the last
+unfoldable pub unplaced : Kind → ℕ → ℕ → Option ℕ → Touch
+unplaced kind a z o =
+    record {
+      reuse = isReuse o;
+      size = z;
+      retention = ofTime (retention kind z) o;
+      swap = swapCost a z;
+      bucket = lastBucket;
+    }
+
+-- a touch of a segment of size z with unreferenced time o, or its end interval
+unfoldable pub touchOf : Kind → ℕ → List PriceRow → ℕ → Option ℕ → Touch
+touchOf kind a rows z o =
+    record {
+      reuse = isReuse o;
+      size = z;
+      retention = ofTime (retention kind z) o;
+      swap = swapCost a z;
+      bucket = cond (isReuse o) (firstRow rows 0 (ofTime (retention kind z) o) (swapCost a z)) lastBucket;
+    }
+
+-- the limits of a touch, whatever the rows
+pub record Limited (x : Touch) : Type 0 where
+  pub is-bucket : x .bucket ≤ lastBucket
+  pub size-within : x .size < 2 ^ 16
+  pub retention-within : x .retention < 2 ^ 32
+  pub swap-within : x .swap < 2 ^ 32
+
+-- a bucket with one more touch
+abbrev pub withTouch : Bucket → Touch → Bucket
+withTouch b x =
+    record {
+      count = b .count + 1;
+      volume = b .volume + x .size;
+      retention = b .retention + x .retention;
+      swap = b .swap + x .swap;
+      retentionz = b .retentionz + x .retention * x .size;
+      swapz = b .swapz + x .swap * x .size;
+    }
+
+-- a bucket with one more end interval; a never-touched segment has none
+abbrev pub withEnd : Bucket → Touch → Bucket
+withEnd b x = cond (x .reuse) (withTouch b x) b
+
+-- every sum of a bucket is within m
+pub record Within (b : Bucket) (m : ℕ) : Type 0 where
+  pub count : b .count ≤ m
+  pub volume : b .volume ≤ m
+  pub retention : b .retention ≤ m
+  pub swap : b .swap ≤ m
+  pub retentionz : b .retentionz ≤ m
+  pub swapz : b .swapz ≤ m
+
+-- every sum of every bucket is within m
+pub record Roomy (buckets : List Bucket) (m : ℕ) : Type 0 where
+  pub each : (k : ℕ) → k ≤ lastBucket → Within (getD buckets k noBucket) m
+
+-- what the pass has after n steps, and after all
+unfoldable pub passedAfter : List PriceRow → Trace → ℕ → Passed
+passedAfter rows T n = record { buckets = tabulate bucketCount (bucketAfter rows T n); last = lastTable T n }
+
+abbrev pub passedOf : List PriceRow → Trace → Passed
+passedOf rows T = passedAfter rows T (steps T)
+
+-- what a pass can go on from, whatever it holds: no sum exceeds 64 bits in 2,048 steps; `segs` segments and n + m steps are within the
+-- limits
+pub record Passable (p : Passed) (segs n m : ℕ) : Type 0 where
+  pub roomy : Roomy (p .buckets) (2 ^ 60)
+  pub few-segs : segs ≤ mostSegs
+  pub few-steps : n + m ≤ mostRefs
+
+-- `count` rows such as a sheet has, the quotients of which are qs
+pub record RowsOf (a count : ℕ) (qs : List ℕ) (rows : List PriceRow) : Type 0 where
+  pub quoted : Quoted (unitsFor a) rows qs
+  pub within : RowsWithin rows
+  pub counted : length rows ≡ count
+
+-- r is what the pass has after all entries of a run, where p is what it has after the first n: those `before`, which are not at hand, and
+-- then refs. Of the rows only the quotients are at hand
+abbrev pub PassedOn : Kind → ℕ → List ℕ → ℕ → List ℕ → ℕ → List ℕ → Passed → Passed → Type 0
+PassedOn kind a sizes count qs n refs p r =
+    (rows : List PriceRow) → RowsOf a count qs rows → (before : List ℕ) → length before ≡ n
+    → RunWithin (runOf kind a sizes (before ++ refs)) → p ≡ passedAfter rows (runOf kind a sizes (before ++ refs)) n
+    → r ≡ passedOf rows (runOf kind a sizes (before ++ refs))
+
+-- the buckets of the end intervals of a run with n steps, the entries of which are not at hand, where `last` is its table of last touches
+abbrev pub EndedAt : Kind → ℕ → List ℕ → ℕ → List ℕ → ℕ → List ℕ → List Bucket → Type 0
+EndedAt kind a sizes count qs n last r =
+    (rows : List PriceRow) → RowsOf a count qs rows → (refs : List ℕ) → length refs ≡ n → RunWithin (runOf kind a sizes refs)
+    → last ≡ lastTable (runOf kind a sizes refs) n → r ≡ tallyOf rows (runOf kind a sizes refs) .ends

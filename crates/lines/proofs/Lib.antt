@@ -1,0 +1,4 @@
+pub mod Lengths
+pub mod Placing
+pub mod Putting
+pub mod Runs

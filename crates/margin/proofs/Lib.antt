@@ -1,0 +1,3 @@
+pub mod MarginResults
+pub mod Times
+pub mod TouchMargins

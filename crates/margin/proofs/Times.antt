@@ -1,0 +1,58 @@
+-- Unreferenced times by value: at the start, after one step more, and their range. Assumes nothing.
+use Prim.Native.Nat.{ℕ, suc, _+_, _≤_, _<_}
+use mathlib.Core.Path.{_≡_, refl, _∙_}
+use mathlib.Core.Bool.{Bool, true, false}
+use mathlib.Core.Option.{Option, none, some}
+use native.Mathlib.Numerals.{add-one}
+use native.Mathlib.Omega.{arith}
+use lib.Dec.{eqb}
+use lib.ListN.{getD}
+use Rattle.model.specs.Sheets.{SheetValue, traceOf}
+use Rattle.model.specs.Traces.{Trace, segs, entry, later, unreferenced}
+use Rattle.model.proofs.LastTouches.{unreferenced-within}
+use Rattle.model.proofs.Touches.{touched-entry, unreferenced-none, unreferenced-touched, unreferenced-later}
+use Rattle.model.specs.Values.{valueOf}
+use Rattle.model.specs.declared.Sheet.{Sheet}
+use Rattle.model.specs.Standing.{Standing}
+use Rattle.margin.specs.inner.Times.{timeOf, nextTime}
+use Rattle.margin.specs.declared.Unreferenced.{Unreferenced}
+use Rattle.model.proofs.Standing.{segs-counted, entry-of, entry-segment}
+
+-- no segment was touched before step 1
+pub time-start : (v : SheetValue) (i : ℕ) → timeOf (unreferenced (traceOf v) 0 i) ≡ timeOf none
+time-start v i = rw (unreferenced-none (traceOf v) i)
+
+later-time : (o : Option ℕ) → nextTime (timeOf o) false ≡ timeOf (later o)
+unfolding later
+later-time none = refl
+later-time (some k) = rw (add-one k)
+
+-- the time after one step more
+pub time-step : (T : Trace) (t i : ℕ) → i < segs T
+    → nextTime (timeOf (unreferenced T t i)) (eqb (entry T t) i) ≡ timeOf (unreferenced T (suc t) i)
+time-step T t i lt = go (eqb (entry T t) i) refl
+  where
+    go : (b : Bool) → eqb (entry T t) i ≡ b → nextTime (timeOf (unreferenced T t i)) (eqb (entry T t) i) ≡ timeOf (unreferenced T (suc t) i)
+    go true e = rw (e, unreferenced-touched T t i (touched-entry T t i lt ∙ e))
+    go false e = rw (e, unreferenced-later T t i (touched-entry T t i lt ∙ e)) (later-time (unreferenced T t i))
+
+-- a time is at most the number of steps
+pub time-within : (v : SheetValue) (t i : ℕ) (u : Unreferenced) → u ≡ timeOf (unreferenced (traceOf v) t i) → u .time ≤ t
+time-within v t i u same = rw same (go (unreferenced (traceOf v) t i) refl)
+  where
+    go : (o : Option ℕ) → unreferenced (traceOf v) t i ≡ o → timeOf o .time ≤ t
+    go none e = omega arith
+    go (some k) e = omega (arith, unreferenced-within (traceOf v) t i k e)
+
+-- the segment touched at place t of a standing sheet, by its arrays
+module _ (s : Sheet) (c : Standing s) (t : ℕ) (lt : t < s .refs) where
+  -- its time after n steps
+  abbrev pub timeAfter : ℕ → Unreferenced
+  timeAfter n = timeOf (unreferenced (traceOf (valueOf s)) n (getD (s .touches) t 0))
+
+  -- and after one step more
+  pub time-again : (n : ℕ) → n < t → (u : Unreferenced) → u ≡ timeAfter n
+      → nextTime u (eqb (getD (s .touches) n 0) (getD (s .touches) t 0)) ≡ timeAfter (n + 1)
+  time-again n le u e =
+      rw (e, add-one n, ← entry-of s c n (omega arith))
+      (time-step (traceOf (valueOf s)) n (getD (s .touches) t 0) (omega (arith, entry-segment s c t lt, segs-counted s c)))

@@ -1,0 +1,31 @@
+-- What is answered for the margin of a reference of a sheet: 7, 14, 15. Assumes nothing.
+use Prim.Native.Nat.{ℕ, pred}
+use mathlib.Core.Bool.{cond, _&&_}
+use lib.ListN.{length}
+use lib.Dec.{leb, ltb}
+use lib.IntN.{pos}
+use Rattle.model.specs.Figures.{isReuse, marginAt}
+use Rattle.model.specs.Sheets.{SheetValue, traceOf, rowAt}
+use Rattle.model.specs.Traces.{entry, unreferenced}
+use Rattle.model.specs.declared.Refusal.{Refusal}
+use Rattle.model.specs.declared.Refusal.the-variants.{NoSuchRow, NoSuchReference, FirstTouch}
+use Rattle.model.specs.declared.Verdict.the-variants.{Accepted, Refused}
+use Rattle.margin.specs.declared.MarginAnswer.{MarginAnswer}
+
+-- no margin: 0 beside the refusal
+abbrev pub noMargin : Refusal → MarginAnswer
+noMargin r = record { verdict = Refused r; margin = pos 0 }
+
+-- the margin of the touch at place t: 15 where it is a first touch
+unfoldable pub touchMargin : SheetValue → ℕ → ℕ → MarginAnswer
+touchMargin v r t =
+    cond (isReuse (unreferenced (traceOf v) t (entry (traceOf v) t)))
+    (record { verdict = Accepted; margin = marginAt (traceOf v) (rowAt v r .h) (rowAt v r .d) t (entry (traceOf v) t) })
+    (noMargin FirstTouch)
+
+-- the margin of the n-th reference, counted from 1, at row r of a sheet: 7, then 14, then 15
+unfoldable pub marginFor : SheetValue → ℕ → ℕ → MarginAnswer
+marginFor v r n =
+    cond (ltb r (length (v .head .rows)))
+    (cond (leb 1 n && leb n (length (v .refs))) (touchMargin v r (pred n)) (noMargin NoSuchReference))
+    (noMargin NoSuchRow)

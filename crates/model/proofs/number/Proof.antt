@@ -1,0 +1,68 @@
+-- `model::number` meets its contract, case by case: a case is told, and its number is that of the definition. A refusal more is a line more
+-- of each of the two kinds, in the order of the enum. Assumes nothing.
+use mathlib.Core.Path.{sym, ap}
+use borrow.Author.Needs.{needs}
+use Rattle.model.specs.Refusals.{numberOf}
+use Rattle.model.proofs.number.Statement.{statement}
+use Rattle.model.proofs.number.Tie as tie
+
+pub number-spec : {M : Type 1} → statement M
+number-spec =
+    tie.close
+    (tie.spec
+    (λ c. search needs)
+    (λ c. search needs)
+    (λ c. search needs)
+    (λ c. search needs)
+    (λ c. search needs)
+    (λ c. search needs)
+    (λ c. search needs)
+    (λ c. search needs)
+    (λ c. search needs)
+    (λ c. search needs)
+    (λ c. search needs)
+    (λ c. search needs)
+    (λ c. search needs)
+    (λ c. search needs)
+    (λ c. search needs)
+    (λ c. search needs)
+    (λ c. search needs)
+    (λ c. search needs)
+    (λ c. search needs)
+    (λ c. search needs)
+    (λ c. search needs)
+    (λ c. search needs)
+    (λ c. search needs)
+    (λ c. search needs)
+    (λ c. search needs)
+    (λ c. search needs)
+    (λ c. search needs)
+    (λ c. search needs)
+    (λ c. sym (ap numberOf (c .enum-told .given .1)))
+    (λ c. sym (ap numberOf (c .enum-told2 .given .1)))
+    (λ c. sym (ap numberOf (c .enum-told3 .given .1)))
+    (λ c. sym (ap numberOf (c .enum-told4 .given .1)))
+    (λ c. sym (ap numberOf (c .enum-told5 .given .1)))
+    (λ c. sym (ap numberOf (c .enum-told6 .given .1)))
+    (λ c. sym (ap numberOf (c .enum-told7 .given .1)))
+    (λ c. sym (ap numberOf (c .enum-told8 .given .1)))
+    (λ c. sym (ap numberOf (c .enum-told9 .given .1)))
+    (λ c. sym (ap numberOf (c .enum-told10 .given .1)))
+    (λ c. sym (ap numberOf (c .enum-told11 .given .1)))
+    (λ c. sym (ap numberOf (c .enum-told12 .given .1)))
+    (λ c. sym (ap numberOf (c .enum-told13 .given .1)))
+    (λ c. sym (ap numberOf (c .enum-told14 .given .1)))
+    (λ c. sym (ap numberOf (c .enum-told15 .given .1)))
+    (λ c. sym (ap numberOf (c .enum-told16 .given .1)))
+    (λ c. sym (ap numberOf (c .enum-told17 .given .1)))
+    (λ c. sym (ap numberOf (c .enum-told18 .given .1)))
+    (λ c. sym (ap numberOf (c .enum-told19 .given .1)))
+    (λ c. sym (ap numberOf (c .enum-told20 .given .1)))
+    (λ c. sym (ap numberOf (c .enum-told21 .given .1)))
+    (λ c. sym (ap numberOf (c .enum-told22 .given .1)))
+    (λ c. sym (ap numberOf (c .enum-told23 .given .1)))
+    (λ c. sym (ap numberOf (c .enum-told24 .given .1)))
+    (λ c. sym (ap numberOf (c .enum-told25 .given .1)))
+    (λ c. sym (ap numberOf (c .enum-told26 .given .1)))
+    (λ c. sym (ap numberOf (c .enum-told27 .given .1)))
+    (λ c. sym (ap numberOf (c .enum-told28 .given .1))))

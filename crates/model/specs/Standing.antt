@@ -1,0 +1,17 @@
+-- What a sheet by value that was accepted is known to be. Assumes nothing.
+use Prim.Native.Nat.{_≤_}
+use mathlib.Core.Path.{_≡_}
+use lib.ListN.{length}
+use Rattle.model.specs.Sheets.{Valid, mostSegs, mostRows, mostRefs}
+use Rattle.model.specs.Values.{valueOf}
+use Rattle.model.specs.declared.Sheet.{Sheet}
+
+-- a sheet by value that stands for a valid sheet's value: its counts are within its arrays, which have the largest lengths
+pub record Standing (s : Sheet) : Type 0 where
+  pub valid : Valid (valueOf s)
+  pub segs-within : s .head .segs ≤ mostSegs
+  pub rows-within : s .head .rows ≤ mostRows
+  pub refs-within : s .refs ≤ mostRefs
+  pub sizes-whole : length (s .head .sizes) ≡ mostSegs
+  pub prices-whole : length (s .head .prices) ≡ mostRows
+  pub touches-whole : length (s .touches) ≡ mostRefs

@@ -1,0 +1,4 @@
+pub mod PriceRows
+pub mod RecorderLists
+pub mod RecorderSums
+pub mod RowNumbers

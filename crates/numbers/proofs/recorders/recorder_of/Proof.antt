@@ -1,0 +1,28 @@
+-- `recorders::recorder_of` meets its contract. Assumes nothing.
+use mathlib.Core.Path.{refl}
+use borrow.Author.Needs.{needs}
+use Rattle.numbers.specs.Recorders.{recorderIn}
+use Rattle.numbers.proofs.recorders.recorder_of.Statement.{statement}
+use Rattle.numbers.proofs.recorders.recorder_of.Tie as tie
+
+returns : tie.Need-returns
+unfolding recorderIn
+returns c =
+    rw (c .before .before .before .before .before .before .before .before .before .before .before .before .before .kind-of .ensures, c .before .before .before .before .before .cut .ensures, c .before .before .before .before .before .before .before .before .before .before .rows-of .ensures, c .before .before .before .before .before .before .before .before .before .buckets-of .ensures) refl
+
+pub recorder-of-spec : {M : Type 1} → statement M
+recorder-of-spec =
+    tie.close
+    (tie.spec
+    (λ c. search needs)
+    (λ c κs. search needs)
+    (λ c κs. search needs)
+    (λ c κs. search needs)
+    (λ c. search needs)
+    (λ c κs. search needs)
+    (λ c. search needs)
+    (λ c. search needs)
+    (λ c. search needs)
+    (λ c. search needs)
+    (λ c. search needs)
+    returns)

@@ -1,0 +1,21 @@
+-- `recorders::store_head` meets its contract. Assumes nothing.
+use mathlib.Core.Path.{refl, ap}
+use Rattle.numbers.specs.declared.recorders.Prices.{Prices}
+use Rattle.numbers.specs.Recorders.{listsOf}
+use borrow.Author.Needs.{needs}
+use Rattle.numbers.proofs.recorders.store_head.Statement.{statement}
+use Rattle.numbers.proofs.recorders.store_head.Tie as tie
+
+returns : tie.Need-returns
+unfolding listsOf
+returns c =
+    let prices = c .before .before .before .before .before .split .ensures in
+    record {
+      head-is = rw (c .before .before .kind-number .ensures) refl;
+      sizes-are = refl;
+      h-are = ap (λ (p : Prices). p .h) prices;
+      d-are = ap (λ (p : Prices). p .d) prices;
+    }
+
+pub store-head-spec : {M : Type 1} → statement M
+store-head-spec = tie.close (tie.spec (λ c κs. search needs) (λ c κs. search needs) (λ c. search needs) returns)

@@ -1,0 +1,12 @@
+-- `recorders::store_taken` meets its contract. Assumes nothing.
+use borrow.Author.Needs.{needs}
+use Rattle.numbers.specs.Recorders.{listsOf}
+use Rattle.numbers.proofs.recorders.store_taken.Statement.{statement}
+use Rattle.numbers.proofs.recorders.store_taken.Tie as tie
+
+returns : tie.Need-returns
+unfolding listsOf
+returns c = search needs
+
+pub store-taken-spec : {M : Type 1} → statement M
+store-taken-spec = tie.close (tie.spec (λ c κs. search needs) returns)

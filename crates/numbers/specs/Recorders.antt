@@ -1,0 +1,98 @@
+-- A recorder in lists of numbers, as include/segtrace.h has it. Assumes nothing.
+use Prim.Native.Nat.{ℕ, _+_, _*_, min}
+use mathlib.Core.Bool.{cond}
+use mathlib.Core.List.{List, [], _∷_, map}
+use lib.ListN.{getD}
+use lib.Dec.{eqb}
+use Rattle.model.specs.Sums.{tabulate}
+use Rattle.model.specs.declared.Kind.{Kind}
+use Rattle.model.specs.declared.Kind.the-variants.{Time, Space}
+use Rattle.model.specs.declared.PriceRow.{PriceRow}
+use Rattle.figures.specs.Buckets.{bucketCount}
+use Rattle.figures.specs.declared.Bucket.{Bucket}
+use Rattle.recorder.specs.declared.Recorder.{Recorder}
+
+-- kind time is 0
+abbrev pub kindIn : ℕ → Kind
+kindIn n = cond (eqb n 0) Time Space
+
+-- rows from their prices, which stand apart
+unfoldable pub rowsOf : List ℕ → List ℕ → List PriceRow
+rowsOf [] ds = []
+rowsOf (h ∷ hs) [] = []
+rowsOf (h ∷ hs) (d ∷ ds) = record { h = h; d = d } ∷ rowsOf hs ds
+
+-- bucket k of the sums: six numbers from place 6 * k on
+abbrev pub bucketIn : List ℕ → ℕ → Bucket
+bucketIn sums k =
+    record {
+      count = getD sums (6 * k) 0;
+      volume = getD sums (6 * k + 1) 0;
+      retention = getD sums (6 * k + 2) 0;
+      swap = getD sums (6 * k + 3) 0;
+      retentionz = getD sums (6 * k + 4) 0;
+      swapz = getD sums (6 * k + 5) 0;
+    }
+
+-- a recorder in lists of numbers
+pub record RecorderLists : Type 0 where
+  pub head : List ℕ
+  pub counts : List ℕ
+  pub sizes : List ℕ
+  pub h : List ℕ
+  pub d : List ℕ
+  pub last : List ℕ
+  pub sums : List ℕ
+
+-- the same from the lists
+abbrev pub lists : (head counts sizes h d last sums : List ℕ) → RecorderLists
+lists head counts sizes h d last sums =
+    record { head = head; counts = counts; sizes = sizes; h = h; d = d; last = last; sums = sums }
+
+-- the recorder that they hold, whatever the numbers are; a is cut off at 255
+unfoldable pub recorderIn : RecorderLists → Recorder
+recorderIn l =
+    record {
+      head =
+          record {
+            kind = kindIn (getD (l .head) 0 0);
+            a = min (getD (l .head) 1 0) 255;
+            segs = getD (l .head) 2 0;
+            sizes = l .sizes;
+            rows = getD (l .head) 3 0;
+            prices = rowsOf (l .h) (l .d);
+          };
+      refs = getD (l .counts) 0 0;
+      last = l .last;
+      buckets = tabulate bucketCount (bucketIn (l .sums));
+      cost = getD (l .counts) 1 0;
+      volume = getD (l .counts) 2 0;
+    }
+
+-- the number of a kind
+abbrev pub kindNumber : Kind → ℕ
+kindNumber Time = 0
+kindNumber Space = 1
+
+-- the sums of buckets, six numbers each
+unfoldable pub sumsOf : List Bucket → List ℕ
+sumsOf [] = []
+sumsOf (b ∷ bs) = b .count ∷ b .volume ∷ b .retention ∷ b .swap ∷ b .retentionz ∷ b .swapz ∷ sumsOf bs
+
+-- the lists of a recorder: kind, a, segs and rows; references, Q and V; sizes; prices; last touches; sums
+unfoldable pub listsOf : Recorder → RecorderLists
+listsOf R =
+    record {
+      head = kindNumber (R .head .kind) ∷ R .head .a ∷ R .head .segs ∷ R .head .rows ∷ [];
+      counts = R .refs ∷ R .cost ∷ R .volume ∷ [];
+      sizes = R .head .sizes;
+      h = map (λ q. q .h) (R .head .prices);
+      d = map (λ q. q .d) (R .head .prices);
+      last = R .last;
+      sums = sumsOf (R .buckets);
+    }
+
+-- lists with what a recorder has taken: its references, Q and V, last touches and sums; the others stay
+unfoldable pub withTaken : RecorderLists → Recorder → RecorderLists
+withTaken l R =
+    lists (l .head) (listsOf R .counts) (l .sizes) (l .h) (l .d) (listsOf R .last) (listsOf R .sums)

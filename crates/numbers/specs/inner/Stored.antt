@@ -1,0 +1,25 @@
+-- What is stored of a recorder, part by part. Assumes nothing.
+use Prim.Native.Nat.{ℕ}
+use mathlib.Core.Path.{_≡_}
+use mathlib.Core.List.{List, map}
+use Rattle.model.specs.declared.PriceRow.{PriceRow}
+use Rattle.recorder.specs.declared.Recorder.{Recorder}
+use Rattle.numbers.specs.Recorders.{listsOf}
+use Rattle.numbers.specs.declared.recorders.Prices.{Prices}
+
+-- the prices of rows, apart
+abbrev pub pricesOf : List PriceRow → Prices
+pricesOf rows = record { h = map (λ q. q .h) rows; d = map (λ q. q .d) rows }
+
+-- what is stored of a recorder at the start: its kind, a, segs and rows, its sizes and its prices
+pub record HeadStored (R : Recorder) (head sizes h d : List ℕ) : Type 0 where
+  pub head-is : head ≡ listsOf R .head
+  pub sizes-are : sizes ≡ listsOf R .sizes
+  pub h-are : h ≡ listsOf R .h
+  pub d-are : d ≡ listsOf R .d
+
+-- what is stored of it at the start and after references: how many, Q and V, the table of last touches, the sums
+pub record TakenStored (R : Recorder) (counts last sums : List ℕ) : Type 0 where
+  pub counts-are : counts ≡ listsOf R .counts
+  pub last-is : last ≡ listsOf R .last
+  pub sums-are : sums ≡ listsOf R .sums

@@ -1,0 +1,58 @@
+-- `plans::sheet_price` meets its contract: the row is tested, and the schedule is priced by the sheet's value. Assumes nothing.
+use Prim.Native.Nat.{_<_}
+use mathlib.Core.Path.{sym, _∙_}
+use native.Mathlib.Omega.{arith}
+use borrow.Author.Needs.{needs}
+use lib.Seq.{length-take-le}
+use Rattle.model.specs.Values.{headValueOf, valueOf}
+use Rattle.plans.proofs.PlanResults.{price-no-row, price-at}
+use Rattle.model.proofs.Standing.{rows-counted, row-of}
+use Rattle.plans.proofs.sheet_price.Statement.{statement}
+use Rattle.plans.proofs.sheet_price.Tie as tie
+
+returns : tie.Need-returns
+returns c =
+    let s = c .before .before .before .before in
+    let n = rows-counted (s .args .s) (s .pre) in
+    c .refused .ensures
+    ∙ sym (price-no-row (valueOf (s .args .s)) (s .args .row) (s .args .schedule .now) (omega (arith, c .before .if1 .taken)))
+
+array-share-prefix-sizes : tie.Need-array-share-prefix-sizes
+array-share-prefix-sizes c = omega (arith, c .before .before .before .before .before .before .before .before .pre)
+
+slice-aggregate-price : tie.Need-slice-aggregate-price
+slice-aggregate-price c = sym (length-take-le _ _ (omega (arith, c .before .before .before .before .before .before .before .before .before .pre)))
+
+array-share-prefix-touches : tie.Need-array-share-prefix-touches
+array-share-prefix-touches c = omega (arith, c .before .before .before .before .before .before .before .before .before .pre)
+
+slice-aggregate-price-2 : tie.Need-slice-aggregate-price-2
+slice-aggregate-price-2 c = sym (length-take-le _ _ (omega (arith, c .before .before .before .before .before .before .before .before .before .before .pre)))
+
+price-requires : tie.Need-price-requires
+unfolding valueOf headValueOf
+price-requires c κs = let s = c .before .before .before .before .before .before .before .before .before .before in s .pre .valid .run
+
+returns-2 : tie.Need-returns-2
+unfolding valueOf headValueOf
+returns-2 c =
+    let s = c .before .before .before .before .before .before .before .before .before .before .before in
+    let n = rows-counted (s .args .s) (s .pre) in
+    let l : s .args .row < s .args .s .head .rows = omega (arith, c .before .before .before .before .before .before .before .before .if1 .left) in
+    let p = price-at (valueOf (s .args .s)) (s .args .row) (s .args .schedule .now) (omega arith) in
+    c .price .ensures ∙ sym (rw (row-of (s .args .s) (s .pre) (s .args .row) l) at p)
+
+pub sheet-price-spec : {M : Type 1} → statement M
+sheet-price-spec =
+    tie.close
+    (tie.spec
+    (λ c κs. search needs)
+    returns
+    (λ c. search needs)
+    (λ c. search needs)
+    array-share-prefix-sizes
+    slice-aggregate-price
+    array-share-prefix-touches
+    slice-aggregate-price-2
+    price-requires
+    returns-2)

@@ -1,0 +1,88 @@
+-- `plans::sheet_schedule` meets its contract: the row and the room are tested, and the optimal schedule of the sheet's value is
+-- written. Assumes nothing.
+use Prim.Native.Nat.{_<_}
+use mathlib.Core.Path.{sym, _∙_}
+use native.Mathlib.Omega.{arith}
+use borrow.Author.Needs.{needs}
+use lib.Seq.{length-take-le}
+use Rattle.model.specs.Values.{headValueOf, valueOf}
+use Rattle.plans.proofs.PlanResults.{schedule-no-row, schedule-short, schedule-placed}
+use Rattle.model.proofs.Standing.{rows-counted, refs-counted, row-of}
+use Rattle.plans.proofs.sheet_schedule.Statement.{statement}
+use Rattle.plans.proofs.sheet_schedule.Tie as tie
+
+returns : tie.Need-returns
+returns c =
+    let s = c .before .before .before .before in
+    let n = rows-counted (s .args .s) (s .pre) in
+    rw (c .refused .ensures)
+    (schedule-no-row (valueOf (s .args .s)) (s .args .row) (s .args .out .now) (omega (arith, c .before .if1 .taken)))
+
+returns-2 : tie.Need-returns-2
+returns-2 c =
+    let s = c .before .before .before .before .before .before in
+    let n = rows-counted (s .args .s) (s .pre) in
+    let m = refs-counted (s .args .s) (s .pre) in
+    rw (c .refused2 .ensures)
+    (schedule-short (valueOf (s .args .s)) (s .args .row) (s .args .out .now)
+    (omega (arith, c .before .before .before .if1 .left)) (omega (arith, c .before .if2 .taken)))
+
+array-share-prefix-sizes : tie.Need-array-share-prefix-sizes
+array-share-prefix-sizes c = omega (arith, c .before .before .before .before .before .before .before .before .before .pre)
+
+slice-aggregate-write-optimal : tie.Need-slice-aggregate-write-optimal
+slice-aggregate-write-optimal c = sym (length-take-le _ _ (omega (arith, c .before .before .before .before .before .before .before .before .before .before .pre)))
+
+array-share-prefix-touches : tie.Need-array-share-prefix-touches
+array-share-prefix-touches c = omega (arith, c .before .before .before .before .before .before .before .before .before .before .pre)
+
+slice-aggregate-write-optimal-2 : tie.Need-slice-aggregate-write-optimal-2
+slice-aggregate-write-optimal-2 c = sym (length-take-le _ _ (omega (arith, c .before .before .before .before .before .before .before .before .before .before .before .pre)))
+
+write-optimal-requires : tie.Need-write-optimal-requires
+unfolding valueOf headValueOf
+write-optimal-requires c κs =
+    let s = c .before .before .before .before .before .before .before .before .before .before .before .before in
+    let m = refs-counted (s .args .s) (s .pre) in
+    (s .pre .valid .run, omega (arith, c .before .before .before .before .before .before .before .if2 .left))
+
+of-steps-requires : tie.Need-of-steps-requires
+of-steps-requires c κs = omega (arith, c .before .before .before .before .before .before .before .before .before .before .before .before .before .before .before .pre)
+
+length-requires : tie.Need-length-requires
+length-requires c κs = omega (arith, c .of-steps .ensures, c .before .before .before .before .before .before .before .before .before .before .before .before .before .before .before .before .pre)
+
+returns-3 : tie.Need-returns-3
+unfolding valueOf headValueOf
+returns-3 c =
+    let e = c .before .before .before .before .before .before .before .before .before .before .before .before in
+    let s = c .before .before .before .before .before .before .before .before .before .before .before .before .before .before .before .before .before in
+    let v = valueOf (s .args .s) in
+    let n = rows-counted (s .args .s) (s .pre) in
+    let m = refs-counted (s .args .s) (s .pre) in
+    let l : s .args .row < s .args .s .head .rows = omega (arith, e .before .before .if1 .left) in
+    let p = schedule-placed v (s .args .row) (s .args .out .now) (omega arith) (omega (arith, e .if2 .left)) in
+    record {
+      answer-is = rw (c .length .ensures .0, c .before .of-steps .ensures) (rw m at (p .answer-is));
+      place-is = c .before .before .before .before .write-optimal .ensures ∙ rw (row-of (s .args .s) (s .pre) (s .args .row) l) at (p .place-is);
+    }
+
+pub sheet-schedule-spec : {M : Type 1} → statement M
+sheet-schedule-spec =
+    tie.close
+    (tie.spec
+    (λ c κs. search needs)
+    returns
+    (λ c κs. search needs)
+    returns-2
+    (λ c. search needs)
+    (λ c. search needs)
+    array-share-prefix-sizes
+    slice-aggregate-write-optimal
+    array-share-prefix-touches
+    slice-aggregate-write-optimal-2
+    write-optimal-requires
+    of-steps-requires
+    length-requires
+    (λ c. search needs)
+    returns-3)

@@ -1,0 +1,5 @@
+pub mod Changing
+pub mod Costing
+pub mod Runs
+pub mod Verdicts
+pub mod Words

@@ -1,0 +1,111 @@
+-- `pricing::pass_word` meets its contract. The loop's invariant: the segments before i are passed, and old and new have the other bits.
+-- Assumes nothing.
+use mathlib.Core.Path.{refl}
+use Prim.Native.Nat.{_<_}
+use native.Mathlib.Numerals.{add-one}
+use lib.Bits.{bitXor}
+use lib.Count.{trailingZeros}
+use Rattle.pricing.proofs.Costing.{passed-within}
+use Prim.Native.Nat.{_+_, _-_, _*_}
+use native.Mathlib.Omega.{arith}
+use borrow.Author.Needs.{needs}
+use denote.Ref.{now}
+use Rattle.model.specs.Traces.{Trace}
+use Rattle.model.specs.Sheets.{runOf}
+use Rattle.pricing.proofs.Runs.{Passes, rest-start, differs-below, passes-on, passes-end}
+use Rattle.pricing.proofs.pass_word.Statement.{statement}
+use Rattle.pricing.proofs.pass_word.Tie as tie
+
+abbrev Inv-loop : tie.InvT-loop
+Inv-loop kind a sizes refs schedule t x m old₀ new₀ i₀ c₀ old new i c =
+    Passes (runOf kind a sizes refs) schedule t (64 * m + 64) i old new c
+
+abbrev μ-loop : tie.MeasureT-loop
+μ-loop kind a sizes refs schedule t x m old₀ new₀ i₀ c₀ old new i c = 64 * m + 64 - i
+
+-- the run that the function is called with
+abbrev Run : tie.Start Inv-loop μ-loop → Trace
+Run s = runOf (s .args .kind) (s .args .a) (now (s .args .sizes)) (now (s .args .refs))
+
+-- the first bit that differs stands within the word
+differs : (c : tie.In-loop Inv-loop μ-loop)
+    → c .before .loop .i + trailingZeros 64 (bitXor (c .before .loop .old) (c .before .loop .new))
+    < 64 * c .before .before .before .before .before .before .before .args .m + 64
+differs c =
+    differs-below (Run (c .before .before .before .before .before .before .before)) (λ i. refl) _ _ _ _ _ _ _
+    (c .before .loop .inv) (c .loop-test .taken)
+
+loop-holds : tie.Need-loop-holds Inv-loop μ-loop
+loop-holds c = record {
+  within = omega arith;
+  close = omega arith;
+  before = rest-start _ _ _ _ (c .before .word-at .ok) (c .before .word-at .ensures);
+  after =
+      rest-start _ _ _ _ (c .word-at2 .ok)
+      (rw (add-one (c .before .before .before .before .before .args .t)) at (c .word-at2 .ensures));
+  passed = c .before .before .before .before .before .pre .1 .1 .1;
+}
+
+cast-o : tie.Need-cast-o Inv-loop μ-loop
+cast-o c = omega (arith, differs c)
+
+shr-o : tie.Need-shr-o Inv-loop μ-loop
+shr-o c = omega (arith, differs c)
+
+cast-n : tie.Need-cast-n Inv-loop μ-loop
+cast-n c = omega (arith, differs c)
+
+shr-n : tie.Need-shr-n Inv-loop μ-loop
+shr-n c = omega (arith, differs c)
+
+cast-next : tie.Need-cast-next Inv-loop μ-loop
+cast-next c = omega (arith, differs c)
+
+add-next : tie.Need-add-next Inv-loop μ-loop
+add-next c = omega (arith, differs c)
+
+pass-requires : tie.Need-pass-requires Inv-loop μ-loop
+pass-requires c κs =
+    let start = c .before .before .before .before .before .before .before in
+    passed-within _ (start .pre .0 .limits) _ _ _ _ (c .before .loop .inv .passed) (omega arith)
+
+add-i : tie.Need-add-i Inv-loop μ-loop
+add-i c = omega (arith, differs (c .before))
+
+loop-less : tie.Need-loop-less Inv-loop μ-loop
+loop-less c = omega (arith, differs (c .before))
+
+loop-again : tie.Need-loop-again Inv-loop μ-loop
+loop-again c =
+    let start = c .before .before .before .before .before .before .before .before in
+    passes-on (Run start) (λ i. refl) _ _ _ _ _ _ _ _ _ (start .pre .0) (c .before .before .loop .inv) (c .before .loop-test .taken)
+    (omega (arith, start .pre .1 .1 .0)) refl
+    (rw (start .pre .1 .0) at (c .pass .ensures))
+
+returns : tie.Need-returns Inv-loop μ-loop
+returns c =
+    passes-end (Run (c .before .before .before .before .before .before .before)) (λ i. refl) _ _ _ _ _ _ _
+    (c .before .loop .inv) (c .loop-test .left)
+
+pub pass-word-spec : {M : Type 1} → statement M
+pass-word-spec =
+    tie.close
+    (tie.spec
+    Inv-loop
+    μ-loop
+    (λ c κs. search needs)
+    (λ c. search needs)
+    (λ c κs. search needs)
+    (λ c. search needs)
+    loop-holds
+    cast-o
+    shr-o
+    cast-n
+    shr-n
+    cast-next
+    add-next
+    pass-requires
+    add-i
+    loop-less
+    loop-again
+    returns)

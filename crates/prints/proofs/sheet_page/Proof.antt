@@ -1,0 +1,21 @@
+-- `prints::sheet_page` meets its contract: the page is that of the sheet's value, and every field fits. Assumes nothing.
+use borrow.Author.Needs.{needs}
+use Rattle.model.specs.Values.{valueOf}
+use Rattle.model.proofs.Standing.{rows-counted}
+use Rattle.prints.proofs.PrintedTexts.{page-fits, pages-of}
+use Rattle.prints.proofs.sheet_page.Statement.{statement}
+use Rattle.prints.proofs.sheet_page.Tie as tie
+
+write-requires : tie.Need-write-requires
+write-requires c κs =
+    let f = c .before .before .all-figures .ensures in
+    let b = c .before .before .before .before in
+    (b .pre .rows-within, page-fits (valueOf (b .args .s)) (b .pre .valid) (rows-counted (b .args .s) (b .pre)) f)
+
+returns : tie.Need-returns
+returns c =
+    let b = c .before .before .before .before .before .before .before in
+    rw (c .before .before .before .before .before .all-figures .ensures, pages-of (b .args .s) (b .pre)) at (c .before .before .write .ensures)
+
+pub sheet-page-spec : {M : Type 1} → statement M
+sheet-page-spec = tie.close (tie.spec (λ c κs. search needs) write-requires (λ c. search needs) returns)

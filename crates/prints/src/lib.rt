@@ -1,0 +1,29 @@
+// The listing and the page of an accepted sheet, written into a lent place.
+// What the texts are is written in crates `report` and `page`; nothing is assumed.
+use model::PlaceAnswer;
+use model::Sheet;
+ghost use Rattle.model.specs.Places.{gives, PlaceLeft};
+ghost use Rattle.model.specs.Standing.{Standing};
+ghost use Rattle.model.specs.Values.{valueOf};
+ghost use Rattle.page.specs.Page.{pagesOf};
+ghost use Rattle.report.specs.Listing.{listingOf};
+
+// The listing of an accepted sheet into a lent place, or 11.
+pub fn sheet_listing(s: Sheet, out: &mut [u8]) -> PlaceAnswer
+    requires { ⌜ Standing s ⌝ }
+    ensures { λ r. ⌜ PlaceLeft (gives (listingOf (valueOf s))) (now (out .entry)) (now (out .exit)) r ⌝ }
+{
+    let all = rows::all_figures(s);
+    report::write(s.refs, s.head.segs, all, s.head.rows, out)
+}
+
+// The page or the two pages of an accepted sheet into a lent place, or 11.
+pub fn sheet_page(s: Sheet, out: &mut [u8]) -> PlaceAnswer
+    requires { ⌜ Standing s ⌝ }
+    ensures { λ r. ⌜ PlaceLeft (gives (pagesOf (valueOf s))) (now (out .entry)) (now (out .exit)) r ⌝ }
+{
+    let all = rows::all_figures(s);
+    let head = s.head;
+    let kind = head.kind;
+    page::write(kind, head.a, all, head.rows, out)
+}

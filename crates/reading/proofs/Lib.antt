@@ -1,0 +1,3 @@
+pub mod HeadRead
+pub mod ReadRows
+pub mod ReadStages

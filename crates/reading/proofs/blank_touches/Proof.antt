@@ -1,0 +1,12 @@
+-- `reading::blank_touches` meets its contract: the repeat is that of the definition. Assumes nothing.
+use borrow.Author.Needs.{needs}
+use Rattle.model.specs.Values.{zeros}
+use Rattle.reading.proofs.blank_touches.Statement.{statement}
+use Rattle.reading.proofs.blank_touches.Tie as tie
+
+returns : tie.Need-returns
+unfolding zeros
+returns c = search needs
+
+pub blank-touches-spec : {M : Type 1} → statement M
+blank-touches-spec = tie.close (tie.spec returns)

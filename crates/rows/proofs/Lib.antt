@@ -1,0 +1,4 @@
+pub mod Alone
+pub mod BillResults
+pub mod RowFigures
+pub mod Sizes

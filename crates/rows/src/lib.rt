@@ -1,0 +1,75 @@
+// What is asked of the rows of an accepted sheet: the figures of every row or of one, the row for a ceiling, and the bill of a row.
+// What is answered is written in specs/ and in crates `figures` and `model`; nothing is assumed.
+pub mod billing;
+pub mod sizing;
+
+use figures::FiguresAnswer;
+use model::Head;
+use model::Refusal;
+use model::RowFigures;
+use model::Sheet;
+use model::Verdict;
+ghost use mathlib.Core.Path.{_≡_};
+ghost use Prim.Native.Nat.{_<_};
+ghost use Rattle.model.specs.Standing.{Standing};
+ghost use Rattle.model.specs.Values.{valueOf};
+ghost use Rattle.figures.specs.Rows.{noFigures, figuresAt, figuresOf, allFigures};
+
+// The figures of every row of an accepted sheet.
+pub fn all_figures(s: Sheet) -> [RowFigures; Sheet::MAX_ROWS]
+    requires { ⌜ Standing s ⌝ }
+    ensures { λ r. ⌜ r ≡ allFigures (valueOf s) ⌝ }
+{
+    let head = s.head;
+    let refs = s.refs;
+    let touches = s.touches;
+    figures::figures(head, &touches[..refs])
+}
+
+// No figures, and why.
+pub fn no_figures(why: Refusal) -> FiguresAnswer
+    ensures { λ r. ⌜ r ≡ noFigures why ⌝ }
+{
+    FiguresAnswer {
+        verdict: Verdict::Refused(why),
+        figures: RowFigures::zero(),
+    }
+}
+
+// The figures of a row of an accepted sheet: those of the sheet with this row alone, for which the pass has one look at a reuse.
+pub fn row_alone(s: Sheet, row: usize) -> RowFigures
+    requires { ⌜ Standing s × (row < s .head .rows) ⌝ }
+    ensures { λ r. ⌜ r ≡ figuresAt (valueOf s) row ⌝ }
+{
+    let head = s.head;
+    let kind = head.kind;
+    let sizes = head.sizes;
+    let prices = head.prices;
+    let price = prices[row];
+    let alone = Head {
+        kind: kind,
+        a: head.a,
+        segs: head.segs,
+        sizes: sizes,
+        rows: 1,
+        prices: [price; Sheet::MAX_ROWS],
+    };
+    let refs = s.refs;
+    let touches = s.touches;
+    let only = figures::figures(alone, &touches[..refs]);
+    only[0]
+}
+
+// The figures of a row of an accepted sheet, or 7.
+pub fn sheet_figures(s: Sheet, row: usize) -> FiguresAnswer
+    requires { ⌜ Standing s ⌝ }
+    ensures { λ r. ⌜ r ≡ figuresOf (valueOf s) row ⌝ }
+{
+    if row >= s.head.rows {
+        return no_figures(Refusal::NoSuchRow);
+    }
+    FiguresAnswer {
+        verdict: Verdict::Accepted,
+        figures: row_alone(s, row),
+    }
+}

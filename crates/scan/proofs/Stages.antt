@@ -1,0 +1,55 @@
+-- Laws of parts that are read one after another: what was read so far, then the next part. Assumes nothing.
+use Prim.Native.Nat.{ℕ, _≤_}
+use mathlib.Core.Path.{_≡_, refl, sym, ap, _∙_}
+use mathlib.Core.List.{List}
+use native.Mathlib.Omega.{arith}
+use lib.ListN.{length, take, drop}
+use lib.Seq.{drop-drop}
+use Rattle.model.specs.declared.Refusal.{Refusal}
+use Rattle.sheet.specs.Lines.{Parsed, read, refused, andThen, numberLines}
+use Rattle.sheet.specs.Order.{numberPart, numbersPart}
+use Rattle.sheet.specs.Parts.{counted}
+use Rattle.scan.specs.AtPlace.{parsedLines, linesNext, movedOn}
+use Rattle.scan.specs.declared.numbers.LinesRead.{LinesRead}
+use Rattle.scan.specs.declared.numbers.LinesRead.the-variants.{Done, Refused as NoLines}
+use Rattle.scan.proofs.Tails.{tail, tail-is, tail-place}
+
+-- what g makes of a part p and of what is left after it, f: where p was read up to the place next, it is what g makes of what is left
+-- from there; where p was refused, it is what g makes of the refusal
+module _ {A B C : Type 0} (g : Parsed B → C) (f : A → List ℕ → Parsed B) (p : Parsed A) where
+  pub stage-read : (x : A) (s : List ℕ) (next : ℕ) (r : C) → r ≡ g (f x (tail s next)) → p ≡ read x (drop next s) → r ≡ g (andThen p f)
+  stage-read x s next r a e = rw (e, ← (tail-is s next)) a
+
+  pub stage-refused : (why : Refusal) (r : C) → r ≡ g (refused why) → p ≡ refused why → r ≡ g (andThen p f)
+  stage-refused why r a e = rw e a
+
+-- what was read from the place at on, as places of the whole
+pub moved : {A : Type 0} (s : List ℕ) (at : ℕ) (lines : LinesRead) (x : A)
+    → parsedLines s (movedOn at lines) x ≡ parsedLines (tail s at) lines x
+moved s at (Done next) x = rw (tail-is s at, drop-drop next at s)
+moved s at (NoLines why) x = refl
+
+-- lies within it
+pub moved-within : (s : List ℕ) (at : ℕ) (lines : LinesRead) → at ≤ length s → linesNext lines ≤ length (tail s at)
+    → linesNext (movedOn at lines) ≤ length s
+moved-within s at (Done next) h l = tail-place s at next h l
+moved-within s at (NoLines why) h l = omega arith
+
+-- a part p that was read up to the place at, and y that was read after it
+pub then-part : {A B : Type 0} (f : A → List ℕ → Parsed B) (p : Parsed A) (x : A) (s : List ℕ) (at : ℕ) (l q : LinesRead) (y : B)
+    → p ≡ read x (drop at s) → parsedLines (tail s at) l y ≡ f x (tail s at) → q ≡ movedOn at l → parsedLines s q y ≡ andThen p f
+then-part f p x s at l q y e h m =
+    stage-read (λ r. r) f p x s at (parsedLines s q y) (ap (λ k. parsedLines s k y) m ∙ (moved s at l y ∙ h)) e
+
+-- a count up to the length of a list, where that is the most
+pub counted-most : (count key : List ℕ) (least lo hi m most : ℕ) (s : List ℕ) (q : Parsed (List ℕ)) → m ≡ most
+    → q ≡ counted (numberPart count least m) (numbersPart key lo hi) .reads s
+    → counted (numberPart count least most) (numbersPart key lo hi) .reads s ≡ q
+counted-most count key least lo hi m most s q h e =
+    sym (e ∙ ap (λ k. counted (numberPart count least k) (numbersPart key lo hi) .reads s) h)
+
+-- lines that are read into the first n places of a blank list are the n lines of the definition
+pub lines-into : (key : List ℕ) (lo hi : ℕ) (s : List ℕ) (r q : LinesRead) (n : ℕ) (blank xs : List ℕ) → n ≡ length (take n blank)
+    → parsedLines s r xs ≡ numberLines key lo hi (length (take n blank)) s → r ≡ q → numberLines key lo hi n s ≡ parsedLines s q xs
+lines-into key lo hi s r q n blank xs h e m =
+    sym (e ∙ ap (λ k. numberLines key lo hi k s) (sym h)) ∙ ap (λ l. parsedLines s l xs) m

@@ -1,0 +1,5 @@
+pub mod FirstRow
+pub mod Halving
+pub mod Looks
+pub mod QuotedRows
+pub mod RatedSegments

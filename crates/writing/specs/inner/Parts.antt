@@ -1,0 +1,34 @@
+-- The three parts in which a sheet is written. Assumes nothing.
+use Prim.Native.Nat.{ℕ, _+_}
+use mathlib.Core.List.{List, _++_}
+use lib.ListN.{length}
+use Rattle.model.specs.Sheets.{SheetValue}
+use Rattle.model.specs.declared.Kind.{Kind}
+use Rattle.model.specs.declared.PriceRow.{PriceRow}
+use Rattle.lines.specs.Keys.{kindKey, aKey, segsKey, sizeKey, rowsKey, kindWord}
+use Rattle.lines.specs.Texts.{lineText, numberText, linesText}
+use Rattle.sheet.specs.Values.{rowText}
+
+-- the value of a sheet by its parts
+abbrev pub sheetWith : Kind → ℕ → List ℕ → List PriceRow → List ℕ → SheetValue
+sheetWith kind a sizes rows refs = record { head = record { kind = kind; a = a; sizes = sizes; rows = rows }; refs = refs }
+
+-- a line for each number
+abbrev pub numbersText : List ℕ → List ℕ → List ℕ
+numbersText key xs = linesText (numberText key) xs
+
+-- a line for each row
+abbrev pub rowsText : List PriceRow → List ℕ
+rowsText qs = linesText rowText qs
+
+-- the line that counts the numbers, and the line of each
+abbrev pub countedText : List ℕ → List ℕ → List ℕ → List ℕ
+countedText count key xs = numberText count (length xs) ++ numbersText key xs
+
+-- a sheet's lines up to the sizes
+unfoldable pub segmentsText : Kind → ℕ → List ℕ → List ℕ
+segmentsText kind a sizes = lineText kindKey (kindWord kind) ++ (numberText aKey a ++ countedText segsKey sizeKey sizes)
+
+-- the line that counts the rows, and the line of each
+unfoldable pub pricedText : List PriceRow → List ℕ
+pricedText rows = numberText rowsKey (length rows) ++ rowsText rows

@@ -1,0 +1,252 @@
+// Writing a sheet: the length of its text first, then the text part after part, each from an index of the lent place on.
+// What the text is stands in specs/Writing.antt, and what a place becomes in the crates lines and model. Nothing is assumed.
+use lines::number_length;
+use lines::put;
+use lines::put_digits;
+use lines::put_number;
+use model::Kind;
+use model::PlaceAnswer;
+use model::PriceRow;
+use model::Refusal;
+use model::Sheet;
+use model::Verdict;
+ghost use mathlib.Core.Path.{_≡_};
+ghost use Prim.Native.Nat.{_+_, _≤_, min};
+ghost use lib.ListN.{length, take};
+ghost use Rattle.model.specs.Sheets.{mostRows, mostRefs};
+ghost use Rattle.model.specs.Places.{gives, PlaceLeft};
+ghost use Rattle.lines.specs.Keys.{kindKey, kindWord};
+ghost use Rattle.lines.specs.Puts.{Put};
+ghost use Rattle.writing.specs.inner.Parts.{sheetWith, countedText, segmentsText, pricedText, numbersText, rowsText};
+ghost use Rattle.model.specs.Values.{valueOf};
+ghost use Rattle.lines.specs.Texts.{lineText};
+ghost use Rattle.sheet.specs.Writing.{sheetText};
+ghost use Rattle.sheet.specs.Values.{rowText};
+
+// ---- lengths
+
+// The length of the line of a kind.
+fn kind_length(kind: Kind) -> usize
+    ensures { λ r. ⌜ (r ≡ length (lineText kindKey (kindWord kind))) × (r ≤ 11) ⌝ }
+{
+    match kind {
+        Kind::Time => 10,
+        Kind::Space => 11,
+    }
+}
+
+// The length of the lines of numbers.
+fn numbers_length(key: &[u8], xs: &[u16]) -> usize
+    requires { ⌜ (length (now key) ≤ 5) × (length (now xs) ≤ mostRefs) ⌝ }
+    ensures { λ r. ⌜ (r ≡ length (numbersText (now (key .entry)) (now (xs .entry)))) × (r ≤ 53248) ⌝ }
+{
+    let mut sum: usize = 0;
+    let mut i = 0;
+    while i < xs.len() {
+        sum += number_length(key, xs[i] as u64);
+        i += 1;
+    }
+    sum
+}
+
+// The length of the line that counts the numbers, and of their lines.
+fn counted_length(count: &[u8], key: &[u8], xs: &[u16]) -> usize
+    requires { ⌜ (length (now count) ≤ 5) × (length (now key) ≤ 5) × (length (now xs) ≤ mostRefs) ⌝ }
+    ensures { λ r. ⌜ (r ≡ length (countedText (now (count .entry)) (now (key .entry)) (now (xs .entry)))) × (r ≤ 53274) ⌝ }
+{
+    number_length(count, xs.len() as u64) + numbers_length(key, xs)
+}
+
+// The length of the line of a row.
+fn row_length(q: PriceRow) -> usize
+    ensures { λ r. ⌜ (r ≡ length (rowText q)) × (r ≤ 16) ⌝ }
+{
+    6 + decimal::width(q.h as u64) + decimal::width(q.d as u64)
+}
+
+// The length of the lines of the first `n` rows.
+fn rows_length(prices: [PriceRow; Sheet::MAX_ROWS], n: usize) -> usize
+    requires { ⌜ n ≤ mostRows ⌝ }
+    ensures { λ r. ⌜ (r ≡ length (rowsText (take n prices))) × (r ≤ 1024) ⌝ }
+{
+    let mut sum: usize = 0;
+    let mut i = 0;
+    while i < n {
+        let q = prices[i];
+        sum += row_length(q);
+        i += 1;
+    }
+    sum
+}
+
+// The length of the lines up to the sizes.
+fn segments_length(kind: Kind, a: u8, sizes: &[u16]) -> usize
+    requires { ⌜ length (now sizes) ≤ mostRefs ⌝ }
+    ensures { λ r. ⌜ (r ≡ length (segmentsText kind a (now (sizes .entry)))) × (r ≤ 53311) ⌝ }
+{
+    kind_length(kind) + number_length(b"a=", a as u64) + counted_length(b"segs=", b"size=", sizes)
+}
+
+// The length of the line that counts the first `n` rows, and of their lines.
+fn priced_length(prices: [PriceRow; Sheet::MAX_ROWS], n: usize) -> usize
+    requires { ⌜ n ≤ mostRows ⌝ }
+    ensures { λ r. ⌜ (r ≡ length (pricedText (take n prices))) × (r ≤ 1050) ⌝ }
+{
+    number_length(b"rows=", n as u64) + rows_length(prices, n)
+}
+
+// The length of the text of a sheet.
+fn text_length(
+    kind: Kind,
+    a: u8,
+    sizes: &[u16],
+    prices: [PriceRow; Sheet::MAX_ROWS],
+    rows: usize,
+    refs: &[u16],
+) -> usize
+    requires { ⌜ (length (now sizes) ≤ mostRefs) × (rows ≤ mostRows) × (length (now refs) ≤ mostRefs) ⌝ }
+    ensures { λ r. ⌜ r ≡ length (sheetText (sheetWith kind a (now (sizes .entry)) (take rows prices) (now (refs .entry)))) ⌝ }
+{
+    segments_length(kind, a, sizes)
+        + priced_length(prices, rows)
+        + counted_length(b"refs=", b"ref=", refs)
+}
+
+// ---- parts
+
+// Writes the line of a kind, and gives the index after it.
+fn put_kind(kind: Kind, out: &mut [u8], at: usize) -> usize
+    requires { ⌜ at + length (lineText kindKey (kindWord kind)) ≤ length (now out) ⌝ }
+    ensures { λ r. ⌜ Put (lineText kindKey (kindWord kind)) at (now (out .entry)) r (now (out .exit)) ⌝ }
+{
+    match kind {
+        Kind::Time => put(b"kind=time\n", out, at),
+        Kind::Space => put(b"kind=space\n", out, at),
+    }
+}
+
+// Writes a line for each number, and gives the index after them.
+fn put_numbers(key: &[u8], xs: &[u16], out: &mut [u8], at: usize) -> usize
+    requires { ⌜ at + length (numbersText (now key) (now xs)) ≤ length (now out) ⌝ }
+    ensures { λ r. ⌜ Put (numbersText (now (key .entry)) (now (xs .entry))) at (now (out .entry)) r (now (out .exit)) ⌝ }
+{
+    let mut next = at;
+    let mut i = 0;
+    while i < xs.len() {
+        next = put_number(key, xs[i] as u64, out, next);
+        i += 1;
+    }
+    next
+}
+
+// Writes the line that counts the numbers and a line for each, and gives the index after them.
+fn put_counted(count: &[u8], key: &[u8], xs: &[u16], out: &mut [u8], at: usize) -> usize
+    requires { ⌜ at + length (countedText (now count) (now key) (now xs)) ≤ length (now out) ⌝ }
+    ensures { λ r. ⌜ Put (countedText (now (count .entry)) (now (key .entry)) (now (xs .entry)))
+        at (now (out .entry)) r (now (out .exit)) ⌝ }
+{
+    let first = put_number(count, xs.len() as u64, out, at);
+    put_numbers(key, xs, out, first)
+}
+
+// Writes the line of a row, and gives the index after it.
+fn put_row(q: PriceRow, out: &mut [u8], at: usize) -> usize
+    requires { ⌜ at + length (rowText q) ≤ length (now out) ⌝ }
+    ensures { λ r. ⌜ Put (rowText q) at (now (out .entry)) r (now (out .exit)) ⌝ }
+{
+    let h = put(b"row=", out, at);
+    let d = put_digits(q.h as u64, 47, out, h);
+    put_digits(q.d as u64, 10, out, d)
+}
+
+// Writes a line for each of the first `n` rows, and gives the index after them.
+fn put_rows(prices: [PriceRow; Sheet::MAX_ROWS], n: usize, out: &mut [u8], at: usize) -> usize
+    requires { ⌜ (n ≤ mostRows) × (at + length (rowsText (take n prices)) ≤ length (now out)) ⌝ }
+    ensures { λ r. ⌜ Put (rowsText (take n prices)) at (now (out .entry)) r (now (out .exit)) ⌝ }
+{
+    let mut next = at;
+    let mut i = 0;
+    while i < n {
+        let q = prices[i];
+        next = put_row(q, out, next);
+        i += 1;
+    }
+    next
+}
+
+// Writes the lines up to the sizes at the front of `out`, and gives the index after them.
+fn put_segments(kind: Kind, a: u8, sizes: &[u16], out: &mut [u8]) -> usize
+    requires { ⌜ length (segmentsText kind a (now sizes)) ≤ length (now out) ⌝ }
+    ensures { λ r. ⌜ Put (segmentsText kind a (now (sizes .entry))) 0 (now (out .entry)) r (now (out .exit)) ⌝ }
+{
+    let weight = put_kind(kind, out, 0);
+    let count = put_number(b"a=", a as u64, out, weight);
+    put_counted(b"segs=", b"size=", sizes, out, count)
+}
+
+// Writes the line that counts the first `n` rows and a line for each, and gives the index after them.
+fn put_priced(prices: [PriceRow; Sheet::MAX_ROWS], n: usize, out: &mut [u8], at: usize) -> usize
+    requires { ⌜ (n ≤ mostRows) × (at + length (pricedText (take n prices)) ≤ length (now out)) ⌝ }
+    ensures { λ r. ⌜ Put (pricedText (take n prices)) at (now (out .entry)) r (now (out .exit)) ⌝ }
+{
+    let first = put_number(b"rows=", n as u64, out, at);
+    put_rows(prices, n, out, first)
+}
+
+// Writes the text of a sheet at the front of `out`, and gives its length.
+fn put_text(
+    kind: Kind,
+    a: u8,
+    sizes: &[u16],
+    prices: [PriceRow; Sheet::MAX_ROWS],
+    rows: usize,
+    refs: &[u16],
+    out: &mut [u8],
+) -> usize
+    requires { ⌜ (rows ≤ mostRows)
+        × (length (sheetText (sheetWith kind a (now sizes) (take rows prices) (now refs))) ≤ length (now out)) ⌝ }
+    ensures { λ r. ⌜ Put (sheetText (sheetWith kind a (now (sizes .entry)) (take rows prices) (now (refs .entry))))
+        0 (now (out .entry)) r (now (out .exit)) ⌝ }
+{
+    let priced = put_segments(kind, a, sizes, out);
+    let touched = put_priced(prices, rows, out, priced);
+    put_counted(b"refs=", b"ref=", refs, out, touched)
+}
+
+// ---- the sheet
+
+// The smaller of two numbers.
+fn least(n: usize, most: usize) -> usize
+    ensures { λ r. ⌜ r ≡ min n most ⌝ }
+{
+    if n < most { n } else { most }
+}
+
+// The bytes of a sheet into a lent place: the text of the sheet's value, then the old contents; refusal 11 and no change where the
+// place is shorter.
+// It is so for every Sheet, also one put together by hand: a count beyond its array counts the whole array.
+pub fn write(sheet: Sheet, out: &mut [u8]) -> PlaceAnswer
+    ensures { λ r. ⌜ PlaceLeft (gives (sheetText (valueOf sheet))) (now (out .entry)) (now (out .exit)) r ⌝ }
+{
+    let head = sheet.head;
+    let kind = head.kind;
+    let a = head.a;
+    let sizes = head.sizes;
+    let segs = least(head.segs, sizes.len());
+    let prices = head.prices;
+    let rows = least(head.rows, prices.len());
+    let touches = sheet.touches;
+    let refs = least(sheet.refs, touches.len());
+    let length = text_length(kind, a, &sizes[..segs], prices, rows, &touches[..refs]);
+    if out.len() < length {
+        return PlaceAnswer {
+            verdict: Verdict::Refused(Refusal::PlaceTooShort),
+            length: 0,
+        };
+    }
+    put_text(kind, a, &sizes[..segs], prices, rows, &touches[..refs], out);
+    PlaceAnswer {
+        verdict: Verdict::Accepted,
+        length,
+    }
+}
