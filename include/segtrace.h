@@ -4,7 +4,7 @@
  * Every call returns 0, or the number of the refusal (README.md lists them; where several apply, the first that the call's
  * comment names). A refused call writes nothing: every lent place, number and recorder is as it was. No call keeps a pointer or
  * allocates. Lent places overlap nothing else. A pointer that comes with a length may be NULL where the length is 0; no other may be
- * NULL. A call uses less than SEGTRACE_STACK_BYTES of stack, which is not proved; tests/calls.c measures it (46 KB).
+ * NULL. A call uses less than SEGTRACE_STACK_BYTES of stack, which is not proved; tests/calls.c measures it (56 KB).
  */
 #ifndef SEGTRACE_INCLUDED
 #define SEGTRACE_INCLUDED
@@ -17,17 +17,19 @@ extern "C" {
 #endif
 
 /*
- * The most bytes of a sheet, of a listing, of two pages and of a schedule; the most rows and references; more stack than a call uses.
+ * The most bytes of a sheet (of form 1, and of any form), of a listing, of two pages and of a schedule; the most rows and steps; more
+ * stack than a call uses.
  * That no listing is longer is proved (`listing-most`, crates/report/proofs/ListingMost.antt): each figure with as many digits as it can
  * have.
  */
 enum {
-    SEGTRACE_SHEET_BYTES = 20012,
-    SEGTRACE_LISTING_BYTES = 11547,
+    SEGTRACE_SHEET_BYTES_FORM_1 = 20012,
+    SEGTRACE_SHEET_BYTES = 29163,
+    SEGTRACE_LISTING_BYTES = 11558,
     SEGTRACE_PAGE_BYTES = 8760,
     SEGTRACE_SCHEDULE_BYTES = 65536,
     SEGTRACE_ROWS = 64,
-    SEGTRACE_REFERENCES = 2048,
+    SEGTRACE_STEPS = 2048,
     SEGTRACE_STACK_BYTES = 65536
 };
 
@@ -50,37 +52,49 @@ enum {
 /* The places of a price in a list of SEGTRACE_PRICE numbers. */
 enum { SEGTRACE_PRICE_MEMORY, SEGTRACE_PRICE_LOAD, SEGTRACE_PRICE_TOTAL, SEGTRACE_PRICE };
 
-/* Whether the bytes are a sheet: 1 to 6. */
+/*
+ * A sheet is of form 1, or of form 2 where its first line is form=2. Its refusals are 1 to 6 and 16: the first faulty line decides, and on one
+ * line 16 comes after 4.
+ */
+
+/* Whether the bytes are a sheet: its refusals. */
 uint64_t segtrace_check(const uint8_t *sheet, size_t sheet_length);
 
-/* The sheet read and written again, at the front of `out`, and its length: 1 to 6, 11. The bytes are the sheet's own. */
+/* The sheet read and written again, at the front of `out`, and its length; the sheet's refusals, 11. The bytes are the sheet's own. */
 uint64_t segtrace_rewrite(const uint8_t *sheet, size_t sheet_length, uint8_t *out, size_t out_length, uint64_t *written);
 
-/* The eleven figures of a row, counted from 0: 1 to 6, 7. */
+/* A sheet of form 1 in form 2, at the front of `out`, and its length: the sheet's refusals, where any other form is 4, 11. */
+uint64_t segtrace_to_form_2(const uint8_t *sheet, size_t sheet_length, uint8_t *out, size_t out_length, uint64_t *written);
+
+/* A sheet of form 2 in form 1, at the front of `out`, and its length: the sheet's refusals, where any other form is 4, 17 where a step is
+   idle, 11. There and back restores the bytes. */
+uint64_t segtrace_to_form_1(const uint8_t *sheet, size_t sheet_length, uint8_t *out, size_t out_length, uint64_t *written);
+
+/* The eleven figures of a row, counted from 0; the sheet's refusals, 7. */
 uint64_t segtrace_figures(const uint8_t *sheet, size_t sheet_length, uint64_t row, uint64_t figures[SEGTRACE_FIGURES]);
 
-/* The figures of every row, SEGTRACE_FIGURES numbers each, at the front of `out`, and how many numbers: 1 to 6, 11. */
+/* The figures of every row, SEGTRACE_FIGURES numbers each, at the front of `out`, and how many numbers; the sheet's refusals, 11. */
 uint64_t segtrace_all_figures(const uint8_t *sheet, size_t sheet_length, uint64_t *out, size_t out_length, uint64_t *written);
 
-/* The listing at the front of `out`, and its length: 1 to 6, 11. */
+/* The listing at the front of `out`, and its length; the sheet's refusals, 11. */
 uint64_t segtrace_listing(const uint8_t *sheet, size_t sheet_length, uint8_t *out, size_t out_length, uint64_t *written);
 
 /* The page for the binder, 60 lines of 72 characters and a line feed, at the front of `out`, two pages where there are more than 58 rows,
-   and their length, 4380 or 8760: 1 to 6, 11. */
+   and their length, 4380 or 8760; the sheet's refusals, 11. */
 uint64_t segtrace_page(const uint8_t *sheet, size_t sheet_length, uint8_t *out, size_t out_length, uint64_t *written);
 
-/* The optimal schedule of a row, 32 bytes a step, at the front of `out`, and its length: 1 to 6, 7, 11. */
+/* The optimal schedule of a row, 32 bytes a step, at the front of `out`, and its length; the sheet's refusals, 7, 11. */
 uint64_t segtrace_optimal_schedule(const uint8_t *sheet, size_t sheet_length, uint64_t row, uint8_t *out, size_t out_length,
                                    uint64_t *written);
 
-/* Memory, load and total of a schedule at a row: 1 to 6, 7, 8, then 9 or 10 of the earliest faulty step. */
+/* Memory, load and total of a schedule at a row; the sheet's refusals, 7, 8, then 9 or 10 of the earliest faulty step. */
 uint64_t segtrace_price(const uint8_t *sheet, size_t sheet_length, uint64_t row, const uint8_t *schedule, size_t schedule_length,
                         uint64_t price[SEGTRACE_PRICE]);
 
-/* The margin h*w - d*R of a reference, counted from 1, at a row; the reuse is kept where it is 0 or more: 1 to 6, 7, 14, 15. */
+/* The margin h*w - d*R of a reference, counted from 1, at a row; the reuse is kept where it is 0 or more; the sheet's refusals, 7, 14, 15. */
 uint64_t segtrace_margin(const uint8_t *sheet, size_t sheet_length, uint64_t row, uint64_t reference, int64_t *margin);
 
-/* The lowest row with the least load among the rows with optmem within the ceiling: 1 to 6, 12. */
+/* The lowest row with the least load among the rows with optmem within the ceiling; the sheet's refusals, 12. */
 uint64_t segtrace_size(const uint8_t *sheet, size_t sheet_length, uint64_t ceiling, uint64_t *row);
 
 /* The largest rate and the largest minimum of the loading tariff, in cents. */
@@ -88,7 +102,7 @@ enum { SEGTRACE_MAX_RATE = 9999, SEGTRACE_MAX_MINIMUM = 99999 };
 
 /*
  * The bill of a row in cents: the started thousands of its optmem at one rate and those of its load at another, raised to the minimum
- * where it is lower: 1 to 6, 7, 18.
+ * where it is lower; the sheet's refusals, 7, 18.
  */
 uint64_t segtrace_bill(const uint8_t *sheet, size_t sheet_length, uint64_t row, uint64_t memory_rate, uint64_t load_rate,
                        uint64_t minimum, uint64_t *cents);
@@ -99,7 +113,7 @@ uint64_t segtrace_bill(const uint8_t *sheet, size_t sheet_length, uint64_t row, 
  */
 typedef struct {
     uint64_t head[4];    /* kind (0 time, 1 space), a, segs, rows */
-    uint64_t counts[3];  /* references taken, their cost Q, their volume V */
+    uint64_t counts[3];  /* steps taken, the references' cost Q and volume V */
     uint16_t sizes[256]; /* of the segments, then 0 */
     uint16_t h[64];      /* prices of the rows, then 0 */
     uint16_t d[64];
@@ -112,22 +126,29 @@ uint64_t segtrace_recorder_start(const uint8_t *sheet, size_t sheet_length, uint
                                  uint16_t *h, uint16_t *d, uint16_t *last, uint64_t *sums);
 uint64_t segtrace_recorder_touch(const uint64_t *head, uint64_t *counts, const uint16_t *sizes, const uint16_t *h, const uint16_t *d,
                                  uint16_t *last, uint64_t *sums, uint64_t segment);
+uint64_t segtrace_recorder_idle(uint64_t *counts);
 uint64_t segtrace_recorder_touch_all(const uint64_t *head, uint64_t *counts, const uint16_t *sizes, const uint16_t *h,
                                      const uint16_t *d, uint16_t *last, uint64_t *sums, const uint16_t *segments,
                                      size_t segments_length);
 uint64_t segtrace_recorder_figures(const uint64_t *head, const uint64_t *counts, const uint16_t *sizes, const uint16_t *h,
                                    const uint16_t *d, const uint16_t *last, const uint64_t *sums, uint64_t row, uint64_t *figures);
 
-/* A recorder with the kind, a, sizes and rows of a sheet and no references: 1 to 6. */
+/* A recorder with the kind, a, sizes and rows of a sheet and no steps; the sheet's refusals. */
 static inline uint64_t segtrace_start(const uint8_t *sheet, size_t sheet_length, segtrace_recorder *r)
 {
     return segtrace_recorder_start(sheet, sheet_length, r->head, r->counts, r->sizes, r->h, r->d, r->last, r->sums);
 }
 
-/* Takes one reference: 4 for a segment not below segs, then 13 where 2,048 were taken. */
+/* Takes one reference: 4 for a segment not below segs, then 13 where 2,048 steps were taken. */
 static inline uint64_t segtrace_touch(segtrace_recorder *r, uint64_t segment)
 {
     return segtrace_recorder_touch(r->head, r->counts, r->sizes, r->h, r->d, r->last, r->sums, segment);
+}
+
+/* Takes one step without a touch: 13 where 2,048 steps were taken. */
+static inline uint64_t segtrace_idle(segtrace_recorder *r)
+{
+    return segtrace_recorder_idle(r->counts);
 }
 
 /* Takes all references, or none: 4 and 13 as for a touch, of the first reference that would be refused. */

@@ -16,7 +16,7 @@ static uint8_t sheet[SEGTRACE_SHEET_BYTES];
 static size_t sheet_length;
 static uint8_t listing[SEGTRACE_LISTING_BYTES], page[SEGTRACE_PAGE_BYTES], schedule[SEGTRACE_SCHEDULE_BYTES], again[SEGTRACE_SHEET_BYTES];
 static uint64_t all[SEGTRACE_ROWS * SEGTRACE_FIGURES];
-static uint16_t segments[SEGTRACE_REFERENCES];
+static uint16_t segments[SEGTRACE_STEPS];
 
 static void expect(const char *call, uint64_t got, uint64_t wanted)
 {
@@ -76,13 +76,13 @@ static void make_sheet(void)
         segments[i] = (uint16_t)(100 + i * 7 % 156);
         at += sprintf(at, i < 2047 ? "ref=%d\n" : "ref=%d", segments[i]);
     }
-    sheet_length = sizeof sheet;
+    sheet_length = SEGTRACE_SHEET_BYTES_FORM_1;
     expect("bytes of the largest sheet", (uint64_t)(at - (char *)sheet) + 1, sheet_length);
     sheet[sheet_length - 1] = '\n';
 }
 
-/* Every call on the largest sheet. */
-static void *every_call(void *unused)
+/* Every call on the sheet. */
+static void calls_on_sheet(void)
 {
     uint64_t figures[SEGTRACE_FIGURES], price[SEGTRACE_PRICE], written, row, cents;
     int64_t margin;
@@ -100,8 +100,26 @@ static void *every_call(void *unused)
     expect("bill", segtrace_bill(sheet, sheet_length, 63, 9999, 9999, 99999, &cents), 0);
     expect("start", segtrace_start(sheet, sheet_length, &r), 0);
     expect("touch", segtrace_touch(&r, 0), 0);
-    expect("touch_all", segtrace_touch_all(&r, segments, 2047), 0);
+    expect("idle", segtrace_idle(&r), 0);
+    expect("touch_all", segtrace_touch_all(&r, segments, 2046), 0);
+    expect("idle of a full recorder", segtrace_idle(&r), 13);
     expect("figures_now", segtrace_figures_now(&r, 63, figures), 0);
+}
+
+/* Every call on the largest sheet of form 1, then on the same sheet in form 2, which is its largest too; and back. */
+static void *every_call(void *unused)
+{
+    uint64_t written;
+    calls_on_sheet();
+    expect("to_form_1 of form 1", segtrace_to_form_1(sheet, sheet_length, again, sizeof again, &written), 4);
+    expect("to_form_2", segtrace_to_form_2(sheet, sheet_length, again, sizeof again, &written), 0);
+    expect("bytes of the largest sheet of form 2", written, SEGTRACE_SHEET_BYTES);
+    memcpy(sheet, again, written);
+    sheet_length = written;
+    calls_on_sheet();
+    expect("to_form_2 of form 2", segtrace_to_form_2(sheet, sheet_length, again, sizeof again, &written), 4);
+    expect("to_form_1", segtrace_to_form_1(sheet, sheet_length, again, sizeof again, &written), 0);
+    expect("bytes of the largest sheet of form 1", written, SEGTRACE_SHEET_BYTES_FORM_1);
     return unused;
 }
 

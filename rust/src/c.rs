@@ -16,6 +16,24 @@ extern "C" {
         written: *mut u64,
     ) -> u64;
 
+    /// A sheet of form 1 in form 2.
+    pub fn segtrace_to_form_2(
+        sheet: *const u8,
+        sheet_length: usize,
+        out: *mut u8,
+        out_length: usize,
+        written: *mut u64,
+    ) -> u64;
+
+    /// A sheet of form 2 in form 1.
+    pub fn segtrace_to_form_1(
+        sheet: *const u8,
+        sheet_length: usize,
+        out: *mut u8,
+        out_length: usize,
+        written: *mut u64,
+    ) -> u64;
+
     /// The eleven figures of a row.
     pub fn segtrace_figures(sheet: *const u8, sheet_length: usize, row: u64, figures: *mut u64) -> u64;
 
@@ -107,6 +125,9 @@ extern "C" {
         sums: *mut u64,
         segment: u64,
     ) -> u64;
+
+    /// Takes one step without a touch.
+    pub fn segtrace_recorder_idle(counts: *mut u64) -> u64;
 
     /// Takes all references, or none.
     pub fn segtrace_recorder_touch_all(

@@ -1,6 +1,7 @@
 //! The segment trace analyser: safe functions and types over the calls of `include/segtrace.h`.
 //!
-//! A sheet is handed in as bytes. Each function says in numbers what may refuse it; [`Refusal`] lists them. A refused call leaves every
+//! A sheet is handed in as bytes. Each function says in numbers what may refuse it; [`Refusal`] lists them. The sheet's refusals are 1 to 6
+//! and 16. A refused call leaves every
 //! lent place as it was.
 //!
 //! ```
@@ -22,18 +23,20 @@ mod refusal;
 pub use recorder::Recorder;
 pub use refusal::Refusal;
 
-/// The most bytes of a sheet.
-pub const SHEET_BYTES: usize = 20_012;
+/// The most bytes of a sheet, of any form.
+pub const SHEET_BYTES: usize = 29_163;
+/// The most bytes of a sheet of form 1.
+pub const SHEET_BYTES_FORM_1: usize = 20_012;
 /// The most bytes of a listing.
-pub const LISTING_BYTES: usize = 11_547;
+pub const LISTING_BYTES: usize = 11_558;
 /// The most bytes of a page for the binder: two pages.
 pub const PAGE_BYTES: usize = 8_760;
 /// The most bytes of a schedule.
 pub const SCHEDULE_BYTES: usize = 65_536;
 /// The most rows of a sheet.
 pub const ROWS: usize = 64;
-/// The most references of a sheet or a recorder.
-pub const REFERENCES: usize = 2_048;
+/// The most steps of a sheet or a recorder, and so the most references.
+pub const STEPS: usize = 2_048;
 
 /// The eleven figures of a row.
 #[derive(Clone, Copy, Debug, Default, PartialEq, Eq)]
@@ -121,12 +124,12 @@ impl Tariff {
 
 // In each call below the pointers come from slices and references, so they are valid, and the lent ones overlap nothing else.
 
-/// Whether the bytes are a sheet: 1 to 6.
+/// Whether the bytes are a sheet: the sheet's refusals.
 pub fn check(sheet: &[u8]) -> Result<(), Refusal> {
     Refusal::answer(unsafe { c::segtrace_check(sheet.as_ptr(), sheet.len()) })
 }
 
-/// The sheet read and written again, at the front of `out`. Gives its length: 1 to 6, 11.
+/// The sheet read and written again, at the front of `out`. Gives its length: the sheet's refusals, 11.
 pub fn rewrite(sheet: &[u8], out: &mut [u8]) -> Result<usize, Refusal> {
     let mut written = 0;
     Refusal::answer(unsafe {
@@ -135,14 +138,33 @@ pub fn rewrite(sheet: &[u8], out: &mut [u8]) -> Result<usize, Refusal> {
     Ok(written as usize)
 }
 
-/// The figures of a row, counted from 0: 1 to 6, 7.
+/// A sheet of form 1 in form 2, at the front of `out`. Gives its length: the sheet's refusals (any other form is 4), 11.
+pub fn to_form_2(sheet: &[u8], out: &mut [u8]) -> Result<usize, Refusal> {
+    let mut written = 0;
+    Refusal::answer(unsafe {
+        c::segtrace_to_form_2(sheet.as_ptr(), sheet.len(), out.as_mut_ptr(), out.len(), &mut written)
+    })?;
+    Ok(written as usize)
+}
+
+/// A sheet of form 2 without an idle step in form 1, at the front of `out`. Gives its length: the sheet's refusals (any other form is 4),
+/// 17, 11.
+pub fn to_form_1(sheet: &[u8], out: &mut [u8]) -> Result<usize, Refusal> {
+    let mut written = 0;
+    Refusal::answer(unsafe {
+        c::segtrace_to_form_1(sheet.as_ptr(), sheet.len(), out.as_mut_ptr(), out.len(), &mut written)
+    })?;
+    Ok(written as usize)
+}
+
+/// The figures of a row, counted from 0: the sheet's refusals, 7.
 pub fn figures(sheet: &[u8], row: u64) -> Result<Figures, Refusal> {
     let mut figures = Figures::default();
     Refusal::answer(unsafe { c::segtrace_figures(sheet.as_ptr(), sheet.len(), row, figures.as_mut_ptr()) })?;
     Ok(figures)
 }
 
-/// The figures of every row, at the front of `out`. Gives how many rows: 1 to 6, 11.
+/// The figures of every row, at the front of `out`. Gives how many rows: the sheet's refusals, 11.
 pub fn all_figures(sheet: &[u8], out: &mut [Figures]) -> Result<usize, Refusal> {
     let mut written = 0;
     // A record is eleven numbers one after the other, so a list of records is one list of numbers.
@@ -152,7 +174,7 @@ pub fn all_figures(sheet: &[u8], out: &mut [Figures]) -> Result<usize, Refusal> 
     Ok(written as usize / Figures::COUNT)
 }
 
-/// The listing, at the front of `out`. Gives its length: 1 to 6, 11.
+/// The listing, at the front of `out`. Gives its length: the sheet's refusals, 11.
 pub fn listing(sheet: &[u8], out: &mut [u8]) -> Result<usize, Refusal> {
     let mut written = 0;
     Refusal::answer(unsafe {
@@ -162,7 +184,7 @@ pub fn listing(sheet: &[u8], out: &mut [u8]) -> Result<usize, Refusal> {
 }
 
 /// The page for the binder, 60 lines of 72 characters and a line feed, at the front of `out`; two pages where there are more than 58 rows.
-/// Gives the length, 4,380 or 8,760: 1 to 6, 11.
+/// Gives the length, 4,380 or 8,760: the sheet's refusals, 11.
 pub fn page(sheet: &[u8], out: &mut [u8]) -> Result<usize, Refusal> {
     let mut written = 0;
     Refusal::answer(unsafe {
@@ -171,7 +193,7 @@ pub fn page(sheet: &[u8], out: &mut [u8]) -> Result<usize, Refusal> {
     Ok(written as usize)
 }
 
-/// The optimal schedule of a row, 32 bytes a step, at the front of `out`. Gives its length: 1 to 6, 7, 11.
+/// The optimal schedule of a row, 32 bytes a step, at the front of `out`. Gives its length: the sheet's refusals, 7, 11.
 pub fn optimal_schedule(sheet: &[u8], row: u64, out: &mut [u8]) -> Result<usize, Refusal> {
     let mut written = 0;
     Refusal::answer(unsafe {
@@ -180,7 +202,7 @@ pub fn optimal_schedule(sheet: &[u8], row: u64, out: &mut [u8]) -> Result<usize,
     Ok(written as usize)
 }
 
-/// What a schedule costs at a row: 1 to 6, 7, 8, then 9 or 10 of the earliest faulty step.
+/// What a schedule costs at a row: the sheet's refusals, 7, 8, then 9 or 10 of the earliest faulty step.
 pub fn price(sheet: &[u8], row: u64, schedule: &[u8]) -> Result<Price, Refusal> {
     let mut price = [0; 3];
     Refusal::answer(unsafe {
@@ -190,21 +212,21 @@ pub fn price(sheet: &[u8], row: u64, schedule: &[u8]) -> Result<Price, Refusal> 
     Ok(Price { memory, load, total })
 }
 
-/// The margin h*w - d*R of a reference, counted from 1, at a row; the reuse is kept where it is 0 or more: 1 to 6, 7, 14, 15.
+/// The margin h*w - d*R of a reference, counted from 1, at a row; the reuse is kept where it is 0 or more: the sheet's refusals, 7, 14, 15.
 pub fn margin(sheet: &[u8], row: u64, reference: u64) -> Result<i64, Refusal> {
     let mut margin = 0;
     Refusal::answer(unsafe { c::segtrace_margin(sheet.as_ptr(), sheet.len(), row, reference, &mut margin) })?;
     Ok(margin)
 }
 
-/// The lowest row with the least load among the rows with optmem within the ceiling: 1 to 6, 12.
+/// The lowest row with the least load among the rows with optmem within the ceiling: the sheet's refusals, 12.
 pub fn size(sheet: &[u8], ceiling: u64) -> Result<u64, Refusal> {
     let mut row = 0;
     Refusal::answer(unsafe { c::segtrace_size(sheet.as_ptr(), sheet.len(), ceiling, &mut row) })?;
     Ok(row)
 }
 
-/// The bill of a row in cents: 1 to 6, 7, 18.
+/// The bill of a row in cents: the sheet's refusals, 7, 18.
 pub fn bill(sheet: &[u8], row: u64, tariff: Tariff) -> Result<u64, Refusal> {
     let Tariff { memory_rate, load_rate, minimum } = tariff;
     let mut cents = 0;

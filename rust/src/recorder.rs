@@ -2,7 +2,7 @@
 
 use crate::{c, Figures, Refusal};
 
-/// A recorder: takes references one by one and gives the figures of the sheet that ends there at any moment.
+/// A recorder: takes references and idle steps one by one and gives the figures of the sheet that ends there at any moment.
 ///
 /// Its parts are those of `segtrace_recorder` in the header. With numbers put in by hand a call still returns and does nothing undefined,
 /// but what it gives means nothing.
@@ -11,7 +11,7 @@ use crate::{c, Figures, Refusal};
 pub struct Recorder {
     /// Kind (0 time, 1 space), a, segs, rows.
     pub head: [u64; 4],
-    /// References taken, their cost Q, their volume V.
+    /// Steps taken, the references' cost Q and volume V.
     pub counts: [u64; 3],
     /// Sizes of the segments, then 0.
     pub sizes: [u16; 256],
@@ -38,7 +38,7 @@ impl Recorder {
         sums: [0; 390],
     };
 
-    /// A recorder with the kind, a, sizes and rows of a sheet and no references: 1 to 6.
+    /// A recorder with the kind, a, sizes and rows of a sheet and no steps: the sheet's refusals.
     pub fn start(sheet: &[u8]) -> Result<Recorder, Refusal> {
         let mut recorder = Recorder::EMPTY;
         let Recorder { head, counts, sizes, h, d, last, sums } = &mut recorder;
@@ -58,12 +58,12 @@ impl Recorder {
         Ok(recorder)
     }
 
-    /// How many references have been taken.
+    /// How many steps have been taken, idle ones too.
     pub fn taken(&self) -> u64 {
         self.counts[0]
     }
 
-    /// Takes one reference: 4 for a segment not below segs, then 13 where 2,048 were taken. Refused, the recorder is as it was.
+    /// Takes one reference: 4 for a segment not below segs, then 13 where 2,048 steps were taken. Refused, the recorder is as it was.
     #[inline]
     pub fn touch(&mut self, segment: u64) -> Result<(), Refusal> {
         Refusal::answer(unsafe {
@@ -78,6 +78,12 @@ impl Recorder {
                 segment,
             )
         })
+    }
+
+    /// Takes one step without a touch: 13 where 2,048 steps were taken. Refused, the recorder is as it was.
+    #[inline]
+    pub fn idle(&mut self) -> Result<(), Refusal> {
+        Refusal::answer(unsafe { c::segtrace_recorder_idle(self.counts.as_mut_ptr()) })
     }
 
     /// Takes all references, or none: refused as the first touch that would be refused (4, 13), the recorder is as it was.

@@ -6,7 +6,7 @@ use std::fmt;
 #[derive(Clone, Copy, Debug, PartialEq, Eq, Hash)]
 #[repr(u64)]
 pub enum Refusal {
-    /// The sheet is longer than 20,012 bytes.
+    /// The sheet is longer than 20,012 bytes, in form 2 than 29,163.
     SheetTooLong = 1,
     /// A line is missing, lacks its line feed, or does not begin with its key and "=".
     LineMalformed,
@@ -20,7 +20,7 @@ pub enum Refusal {
     BytesAfterEnd,
     /// The row asked for is not below rows.
     NoSuchRow,
-    /// The schedule does not have 32 bytes a reference.
+    /// The schedule does not have 32 bytes a step.
     ScheduleLength,
     /// In the earliest faulty step the touched segment is not held.
     TouchedNotHeld,
@@ -30,19 +30,23 @@ pub enum Refusal {
     PlaceTooShort,
     /// Every row's optmem exceeds the ceiling.
     NoRowFits,
-    /// The recorder already has 2,048 references.
+    /// The recorder already has 2,048 steps.
     RecorderFull,
     /// The reference asked for is not between 1 and refs.
     NoSuchReference,
     /// The reference is a first touch and has no margin.
     FirstTouch,
+    /// The step of a touch is not above the one before, or lies beyond steps.
+    StepNotAbove,
+    /// Converting back to form 1: a step is idle.
+    IdleStep,
     /// A rate or the minimum of a tariff lies outside its range.
-    TariffOutOfRange = 18,
+    TariffOutOfRange,
 }
 
 impl Refusal {
     /// All refusals, in the order of their numbers.
-    pub const ALL: [Refusal; 16] = [
+    pub const ALL: [Refusal; 18] = [
         Refusal::SheetTooLong,
         Refusal::LineMalformed,
         Refusal::ValueMalformed,
@@ -58,6 +62,8 @@ impl Refusal {
         Refusal::RecorderFull,
         Refusal::NoSuchReference,
         Refusal::FirstTouch,
+        Refusal::StepNotAbove,
+        Refusal::IdleStep,
         Refusal::TariffOutOfRange,
     ];
 
@@ -84,21 +90,23 @@ impl Refusal {
 impl fmt::Display for Refusal {
     fn fmt(&self, formatter: &mut fmt::Formatter<'_>) -> fmt::Result {
         formatter.write_str(match self {
-            Refusal::SheetTooLong => "the sheet is longer than 20,012 bytes",
+            Refusal::SheetTooLong => "the sheet is too long",
             Refusal::LineMalformed => "a line is missing, lacks its line feed or does not begin with its key",
             Refusal::ValueMalformed => "a value is not written as asked",
             Refusal::OutOfRange => "a number lies outside its range",
             Refusal::ThresholdNotAbove => "a row's threshold does not exceed the one before",
             Refusal::BytesAfterEnd => "bytes follow the last line",
             Refusal::NoSuchRow => "there is no such row",
-            Refusal::ScheduleLength => "the schedule does not have 32 bytes a reference",
+            Refusal::ScheduleLength => "the schedule does not have 32 bytes a step",
             Refusal::TouchedNotHeld => "a touched segment is not held",
             Refusal::HeldNotBefore => "a segment is held that was neither touched nor held before",
             Refusal::PlaceTooShort => "the lent place is shorter than the result",
             Refusal::NoRowFits => "no row fits the ceiling",
-            Refusal::RecorderFull => "the recorder has 2,048 references",
+            Refusal::RecorderFull => "the recorder has 2,048 steps",
             Refusal::NoSuchReference => "there is no such reference",
             Refusal::FirstTouch => "a first touch has no margin",
+            Refusal::StepNotAbove => "a step is not above the one before or lies beyond steps",
+            Refusal::IdleStep => "a step is idle",
             Refusal::TariffOutOfRange => "a rate or the minimum lies outside its range",
         })
     }

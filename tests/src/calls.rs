@@ -16,6 +16,18 @@ pub fn rewrite(sheet: &[u8], out: &mut [u8], written: &mut u64) -> u64 {
     })
 }
 
+pub fn to_form_2(sheet: &[u8], out: &mut [u8], written: &mut u64) -> u64 {
+    wrong::lent(Call::ToForm2, out, written, |out, written| unsafe {
+        c::segtrace_to_form_2(sheet.as_ptr(), sheet.len(), out.as_mut_ptr(), out.len(), written)
+    })
+}
+
+pub fn to_form_1(sheet: &[u8], out: &mut [u8], written: &mut u64) -> u64 {
+    wrong::lent(Call::ToForm1, out, written, |out, written| unsafe {
+        c::segtrace_to_form_1(sheet.as_ptr(), sheet.len(), out.as_mut_ptr(), out.len(), written)
+    })
+}
+
 pub fn figures(sheet: &[u8], row: u64, figures: &mut [u64; 11]) -> u64 {
     wrong::list(Call::Figures, figures, |figures| unsafe {
         c::segtrace_figures(sheet.as_ptr(), sheet.len(), row, figures.as_mut_ptr())
@@ -89,7 +101,7 @@ pub fn start(sheet: &[u8], recorder: &mut Recorder) -> u64 {
 }
 
 pub fn touch(recorder: &mut Recorder, segment: u64) -> u64 {
-    wrong::touch(recorder, |Recorder { head, counts, sizes, h, d, last, sums }| unsafe {
+    wrong::touch(Call::Touch, recorder, |Recorder { head, counts, sizes, h, d, last, sums }| unsafe {
         c::segtrace_recorder_touch(
             head.as_ptr(),
             counts.as_mut_ptr(),
@@ -100,6 +112,12 @@ pub fn touch(recorder: &mut Recorder, segment: u64) -> u64 {
             sums.as_mut_ptr(),
             segment,
         )
+    })
+}
+
+pub fn idle(recorder: &mut Recorder) -> u64 {
+    wrong::touch(Call::Idle, recorder, |Recorder { counts, .. }| unsafe {
+        c::segtrace_recorder_idle(counts.as_mut_ptr())
     })
 }
 

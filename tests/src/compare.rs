@@ -10,6 +10,9 @@ use crate::tally::Tally;
 /// What a failing comparison says.
 pub type Outcome = Result<(), String>;
 
+/// A converter: bytes, the lent place and the length written.
+type Convert = fn(&[u8], &mut [u8], &mut u64) -> u64;
+
 pub struct Case<'a> {
     pub prng: Prng,
     /// The sheet under test, accepted or not.
@@ -48,6 +51,7 @@ impl Case<'_> {
         self.list_call::<u64, 1>("size", Err(number), |[out]| calls::size(bytes, ceiling, out))?;
         let rates = generate::rates(&mut self.prng);
         self.list_call::<u64, 1>("bill", Err(number), |[out]| calls::bill(bytes, row, rates, out))?;
+        self.converters()?;
         self.start_refused(number)?;
         self.wrapper_refused(number, row, reference, ceiling, &schedule)
     }
@@ -84,7 +88,9 @@ impl Case<'_> {
         self.margins(sheet)?;
         self.sizing(&all)?;
         self.bills(sheet, &all)?;
-        if sheet.sizes.len() <= enumerate::MOST_SEGS && sheet.refs.len() <= enumerate::MOST_REFS {
+        self.converters()?;
+        self.there_and_back(sheet)?;
+        if sheet.sizes.len() <= enumerate::MOST_SEGS && sheet.steps.len() <= enumerate::MOST_STEPS {
             self.demand_three(sheet)?;
         }
         self.recorder(sheet)?;
@@ -133,7 +139,7 @@ impl Case<'_> {
         let bytes = self.bytes;
         let row = self.no_row(sheet);
         self.call::<u8>("optimal_schedule", Err(7), |out, written| calls::optimal_schedule(bytes, row, out, written))?;
-        let few = if sheet.refs.len() > 100 { 1 } else { 3 };
+        let few = if sheet.steps.len() > 100 { 1 } else { 3 };
         for row in self.some_rows(sheet, few) {
             let optimal = reference::optimal_schedule(sheet, sheet.rows[row]);
             let price = self.price(sheet, &optimal, row)?;
@@ -178,7 +184,7 @@ impl Case<'_> {
         let permitted = enumerate::permitted_schedules(sheet);
         for (number, &row) in sheet.rows.iter().enumerate() {
             let mut figures = [0; 11];
-            let mut schedule = vec![0; STEP * sheet.refs.len()];
+            let mut schedule = vec![0; STEP * sheet.steps.len()];
             let mut written = 0;
             done("figures", calls::figures(self.bytes, number as u64, &mut figures))?;
             let returned = calls::optimal_schedule(self.bytes, number as u64, &mut schedule, &mut written);
@@ -195,15 +201,15 @@ impl Case<'_> {
 
     /// Every schedule of a small sheet, permitted or not, with one bit that no segment has. Those permitted are the enumerated ones.
     fn every_pattern(&mut self, sheet: &Sheet, permitted: &[enumerate::Permitted]) -> Outcome {
-        let refs = sheet.refs.len();
+        let steps = sheet.steps.len();
         let width = sheet.sizes.len() + 1;
-        if width * refs > 9 {
+        if width * steps > 9 {
             return Ok(());
         }
         let row = self.some_row(sheet);
         let mut priced = 0;
-        for pattern in 0..1u32 << (width * refs) {
-            let sets: Vec<u8> = (0..refs).map(|step| (pattern >> (width * step) & ((1 << width) - 1)) as u8).collect();
+        for pattern in 0..1u32 << (width * steps) {
+            let sets: Vec<u8> = (0..steps).map(|step| (pattern >> (width * step) & ((1 << width) - 1)) as u8).collect();
             let schedule = enumerate::bytes_of(&sets);
             priced += usize::from(self.price(sheet, &schedule, row)?.is_ok());
         }
@@ -213,8 +219,9 @@ impl Case<'_> {
     // ---- Margins and sizing ----
 
     fn margins(&mut self, sheet: &Sheet) -> Outcome {
-        let refs = sheet.refs.len() as u64;
-        for reference in [0, refs + 1, refs + (1 << 16), 1 + (1 << 16), 1 + (1 << 32), u64::MAX] {
+        let refs = sheet.references().len() as u64;
+        let steps = sheet.steps.len() as u64;
+        for reference in [0, refs + 1, steps, steps + 1, refs + (1 << 16), 1 + (1 << 16), 1 + (1 << 32), u64::MAX] {
             let row = self.some_row(sheet);
             self.margin(sheet, row, reference)?;
         }
@@ -233,8 +240,9 @@ impl Case<'_> {
     fn margin(&mut self, sheet: &Sheet, row: usize, reference: u64) -> Outcome {
         let bytes = self.bytes;
         let margin = reference::margin(sheet, sheet.rows[row], reference);
-        if reference != 0 && reference <= sheet.refs.len() as u64 {
-            self.margin_agrees(sheet, sheet.rows[row], reference as usize, margin)?;
+        let references = sheet.references();
+        if let Some(&(step, segment)) = reference.checked_sub(1).and_then(|place| references.get(place as usize)) {
+            self.margin_agrees(sheet, sheet.rows[row], step, segment, margin)?;
         }
         let want = margin.as_ref().map(std::array::from_ref).map_err(|&number| number);
         self.list_call("margin", want, |[out]| calls::margin(bytes, row as u64, reference, out))
@@ -242,8 +250,14 @@ impl Case<'_> {
     }
 
     /// A reuse is kept exactly when its margin is 0 or more.
-    fn margin_agrees(&self, sheet: &Sheet, row: Row, step: usize, margin: Result<i64, u64>) -> Outcome {
-        let segment = sheet.touched(step);
+    fn margin_agrees(
+        &self,
+        sheet: &Sheet,
+        row: Row,
+        step: usize,
+        segment: usize,
+        margin: Result<i64, u64>,
+    ) -> Outcome {
         let kept = sheet.last_touch(segment, step).map(|last| sheet.keeps(row, segment, (step - last - 1) as u64));
         ensure(kept == margin.ok().map(|margin| margin >= 0), || {
             "the reference's margin and keep rule differ".to_string()
@@ -285,6 +299,37 @@ impl Case<'_> {
         }
         let (row, rates) = (self.no_row(sheet), generate::rates(&mut self.prng));
         self.list_call::<u64, 1>("bill", Err(7), |[out]| calls::bill(bytes, row, rates, out))
+    }
+
+    // ---- Conversion ----
+
+    /// Both converters on the bytes, whatever they are: each takes one form.
+    fn converters(&mut self) -> Outcome {
+        let bytes = self.bytes;
+        let second = reference::to_form_2(bytes);
+        let given = second.as_deref().map_err(|&number| number);
+        self.call("to_form_2", given, |out, written| calls::to_form_2(bytes, out, written))?;
+        let first = reference::to_form_1(bytes);
+        let given = first.as_deref().map_err(|&number| number);
+        self.call("to_form_1", given, |out, written| calls::to_form_1(bytes, out, written))
+    }
+
+    /// Converting there and back restores the bytes, from the answers of the calls alone.
+    fn there_and_back(&mut self, sheet: &Sheet) -> Outcome {
+        if sheet.form > 1 && sheet.steps.contains(&None) {
+            return Ok(());
+        }
+        let mut there = vec![0; reference::longest(2)];
+        let mut back = vec![0; reference::longest(2)];
+        let (mut there_length, mut back_length) = (0, 0);
+        let (one, other): (Convert, Convert) = match sheet.form {
+            1 => (calls::to_form_2, calls::to_form_1),
+            _ => (calls::to_form_1, calls::to_form_2),
+        };
+        done("there", one(self.bytes, &mut there, &mut there_length))?;
+        done("back", other(&there[..there_length as usize], &mut back, &mut back_length))?;
+        (0..2).for_each(|_| self.tally.note(0));
+        ensure(&back[..back_length as usize] == self.bytes, || "there and back are other bytes".to_string())
     }
 
     // ---- Calls with lent places ----

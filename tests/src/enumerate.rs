@@ -4,7 +4,7 @@ use crate::reference::{Row, Sheet, STEP};
 
 /// Sheets up to this size are worth it.
 pub const MOST_SEGS: usize = 3;
-pub const MOST_REFS: usize = 5;
+pub const MOST_STEPS: usize = 5;
 
 /// Memory and load of a schedule.
 #[derive(Clone, Copy, Debug, PartialEq, Eq)]
@@ -34,7 +34,7 @@ pub fn permitted_schedules(sheet: &Sheet) -> Vec<Permitted> {
 
 /// Every permitted continuation of the steps so far.
 fn extend(sheet: &Sheet, sets: Vec<u8>, cost: Cost, found: &mut Vec<Permitted>) {
-    let Some(&touched) = sheet.refs.get(sets.len()) else {
+    let Some(&touched) = sheet.steps.get(sets.len()) else {
         found.push(Permitted { sets, cost });
         return;
     };
@@ -42,13 +42,14 @@ fn extend(sheet: &Sheet, sets: Vec<u8>, cost: Cost, found: &mut Vec<Permitted>) 
     for set in 0..1u32 << sheet.sizes.len() {
         let set = set as u8;
         let has = |set: u8, segment: usize| set >> segment & 1 == 1;
-        let others = || (0..sheet.sizes.len()).filter(|&segment| segment != touched && has(set, segment));
-        if !has(set, touched) || others().any(|segment| !has(before, segment)) {
+        let others = || (0..sheet.sizes.len()).filter(|&segment| Some(segment) != touched && has(set, segment));
+        if touched.is_some_and(|touched| !has(set, touched)) || others().any(|segment| !has(before, segment)) {
             continue;
         }
         let held: u64 = others().map(|segment| sheet.holding_cost(segment)).sum();
-        let swap = if has(before, touched) { 0 } else { sheet.swap_cost(touched) };
-        let cost = Cost { memory: cost.memory + sheet.reference_cost(touched) + held, load: cost.load + swap };
+        let touch = touched.map_or(0, |touched| sheet.reference_cost(touched));
+        let swap = touched.filter(|&touched| !has(before, touched)).map_or(0, |touched| sheet.swap_cost(touched));
+        let cost = Cost { memory: cost.memory + touch + held, load: cost.load + swap };
         extend(sheet, [&sets[..], &[set]].concat(), cost, found);
     }
 }

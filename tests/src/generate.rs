@@ -71,7 +71,7 @@ pub enum Shape {
     Small,
     Middle,
     Large,
-    /// Exactly 256 segments, 64 rows, 2,048 references, in many cases with every line the longest.
+    /// Exactly 256 segments, 64 rows, 2,048 steps, in many cases with every line the longest.
     Largest,
 }
 
@@ -86,7 +86,7 @@ impl Shape {
         }
     }
 
-    /// The most segments, rows and references.
+    /// The most segments, rows and steps.
     fn limits(self) -> (u64, u64, u64) {
         match self {
             Shape::Tiny => (3, 4, 5),
@@ -166,11 +166,44 @@ pub fn sheet(prng: &mut Prng, shape: Shape) -> Sheet {
         .collect();
     let pattern = prng.pick(&[Pattern::Uniform, Pattern::Cyclic, Pattern::Local, Pattern::Runs]);
     let lowest = if longest_lines { 100 } else { 0 };
-    let refs = references(prng, pattern, lowest, segs, ref_count);
-    let mut sheet = Sheet { kind, a, sizes, rows: Vec::new(), refs };
+    let mut steps: Vec<Option<usize>> = references(prng, pattern, lowest, segs, ref_count).into_iter().map(Some).collect();
+    let form = if prng.one_in(2) { 2 } else { 1 };
+    if form > 1 && !longest_lines {
+        put_in_idle_steps(prng, &mut steps, most_refs as usize);
+    }
+    let mut sheet = Sheet { form, kind, a, sizes, rows: Vec::new(), steps };
     let style = if longest_lines { RowStyle::FiveDigits } else { prng.pick(&RowStyle::ALL) };
     sheet.rows = rows(prng, &sheet, style, row_count);
     sheet
+}
+
+/// Steps without a touch: none, a few, many, or all; between touches, in front and at the end.
+fn put_in_idle_steps(prng: &mut Prng, steps: &mut Vec<Option<usize>>, most: usize) {
+    match prng.below(8) {
+        0 => {}
+        1 => steps.fill(None),
+        2 => {
+            let room = most - steps.len();
+            let count = room.min(prng.below(6));
+            steps.extend(std::iter::repeat_n(None, count));
+        }
+        3 => {
+            let often = 1 + prng.below(6);
+            steps.iter_mut().filter(|_| prng.below(6) < often).for_each(|step| *step = None);
+        }
+        _ => {
+            let chance = prng.pick(&[2, 3, 10, 40]);
+            let old = std::mem::take(steps);
+            for touched in old {
+                while prng.one_in(chance) && steps.len() < most {
+                    steps.push(None);
+                }
+                if steps.len() < most {
+                    steps.push(touched);
+                }
+            }
+        }
+    }
 }
 
 /// How the thresholds of the rows are chosen.
@@ -240,11 +273,11 @@ fn threshold(prng: &mut Prng, sheet: &Sheet, style: RowStyle, centre: Row) -> Ro
 
 /// R and w of a random reuse, as h and d.
 fn reuse_ratio(prng: &mut Prng, sheet: &Sheet) -> Option<Row> {
-    if sheet.refs.is_empty() {
+    let references = sheet.references();
+    if references.is_empty() {
         return None;
     }
-    let step = 1 + prng.below(sheet.refs.len());
-    let segment = sheet.touched(step);
+    let (step, segment) = prng.pick(&references);
     let last = sheet.last_touch(segment, step)?;
     Some(Row { h: sheet.retention(segment, (step - last - 1) as u64), d: sheet.swap_cost(segment) })
 }
@@ -330,7 +363,7 @@ pub fn damaged(prng: &mut Prng, sheet: &Sheet) -> Vec<u8> {
     bytes
 }
 
-const ODD_BYTES: &[u8] = b"0123456789=/\n\r +-.,x\0\xff";
+const ODD_BYTES: &[u8] = b"0123456789=/@\n\r +-.,xw\0\xff";
 
 fn damage(prng: &mut Prng, sheet: &Sheet, mut bytes: Vec<u8>) -> Vec<u8> {
     if bytes.is_empty() {
@@ -338,7 +371,7 @@ fn damage(prng: &mut Prng, sheet: &Sheet, mut bytes: Vec<u8>) -> Vec<u8> {
     }
     let byte = if prng.one_in(2) { prng.pick(ODD_BYTES) } else { prng.next() as u8 };
     let place = prng.below(bytes.len());
-    match prng.below(20) {
+    match prng.below(22) {
         0 => bytes[place] = byte,
         1 => bytes.insert(place, byte),
         2 => {
@@ -354,6 +387,7 @@ fn damage(prng: &mut Prng, sheet: &Sheet, mut bytes: Vec<u8>) -> Vec<u8> {
         8 => bytes = with_count_moved(prng, bytes),
         9..=11 => bytes = with_thresholds_moved(prng, bytes),
         12 => bytes = strange(prng),
+        13 | 14 => bytes = with_form_line(prng, bytes),
         _ => bytes = with_odd_value(prng, sheet, bytes),
     }
     bytes
@@ -391,7 +425,8 @@ fn with_tail(prng: &mut Prng, mut bytes: Vec<u8>) -> Vec<u8> {
 
 /// Made about as long as the longest sheet by bytes at the end, within a value or before the first line.
 fn stretched(prng: &mut Prng, mut bytes: Vec<u8>) -> Vec<u8> {
-    let length = reference::LONGEST_SHEET - 2 + prng.below(5);
+    let form = prng.between(1, 2);
+    let length = reference::longest(form) - 2 + prng.below(5);
     let missing = length.saturating_sub(bytes.len());
     let fill = prng.pick(b"0123456789\nr");
     let place = match prng.below(4) {
@@ -417,6 +452,30 @@ fn stretched(prng: &mut Prng, mut bytes: Vec<u8>) -> Vec<u8> {
     bytes
 }
 
+/// A first line put in or exchanged that names a form, known or not, or nearly so.
+fn with_form_line(prng: &mut Prng, bytes: Vec<u8>) -> Vec<u8> {
+    let first = prng.pick(&[
+        "form=0\n",
+        "form=1\n",
+        "form=2\n",
+        "form=2\n",
+        "form=3\n",
+        "form=4\n",
+        "form=02\n",
+        "form=2",
+        "form=\n",
+        "form=",
+        "form\n",
+        "Form=2\n",
+        "form=2\r\n",
+        "form=two\n",
+        "form=18446744073709551618\n",
+    ]);
+    let named = bytes.starts_with(b"form=") && prng.one_in(2);
+    let from = if named { bytes.iter().position(|&byte| byte == b'\n').map_or(0, |end| end + 1) } else { 0 };
+    [first.as_bytes(), &bytes[from..]].concat()
+}
+
 /// A line dropped, doubled or exchanged with another.
 fn with_lines_moved(prng: &mut Prng, bytes: Vec<u8>) -> Vec<u8> {
     let mut lines = lines(&bytes);
@@ -433,10 +492,10 @@ fn with_lines_moved(prng: &mut Prng, bytes: Vec<u8>) -> Vec<u8> {
     lines.concat()
 }
 
-/// One of the three counts a little off, its lines as they were.
+/// One of the counts a little off, its lines as they were.
 fn with_count_moved(prng: &mut Prng, bytes: Vec<u8>) -> Vec<u8> {
     let mut lines = lines(&bytes);
-    let key = prng.pick(&["segs", "rows", "refs"]);
+    let key = prng.pick(&["segs", "rows", "refs", "steps"]);
     let Some(line) = line_with(prng, &lines, key) else { return bytes };
     let Some(count) = value_of(&lines[line]) else { return bytes };
     let moved = (count + 1 + prng.below(3) as u128).saturating_sub(2);
@@ -487,7 +546,8 @@ fn strange(prng: &mut Prng) -> Vec<u8> {
         2 => b"kind=time\na=0\nsegs=1\nsize=1\nrows=1\nrow=0/1\nrefs=0".to_vec(),
         3 => b"kind=time\r\na=0\r\nsegs=1\r\nsize=1\r\nrows=1\r\nrow=0/1\r\nrefs=0\r\n".to_vec(),
         4 => {
-            let length = reference::LONGEST_SHEET - 2 + prng.below(5);
+            let form = prng.between(1, 2);
+            let length = reference::longest(form) - 2 + prng.below(5);
             prng.bytes(length)
         }
         _ => prng.bytes(count),
@@ -497,7 +557,7 @@ fn strange(prng: &mut Prng) -> Vec<u8> {
 /// The value of a line replaced by another, which is mostly faulty.
 fn with_odd_value(prng: &mut Prng, sheet: &Sheet, bytes: Vec<u8>) -> Vec<u8> {
     let mut lines = lines(&bytes);
-    let key = prng.pick(&["kind", "a", "segs", "size", "rows", "row", "row", "refs", "ref"]);
+    let key = prng.pick(&["form", "kind", "a", "segs", "size", "rows", "row", "row", "steps", "refs", "ref", "ref", "ref"]);
     let Some(line) = line_with(prng, &lines, key) else { return bytes };
     let old = value_of(&lines[line]).unwrap_or(1);
     let value = match key {
@@ -506,7 +566,10 @@ fn with_odd_value(prng: &mut Prng, sheet: &Sheet, bytes: Vec<u8>) -> Vec<u8> {
         "segs" => odd_number(prng, old, 1, 256),
         "size" => odd_number(prng, old, 1, 4_095),
         "rows" => odd_number(prng, old, 1, 64),
-        "refs" => odd_number(prng, old, 0, 2_048),
+        "form" => odd_number(prng, old, 2, u128::from(reference::NEWEST_FORM)),
+        "steps" => odd_number(prng, old, 0, 2_048),
+        "refs" => odd_number(prng, old, 0, if sheet.form > 1 { sheet.steps.len() as u128 } else { 2_048 }),
+        "ref" if sheet.form > 1 => odd_touch(prng, sheet, &lines[line]),
         "ref" => odd_number(prng, old, 0, sheet.sizes.len() as u128 - 1),
         _ => {
             let (h, d) = row_of(&lines[line]).unwrap_or((1, 1));
@@ -597,16 +660,43 @@ fn odd_row(prng: &mut Prng, h: u128, d: u128) -> String {
     }
 }
 
+/// A touch line's value, segment and step, which is mostly faulty: 3 is asked of both before 4 of the segment, and 16 of the step last.
+fn odd_touch(prng: &mut Prng, sheet: &Sheet, line: &[u8]) -> String {
+    let value = std::str::from_utf8(line).ok().and_then(|line| line.trim_end().strip_prefix("ref="));
+    let parts = value.and_then(|value| value.split_once('@'));
+    let number = |text: &str| text.parse::<u128>().unwrap_or(1);
+    let (segment, step) = parts.map_or((0, 1), |(segment, step)| (number(segment), number(step)));
+    let (last_segment, steps) = (sheet.sizes.len() as u128 - 1, sheet.steps.len() as u128);
+    match prng.below(20) {
+        0 => format!("{segment}"),
+        1 => format!("{segment}@"),
+        2 => format!("@{step}"),
+        3 => "@".to_string(),
+        4 => format!("{segment}@@{step}"),
+        5 => format!("{segment}@{step}@{step}"),
+        6 => format!("{segment}@{step}w"),
+        7 => format!("{segment}/{step}"),
+        8 => format!("{segment}@0"),
+        9 => format!("{segment}@{}", steps + 1),
+        10 => format!("{segment}@{}", step.saturating_sub(prng.between(1, 3) as u128)),
+        11 => format!("{segment}@{}", step + prng.between(1, 3) as u128),
+        12 => format!("{}@0", last_segment + 1),
+        13 | 14 => format!("{}@{}", odd_number(prng, segment, 0, last_segment), odd_number(prng, step, 1, steps.max(1))),
+        15 | 16 => format!("{}@{step}", odd_number(prng, segment, 0, last_segment)),
+        _ => format!("{segment}@{}", odd_number(prng, step, 1, steps.max(1))),
+    }
+}
+
 // ---- Schedules ----
 
 /// A random permitted schedule: of what was held before, each segment stays with one chance.
 pub fn permitted_schedule(prng: &mut Prng, sheet: &Sheet) -> Vec<u8> {
     let stays = prng.pick(&[0, 8, 16, 28, 31, 32]);
-    let mut schedule = Vec::with_capacity(STEP * sheet.refs.len());
+    let mut schedule = Vec::with_capacity(STEP * sheet.steps.len());
     let mut held: Vec<usize> = Vec::new();
-    for &touched in &sheet.refs {
-        held.retain(|&segment| segment != touched && prng.below(32) < stays);
-        held.push(touched);
+    for &touched in &sheet.steps {
+        held.retain(|&segment| Some(segment) != touched && prng.below(32) < stays);
+        held.extend(touched);
         let mut step_bytes = [0; STEP];
         for &segment in &held {
             reference::set_held(&mut step_bytes, segment, true);
@@ -619,11 +709,11 @@ pub fn permitted_schedule(prng: &mut Prng, sheet: &Sheet) -> Vec<u8> {
 /// A schedule with a damage. Some damages leave it permitted.
 pub fn damaged_schedule(prng: &mut Prng, sheet: &Sheet, good: &[u8]) -> Vec<u8> {
     let mut schedule = good.to_vec();
-    let refs = sheet.refs.len();
-    if refs == 0 || prng.one_in(5) {
+    let steps = sheet.steps.len();
+    if steps == 0 || prng.one_in(5) {
         return wrong_length(prng, schedule);
     }
-    let (one, other) = (prng.below(refs), prng.below(refs));
+    let (one, other) = (prng.below(steps), prng.below(steps));
     let (early, late) = (one.min(other), one.max(other));
     match prng.below(9) {
         0 => touched_not_held(sheet, &mut schedule, one),
@@ -645,7 +735,7 @@ pub fn damaged_schedule(prng: &mut Prng, sheet: &Sheet, good: &[u8]) -> Vec<u8> 
             let segs = sheet.sizes.len();
             if segs < 256 {
                 let segment = segs + prng.below(256 - segs);
-                let last = if prng.one_in(2) { early } else { refs - 1 };
+                let last = if prng.one_in(2) { early } else { steps - 1 };
                 for step in early..=last {
                     reference::set_held(&mut schedule[STEP * step..STEP * (step + 1)], segment, true);
                 }
@@ -658,10 +748,10 @@ pub fn damaged_schedule(prng: &mut Prng, sheet: &Sheet, good: &[u8]) -> Vec<u8> 
         }
         7 => {
             // Held segments taken out of one step: those that stay in the next are not held before it.
-            let kept = 1 << (sheet.refs[one] % 8);
-            let byte = STEP * one + sheet.refs[one] / 8;
             schedule[STEP * one..STEP * (one + 1)].fill(0);
-            schedule[byte] = kept;
+            if let Some(touched) = sheet.steps[one] {
+                schedule[STEP * one + touched / 8] = 1 << (touched % 8);
+            }
         }
         _ => {
             let place = STEP * one;
@@ -687,16 +777,18 @@ fn wrong_length(prng: &mut Prng, mut schedule: Vec<u8>) -> Vec<u8> {
     schedule
 }
 
-/// 9 in a step, counted from 0.
+/// 9 in a step, counted from 0, where it has a touch.
 fn touched_not_held(sheet: &Sheet, schedule: &mut [u8], step: usize) {
-    reference::set_held(&mut schedule[STEP * step..STEP * (step + 1)], sheet.refs[step], false);
+    if let Some(touched) = sheet.steps[step] {
+        reference::set_held(&mut schedule[STEP * step..STEP * (step + 1)], touched, false);
+    }
 }
 
 /// 10 in a step, counted from 0: a segment enters that is neither touched nor held before, if there is one.
 fn enters(prng: &mut Prng, sheet: &Sheet, schedule: &mut [u8], step: usize) {
     let bound = if prng.one_in(4) { 256 } else { sheet.sizes.len() };
     let before = if step == 0 { [false; 256] } else { reference::held_in(&schedule[STEP * (step - 1)..STEP * step]) };
-    let out: Vec<usize> = (0..bound).filter(|&segment| !before[segment] && segment != sheet.refs[step]).collect();
+    let out: Vec<usize> = (0..bound).filter(|&segment| !before[segment] && Some(segment) != sheet.steps[step]).collect();
     if !out.is_empty() {
         let segment = prng.pick(&out);
         reference::set_held(&mut schedule[STEP * step..STEP * (step + 1)], segment, true);

@@ -7,7 +7,7 @@ use crate::place::Place;
 use crate::reference::{self, Figures, Intervals, Kind, Sheet};
 use segtrace::Recorder as Parts;
 
-/// The model: the sheet that ends at the references taken so far.
+/// The model: the sheet that ends at the steps taken so far.
 pub struct Model {
     sheet: Sheet,
     intervals: Intervals,
@@ -16,40 +16,54 @@ pub struct Model {
 }
 
 impl Model {
-    /// From a sheet's kind, a, sizes and rows, with no references.
+    /// From a sheet's kind, a, sizes and rows, with no steps.
     pub fn start(sheet: &Sheet) -> Model {
-        let sheet = Sheet { refs: Vec::new(), ..sheet.clone() };
+        let sheet = Sheet { steps: Vec::new(), ..sheet.clone() };
         let segs = sheet.sizes.len();
         Model { intervals: Intervals { reuses: Vec::new(), ends: vec![None; segs] }, last: vec![None; segs], sheet }
     }
 
-    /// The number that a touch gets: 4 for a segment not below segs, before 13 for the reference after the 2,048th.
+    /// The number that a touch gets: 4 for a segment not below segs, before 13 for the step after the 2,048th.
     pub fn touch(&mut self, segment: u64) -> u64 {
         if segment >= self.sheet.sizes.len() as u64 {
             return 4;
         }
-        if self.sheet.refs.len() >= reference::MOST_REFS {
+        if self.sheet.steps.len() >= reference::MOST_STEPS {
             return 13;
         }
         let segment = segment as usize;
-        self.sheet.refs.push(segment);
-        let step = self.sheet.refs.len();
-        self.intervals.reuses.push(self.last[segment].map(|last| (step - last - 1) as u64));
+        let step = self.sheet.steps.len() + 1;
+        self.intervals.reuses.push((segment, self.last[segment].map(|last| (step - last - 1) as u64)));
         self.last[segment] = Some(step);
+        self.step(Some(segment));
+        0
+    }
+
+    /// The number that a step without a touch gets: 13 for the step after the 2,048th.
+    pub fn idle(&mut self) -> u64 {
+        if self.sheet.steps.len() >= reference::MOST_STEPS {
+            return 13;
+        }
+        self.step(None);
+        0
+    }
+
+    fn step(&mut self, touched: Option<usize>) {
+        self.sheet.steps.push(touched);
+        let step = self.sheet.steps.len();
         for (end, last) in self.intervals.ends.iter_mut().zip(&self.last) {
             *end = last.map(|last| (step - last) as u64);
         }
-        0
     }
 
     /// The number that several references get: that of the first that would be refused, and then none is taken.
     pub fn touch_all(&mut self, segments: &[u16]) -> u64 {
-        let taken = self.sheet.refs.len();
+        let taken = self.sheet.steps.len();
         for (index, &segment) in segments.iter().enumerate() {
             if usize::from(segment) >= self.sheet.sizes.len() {
                 return 4;
             }
-            if taken + index >= reference::MOST_REFS {
+            if taken + index >= reference::MOST_STEPS {
                 return 13;
             }
         }
@@ -72,12 +86,13 @@ impl Model {
     /// Whether a recorder's parts say what the header says of them: head, counts, sizes and prices; and the counts and volumes of the
     /// buckets add up.
     fn says(&self, parts: &Parts) -> Outcome {
-        let Sheet { kind, a, sizes, rows, refs } = &self.sheet;
+        let Sheet { kind, a, sizes, rows, steps, .. } = &self.sheet;
+        let refs: Vec<usize> = steps.iter().copied().flatten().collect();
         let head = [u64::from(*kind == Kind::Space), *a, sizes.len() as u64, rows.len() as u64];
         ensure(parts.head == head, || format!("recorder: head is {:?}, wanted {head:?}", parts.head))?;
         let cost: u64 = refs.iter().map(|&segment| self.sheet.reference_cost(segment)).sum();
         let volume: u64 = refs.iter().map(|&segment| self.sheet.size(segment)).sum();
-        let counts = [refs.len() as u64, cost, volume];
+        let counts = [steps.len() as u64, cost, volume];
         ensure(parts.counts == counts, || format!("recorder: counts are {:?}, wanted {counts:?}", parts.counts))?;
         let sum = |item: usize| parts.sums.iter().skip(item).step_by(6).sum::<u64>();
         ensure(sum(0) == refs.len() as u64, || "recorder: the bucket counts do not add up".to_string())?;
@@ -96,6 +111,7 @@ impl Model {
 pub trait Recorder: Clone {
     fn start(bytes: &[u8]) -> Result<Self, u64>;
     fn touch(&mut self, segment: u64) -> u64;
+    fn idle(&mut self) -> u64;
     fn touch_all(&mut self, segments: &[u16]) -> u64;
     fn figures(&self, row: u64, out: &mut [u64; 11]) -> u64;
     fn parts(&self) -> &Parts;
@@ -137,6 +153,10 @@ impl Recorder for Watched {
         calls::touch(&mut self.parts, segment)
     }
 
+    fn idle(&mut self) -> u64 {
+        calls::idle(&mut self.parts)
+    }
+
     fn touch_all(&mut self, segments: &[u16]) -> u64 {
         calls::touch_all(&mut self.parts, segments)
     }
@@ -162,6 +182,10 @@ impl Recorder for Parts {
 
     fn touch(&mut self, segment: u64) -> u64 {
         Parts::touch(self, segment).err().map_or(0, segtrace::Refusal::number)
+    }
+
+    fn idle(&mut self) -> u64 {
+        Parts::idle(self).err().map_or(0, segtrace::Refusal::number)
     }
 
     fn touch_all(&mut self, segments: &[u16]) -> u64 {
@@ -202,7 +226,7 @@ impl Case<'_> {
     pub fn recorder(&mut self, sheet: &Sheet) -> Outcome {
         self.step_by_step::<Watched>(sheet)?;
         self.in_bulk::<Watched>(sheet)?;
-        if sheet.refs.len() <= 300 && self.prng.one_in(4) {
+        if sheet.steps.len() <= 300 && self.prng.one_in(4) {
             self.step_by_step::<Parts>(sheet)?;
             self.in_bulk::<Parts>(sheet)?;
         }
@@ -217,21 +241,28 @@ impl Case<'_> {
 
     // ---- Step by step ----
 
-    /// Records the sheet's references one by one, reads figures at every step, and tries what must be refused. On some large sheets the
+    /// Records the sheet's steps one by one, reads figures at every step, and tries what must be refused. On some large sheets the
     /// recorder is filled.
     fn step_by_step<R: Recorder>(&mut self, sheet: &Sheet) -> Outcome {
         let mut model = Model::start(sheet);
         let mut recorder = self.started::<R>()?;
         model.says(recorder.parts())?;
-        let fill = sheet.refs.len() > 1_000 && self.prng.one_in(4);
-        let count = if fill { reference::MOST_REFS + 2 } else { sheet.refs.len() };
+        let fill = sheet.steps.len() > 1_000 && self.prng.one_in(4);
+        let count = if fill { reference::MOST_STEPS + 2 } else { sheet.steps.len() };
         for index in 0..count {
             self.look(&model, &recorder)?;
             if self.prng.one_in(1 + count / 4) {
                 let odd = no_segment(&mut self.prng, sheet);
                 self.touch(&mut model, &mut recorder, odd)?;
             }
-            self.touch(&mut model, &mut recorder, sheet.refs[index % sheet.refs.len()] as u64)?;
+            match sheet.steps[index % sheet.steps.len()] {
+                Some(segment) => self.touch(&mut model, &mut recorder, segment as u64)?,
+                None => self.idle(&mut model, &mut recorder)?,
+            }
+            // A recorder of any sheet takes steps without a touch.
+            if self.prng.one_in(1 + 2 * count) {
+                self.idle(&mut model, &mut recorder)?;
+            }
         }
         // 4 comes before 13.
         self.touch(&mut model, &mut recorder, sheet.sizes.len() as u64)?;
@@ -253,10 +284,21 @@ impl Case<'_> {
         })
     }
 
+    /// One step without a touch. Refused, it changes no part; taken, only the steps.
+    fn idle<R: Recorder>(&mut self, model: &mut Model, recorder: &mut R) -> Outcome {
+        let want = model.idle();
+        let mut parts = recorder.parts().clone();
+        parts.counts[0] += u64::from(want == 0);
+        let got = recorder.idle();
+        self.tally.note_recorder(want);
+        ensure(got == want, || format!("recorder: an idle step gives {got}, wanted {want}"))?;
+        ensure(parts == *recorder.parts(), || format!("recorder: an idle step ({want}) changed another part"))
+    }
+
     /// The figures at this step: of every row where that is little work, else of one row; now and then of a row that there is not.
     fn look<R: Recorder>(&mut self, model: &Model, recorder: &R) -> Outcome {
         let rows = model.sheet.rows.len();
-        if rows * model.sheet.refs.len() <= 64 {
+        if rows * model.sheet.steps.len() <= 64 {
             self.look_at_rows(model, recorder, rows)?;
         } else {
             let row = self.prng.below(rows) as u64;
@@ -276,7 +318,7 @@ impl Case<'_> {
     fn look_at<R: Recorder>(&mut self, model: &Model, recorder: &R, row: u64) -> Outcome {
         let want = model.figures(row);
         self.list_call("recorder, figures", want.as_ref().map_err(|&number| number), |out| recorder.figures(row, out))
-            .map_err(|message| format!("{message} (row {row} after {} references)", model.sheet.refs.len()))
+            .map_err(|message| format!("{message} (row {row} after {} steps)", model.sheet.steps.len()))
     }
 
     // ---- In bulk ----
@@ -287,7 +329,7 @@ impl Case<'_> {
         let mut model = Model::start(sheet);
         let mut recorder = self.started::<R>()?;
         let mut by_calls = self.started::<R>()?;
-        let refs: Vec<u16> = sheet.refs.iter().map(|&segment| segment as u16).collect();
+        let refs: Vec<u16> = sheet.steps.iter().flatten().map(|&segment| segment as u16).collect();
         let mut rest = &refs[..];
         while !rest.is_empty() {
             let (part, after) = rest.split_at(1 + self.prng.below(rest.len()));
@@ -298,6 +340,10 @@ impl Case<'_> {
                 self.take(&mut model, &mut recorder, &mut by_calls, &segments)?;
             }
             self.take(&mut model, &mut recorder, &mut by_calls, part)?;
+            if self.prng.one_in(3) {
+                self.idle(&mut model, &mut recorder)?;
+                by_calls.idle();
+            }
             rest = after;
         }
         self.take(&mut model, &mut recorder, &mut by_calls, &[])?;
@@ -312,7 +358,7 @@ impl Case<'_> {
     /// Fills the recorders with the same references again and again, after a list that is too long, and tries both refusals.
     fn fill<R: Recorder>(&mut self, model: &mut Model, recorder: &mut R, by_calls: &mut R, refs: &[u16]) -> Outcome {
         let wrong = model.sheet.sizes.len() as u16;
-        let room = reference::MOST_REFS - model.sheet.refs.len();
+        let room = reference::MOST_STEPS - model.sheet.steps.len();
         let mut segments: Vec<u16> = refs.iter().copied().cycle().take(room + 1 + self.prng.below(4)).collect();
         self.take(model, recorder, by_calls, &segments)?;
         // A segment that there is not, where the room ends: 4; and after it: 13.
@@ -374,6 +420,7 @@ impl Case<'_> {
             self.figures_by_hand(parts, row, rows)?;
             let segment = some_number(&mut self.prng, segs);
             self.touch_by_hand(parts, segment, segs)?;
+            self.idle_by_hand(parts)?;
             let length = self.prng.pick(&[0, 1, 2, 20]);
             let mut segments: Vec<u16> =
                 (0..length).map(|_| if segs == 0 { 0 } else { self.prng.below(segs as usize) as u16 }).collect();
@@ -389,7 +436,7 @@ impl Case<'_> {
         let old = parts.clone();
         let want = match segment {
             _ if segment >= segs => 4,
-            _ if old.counts[0] >= reference::MOST_REFS as u64 => 13,
+            _ if old.counts[0] >= reference::MOST_STEPS as u64 => 13,
             _ => 0,
         };
         let got = calls::touch(parts, segment);
@@ -399,9 +446,19 @@ impl Case<'_> {
         ensure(want == 0 || *parts == old, || format!("recorder: a touch refused with {want} changed a part"))
     }
 
+    fn idle_by_hand(&mut self, parts: &mut Parts) -> Outcome {
+        let mut wanted = parts.clone();
+        let want = if parts.counts[0] >= reference::MOST_STEPS as u64 { 13 } else { 0 };
+        wanted.counts[0] += u64::from(want == 0);
+        let got = calls::idle(parts);
+        self.tally.note_recorder(want);
+        ensure(got == want, || format!("recorder: an idle step gives {got}, wanted {want}"))?;
+        ensure(*parts == wanted, || format!("recorder: an idle step ({want}) changed another part"))
+    }
+
     fn touch_all_by_hand(&mut self, parts: &mut Parts, segments: &[u16], segs: u64) -> Outcome {
         let old = parts.clone();
-        let room = (reference::MOST_REFS as u64).saturating_sub(old.counts[0]);
+        let room = (reference::MOST_STEPS as u64).saturating_sub(old.counts[0]);
         let known = segments.iter().position(|&segment| u64::from(segment) >= segs).unwrap_or(segments.len()) as u64;
         let want = match known.min(room) {
             taken if taken == segments.len() as u64 => 0,

@@ -1,10 +1,18 @@
 //! The segment trace analyser in the plainest way: each answer straight from its definition, in 64-bit numbers of which none may
 //! overflow: the tests are built to panic there. A refusal is its number.
 
-/// The longest sheet, in bytes.
-pub const LONGEST_SHEET: usize = 20_012;
-/// The most references of a sheet or a recorder.
-pub const MOST_REFS: usize = 2_048;
+/// The longest sheet of a form, in bytes.
+pub fn longest(form: u64) -> usize {
+    match form {
+        2 => 29_163,
+        _ => 20_012,
+    }
+}
+
+/// The most steps of a sheet or a recorder.
+pub const MOST_STEPS: usize = 2_048;
+/// The newest form of a sheet.
+pub const NEWEST_FORM: u64 = 2;
 /// Bytes of a schedule for one step.
 pub const STEP: usize = 32;
 
@@ -29,26 +37,42 @@ impl Row {
 
 #[derive(Clone, Debug, PartialEq, Eq)]
 pub struct Sheet {
+    pub form: u64,
     pub kind: Kind,
     pub a: u64,
     pub sizes: Vec<u64>,
     pub rows: Vec<Row>,
-    pub refs: Vec<usize>,
+    /// For each step the segment that it touches, if any. Form 1 has a touch in every step.
+    pub steps: Vec<Option<usize>>,
 }
 
 // ---- Reading and writing ----
 
-/// The sheet that the bytes are, or the number of its refusal.
+/// The sheet that the bytes are, or the number of its refusal, for a call that takes every form.
 pub fn read(bytes: &[u8]) -> Result<Sheet, u64> {
-    if bytes.len() > LONGEST_SHEET {
+    read_forms(bytes, 1, NEWEST_FORM)
+}
+
+/// The same for a call that takes the forms from one to another.
+pub fn read_forms(bytes: &[u8], lowest: u64, highest: u64) -> Result<Sheet, u64> {
+    // The first complete line decides how long the sheet may be, whatever the call.
+    let named = if bytes.starts_with(b"form=2\n") { 2 } else { 1 };
+    if bytes.len() > longest(named) {
         return Err(1);
     }
     let mut rest = bytes;
+    let mut form = 1;
+    if bytes.starts_with(b"form=") {
+        form = take_number(&mut rest, b"form=", lowest.max(2), highest)?;
+    }
     let kind = match take_value(&mut rest, b"kind=")? {
         b"time" => Kind::Time,
         b"space" => Kind::Space,
         _ => return Err(3),
     };
+    if form < lowest {
+        return Err(4);
+    }
     let a = take_number(&mut rest, b"a=", 0, 255)?;
     let segs = take_number(&mut rest, b"segs=", 1, 256)?;
     let mut sizes = Vec::new();
@@ -64,15 +88,38 @@ pub fn read(bytes: &[u8]) -> Result<Sheet, u64> {
         }
         rows.push(row);
     }
-    let ref_count = take_number(&mut rest, b"refs=", 0, MOST_REFS as u64)?;
-    let mut refs = Vec::new();
-    for _ in 0..ref_count {
-        refs.push(take_number(&mut rest, b"ref=", 0, segs - 1)? as usize);
-    }
+    let steps = if form == 1 { take_references(&mut rest, segs)? } else { take_touches(&mut rest, segs)? };
     if !rest.is_empty() {
         return Err(6);
     }
-    Ok(Sheet { kind, a, sizes, rows, refs })
+    Ok(Sheet { form, kind, a, sizes, rows, steps })
+}
+
+/// refs= and ref= of form 1: a touch in every step.
+fn take_references(rest: &mut &[u8], segs: u64) -> Result<Vec<Option<usize>>, u64> {
+    let count = take_number(rest, b"refs=", 0, MOST_STEPS as u64)?;
+    (0..count).map(|_| Ok(Some(take_number(rest, b"ref=", 0, segs - 1)? as usize))).collect()
+}
+
+/// steps=, refs= and ref= of form 2: segment and step, in ascending steps.
+fn take_touches(rest: &mut &[u8], segs: u64) -> Result<Vec<Option<usize>>, u64> {
+    let count = take_number(rest, b"steps=", 0, MOST_STEPS as u64)?;
+    let refs = take_number(rest, b"refs=", 0, count)?;
+    let mut steps = vec![None; count as usize];
+    let mut last = 0;
+    for _ in 0..refs {
+        let value = take_value(rest, b"ref=")?;
+        let parts: Vec<&[u8]> = value.split(|&byte| byte == b'@').collect();
+        let &[segment, step] = &parts[..] else { return Err(3) };
+        let (segment, step) = (number_value(segment)?, number_value(step)?);
+        let segment = in_range(segment, 0, segs - 1)?;
+        if step <= last || step > count {
+            return Err(16);
+        }
+        steps[step as usize - 1] = Some(segment as usize);
+        last = step;
+    }
+    Ok(steps)
 }
 
 /// Takes one line off the rest and gives its value. 2: the line is missing, lacks its line feed or does not begin with its key.
@@ -119,6 +166,9 @@ fn row_value(text: &[u8]) -> Result<Row, u64> {
 /// The bytes of a sheet.
 pub fn write(sheet: &Sheet) -> Vec<u8> {
     let mut text = String::new();
+    if sheet.form > 1 {
+        text += &format!("form={}\n", sheet.form);
+    }
     text += match sheet.kind {
         Kind::Time => "kind=time\n",
         Kind::Space => "kind=space\n",
@@ -132,11 +182,32 @@ pub fn write(sheet: &Sheet) -> Vec<u8> {
     for row in &sheet.rows {
         text += &format!("row={}/{}\n", row.h, row.d);
     }
-    text += &format!("refs={}\n", sheet.refs.len());
-    for segment in &sheet.refs {
-        text += &format!("ref={segment}\n");
+    if sheet.form > 1 {
+        text += &format!("steps={}\n", sheet.steps.len());
+    }
+    text += &format!("refs={}\n", sheet.references().len());
+    for (step, segment) in sheet.references() {
+        text += &match sheet.form {
+            1 => format!("ref={segment}\n"),
+            _ => format!("ref={segment}@{step}\n"),
+        };
     }
     text.into_bytes()
+}
+
+/// The form 1 sheet that the bytes are, in form 2.
+pub fn to_form_2(bytes: &[u8]) -> Result<Vec<u8>, u64> {
+    let sheet = read_forms(bytes, 1, 1)?;
+    Ok(write(&Sheet { form: 2, ..sheet }))
+}
+
+/// The form 2 sheet that the bytes are, in form 1. 17: a step is idle.
+pub fn to_form_1(bytes: &[u8]) -> Result<Vec<u8>, u64> {
+    let sheet = read_forms(bytes, 2, 2)?;
+    if sheet.steps.contains(&None) {
+        return Err(17);
+    }
+    Ok(write(&Sheet { form: 1, ..sheet }))
 }
 
 // ---- Costs ----
@@ -184,21 +255,26 @@ impl Sheet {
         row.d * self.retention(segment, unreferenced) <= row.h * self.swap_cost(segment)
     }
 
-    /// The segment touched in a step, counted from 1.
-    pub fn touched(&self, step: usize) -> usize {
-        self.refs[step - 1]
+    /// The segment touched in a step, counted from 1, if any.
+    pub fn touched(&self, step: usize) -> Option<usize> {
+        self.steps[step - 1]
     }
 
     /// The last step before this one that touches the segment.
     pub fn last_touch(&self, segment: usize, step: usize) -> Option<usize> {
-        (1..step).rev().find(|&earlier| self.touched(earlier) == segment)
+        (1..step).rev().find(|&earlier| self.touched(earlier) == Some(segment))
+    }
+
+    /// The references: step, counted from 1, and segment of each.
+    pub fn references(&self) -> Vec<(usize, usize)> {
+        self.steps.iter().zip(1..).filter_map(|(touched, step)| Some((step, (*touched)?))).collect()
     }
 }
 
 /// The unreferenced times of a sheet.
 pub struct Intervals {
-    /// For each step: that of the touch, none for a first touch.
-    pub reuses: Vec<Option<u64>>,
+    /// For each reference: its segment, and its unreferenced time, none for a first touch.
+    pub reuses: Vec<(usize, Option<u64>)>,
     /// For each segment: that of the end interval, none if it is never touched.
     pub ends: Vec<Option<u64>>,
 }
@@ -206,10 +282,10 @@ pub struct Intervals {
 impl Intervals {
     pub fn of(sheet: &Sheet) -> Intervals {
         let since = |segment, step| sheet.last_touch(segment, step).map(|last| (step - last - 1) as u64);
-        let refs = sheet.refs.len();
+        let end = sheet.steps.len() + 1;
         Intervals {
-            reuses: (1..=refs).map(|step| since(sheet.touched(step), step)).collect(),
-            ends: (0..sheet.sizes.len()).map(|segment| since(segment, refs + 1)).collect(),
+            reuses: sheet.references().iter().map(|&(step, segment)| (segment, since(segment, step))).collect(),
+            ends: (0..sheet.sizes.len()).map(|segment| since(segment, end)).collect(),
         }
     }
 }
@@ -228,14 +304,14 @@ pub fn figures(sheet: &Sheet, intervals: &Intervals, row: Row) -> Figures {
     let Row { h, d } = row;
     let (mut misses, mut volume, mut optmem, mut optocc) = (0, 0, 0, 0);
     let (mut wsmem, mut wsocc) = (0, 0);
-    for (&segment, reuse) in sheet.refs.iter().zip(&intervals.reuses) {
+    for &(segment, reuse) in &intervals.reuses {
         let size = sheet.size(segment);
         // Q and V.
         optmem += sheet.reference_cost(segment);
         optocc += size;
         wsmem += d * sheet.reference_cost(segment);
         wsocc += d * size;
-        match *reuse {
+        match reuse {
             Some(unreferenced) if sheet.keeps(row, segment, unreferenced) => {
                 optmem += sheet.retention(segment, unreferenced);
                 optocc += unreferenced * size;
@@ -246,10 +322,9 @@ pub fn figures(sheet: &Sheet, intervals: &Intervals, row: Row) -> Figures {
             }
         }
     }
-    let reuses = sheet.refs.iter().copied().zip(&intervals.reuses);
-    let ends = intervals.ends.iter().enumerate();
-    for (segment, interval) in reuses.chain(ends) {
-        if let Some(unreferenced) = *interval {
+    let ends = intervals.ends.iter().copied().enumerate();
+    for (segment, interval) in intervals.reuses.iter().copied().chain(ends) {
+        if let Some(unreferenced) = interval {
             let smaller = (d * sheet.retention(segment, unreferenced)).min(h * sheet.swap_cost(segment));
             wsmem += smaller;
             wsocc += sheet.size(segment) * smaller;
@@ -258,16 +333,20 @@ pub fn figures(sheet: &Sheet, intervals: &Intervals, row: Row) -> Figures {
     if sheet.kind == Kind::Space {
         wsocc = wsmem;
     }
-    let refs = sheet.refs.len() as u64;
+    let steps = sheet.steps.len() as u64;
     let load = misses + sheet.a * volume;
     let opttotal = d * optmem + h * load;
-    let mean = if refs == 0 { 0 } else { 1_000 * wsocc / (d * refs) };
+    let mean = if steps == 0 { 0 } else { 1_000 * wsocc / (d * steps) };
     [h, d, misses, volume, load, optmem, opttotal, optocc, wsmem, wsocc, mean]
 }
 
 /// The listing of a sheet from the figures of its rows.
 pub fn listing(sheet: &Sheet, all: &[Figures]) -> Vec<u8> {
-    let mut text = format!("refs={}\nsegs={}\nrows={}\n", sheet.refs.len(), sheet.sizes.len(), sheet.rows.len());
+    let mut text = format!("refs={}\n", sheet.references().len());
+    if sheet.form > 1 {
+        text += &format!("steps={}\n", sheet.steps.len());
+    }
+    text += &format!("segs={}\nrows={}\n", sheet.sizes.len(), sheet.rows.len());
     for figures in all {
         for (name, value) in NAMES.iter().zip(figures) {
             text += &format!("{name}={value}\n");
@@ -296,11 +375,11 @@ pub fn page(sheet: &Sheet, all: &[Figures]) -> Vec<u8> {
 
 /// The margin of a reference at a row. 14: it is not between 1 and refs. 15: it is a first touch.
 pub fn margin(sheet: &Sheet, row: Row, reference: u64) -> Result<i64, u64> {
-    if reference < 1 || reference > sheet.refs.len() as u64 {
+    let references = sheet.references();
+    if reference < 1 || reference > references.len() as u64 {
         return Err(14);
     }
-    let step = reference as usize;
-    let segment = sheet.touched(step);
+    let (step, segment) = references[reference as usize - 1];
     let last = sheet.last_touch(segment, step).ok_or(15u64)?;
     let retention = sheet.retention(segment, (step - last - 1) as u64);
     Ok((row.h * sheet.swap_cost(segment)) as i64 - (row.d * retention) as i64)
@@ -343,14 +422,14 @@ pub fn set_held(step_bytes: &mut [u8], segment: usize, held: bool) {
 
 /// The optimal schedule of a row: held are the touched segment and, between the two touches of a kept reuse, the segment of it.
 pub fn optimal_schedule(sheet: &Sheet, row: Row) -> Vec<u8> {
-    let refs = sheet.refs.len();
-    let mut schedule = vec![0; STEP * refs];
+    let steps = sheet.steps.len();
+    let mut schedule = vec![0; STEP * steps];
     for segment in 0..sheet.sizes.len() {
-        let touches: Vec<usize> = (1..=refs).filter(|&step| sheet.touched(step) == segment).collect();
-        for step in 1..=refs {
+        let touches: Vec<usize> = (1..=steps).filter(|&step| sheet.touched(step) == Some(segment)).collect();
+        for step in 1..=steps {
             let last = touches.iter().rev().find(|&&touch| touch < step);
             let next = touches.iter().find(|&&touch| touch > step);
-            let held = sheet.touched(step) == segment
+            let held = sheet.touched(step) == Some(segment)
                 || match (last, next) {
                     (Some(last), Some(next)) => sheet.keeps(row, segment, (next - last - 1) as u64),
                     _ => false,
@@ -366,25 +445,28 @@ pub type Price = [u64; 3];
 
 /// Checks a schedule step by step and prices it. 8: its length. 9 or 10: its earliest faulty step.
 pub fn price(sheet: &Sheet, row: Row, schedule: &[u8]) -> Result<Price, u64> {
-    if schedule.len() != STEP * sheet.refs.len() {
+    if schedule.len() != STEP * sheet.steps.len() {
         return Err(8);
     }
     let mut before: Held = [false; 256];
     let (mut memory, mut load) = (0, 0);
-    for (&touched, step_bytes) in sheet.refs.iter().zip(schedule.chunks(STEP)) {
+    for (&touched, step_bytes) in sheet.steps.iter().zip(schedule.chunks(STEP)) {
         let held = held_in(step_bytes);
-        if !held[touched] {
+        if touched.is_some_and(|touched| !held[touched]) {
             return Err(9);
         }
-        if (0..256).any(|segment| segment != touched && held[segment] && !before[segment]) {
+        let others = || (0..256).filter(|&segment| Some(segment) != touched && held[segment]);
+        if others().any(|segment| !before[segment]) {
             return Err(10);
         }
-        memory += sheet.reference_cost(touched);
-        for segment in (0..256).filter(|&segment| segment != touched && held[segment]) {
+        for segment in others() {
             memory += sheet.holding_cost(segment);
         }
-        if !before[touched] {
-            load += sheet.swap_cost(touched);
+        if let Some(touched) = touched {
+            memory += sheet.reference_cost(touched);
+            if !before[touched] {
+                load += sheet.swap_cost(touched);
+            }
         }
         before = held;
     }

@@ -30,6 +30,7 @@ type Check = Box<dyn Fn(&[u8]) -> Outcome>;
 fn examples() -> Vec<(Vec<u8>, Check)> {
     let mut list: Vec<(Vec<u8>, Check)> = Vec::new();
     list.push((listed_sheet(), Box::new(listing_and_rows)));
+    list.push((idling_sheet(), Box::new(idling_listing)));
     for kind in [Kind::Time, Kind::Space] {
         for (h, figures) in table(kind) {
             list.push((paper_sheet(kind, h, false), Box::new(move |bytes| table_line(kind, figures, bytes))));
@@ -49,6 +50,33 @@ fn examples() -> Vec<(Vec<u8>, Check)> {
         list.push((text, Box::new(move |bytes| verdict(bytes, number))));
     }
     list
+}
+
+/// A sheet of form 1.
+fn sheet_of(kind: Kind, a: u64, sizes: Vec<u64>, rows: Vec<Row>, refs: Vec<usize>) -> Vec<u8> {
+    reference::write(&Sheet { form: 1, kind, a, sizes, rows, steps: refs.into_iter().map(Some).collect() })
+}
+
+/// The sheet of the listing in document 01, with steps 3 and 8 without a touch.
+fn idling_sheet() -> Vec<u8> {
+    b"form=2\nkind=space\na=1\nsegs=2\nsize=1\nsize=3\nrows=2\nrow=1/2\nrow=1/1\nsteps=8\nrefs=6\n\
+        ref=0@1\nref=1@2\nref=0@4\nref=1@5\nref=1@6\nref=0@7\n"
+        .to_vec()
+}
+
+/// Its listing, worked by hand.
+fn idling_listing(bytes: &[u8]) -> Outcome {
+    let listing = "refs=6\nsteps=8\nsegs=2\nrows=2\n\
+        h=1\nd=2\nmisses=5\nvolume=9\nload=14\noptmem=12\nopttotal=38\noptocc=12\nwsmem=38\nwsocc=38\nmean=2375\n\
+        h=1\nd=1\nmisses=3\nvolume=7\nload=10\noptmem=16\nopttotal=26\noptocc=16\nwsmem=25\nwsocc=25\nmean=3125\n";
+    let mut out = vec![0; listing.len()];
+    let mut written = 0;
+    done("listing", calls::listing(bytes, &mut out, &mut written))?;
+    ensure(out == listing.as_bytes(), || "the listing of the sheet with idle steps is another".to_string())?;
+    let mut schedule = vec![0; 8 * 32];
+    done("optimal_schedule", calls::optimal_schedule(bytes, 1, &mut schedule, &mut written))?;
+    let firsts: Vec<u8> = schedule.iter().step_by(32).copied().collect();
+    ensure(firsts == [1, 3, 1, 1, 3, 3, 1, 0], || "the schedule of the sheet with idle steps is another".to_string())
 }
 
 /// The sheet of the listing in document 01.
@@ -113,7 +141,7 @@ fn paper_sheet(kind: Kind, h: u64, one_untouched: bool) -> Vec<u8> {
         sizes.push(4_095);
     }
     let refs = vec![4, 2, 1, 4, 0, 1, 3, 2, 3, 4, 1, 2, 1, 1];
-    reference::write(&Sheet { kind, a: 0, sizes, rows: vec![Row { h, d: 1 }], refs })
+    sheet_of(kind, 0, sizes, vec![Row { h, d: 1 }], refs)
 }
 
 fn table_line(kind: Kind, want: [u64; 4], bytes: &[u8]) -> Outcome {
@@ -128,7 +156,7 @@ fn table_line(kind: Kind, want: [u64; 4], bytes: &[u8]) -> Outcome {
 /// The run of the listing at rows with optmem and load 12 and 14, three times 13 and 12, twice 18 and 6.
 fn sized_sheet() -> Vec<u8> {
     let rows = [(0, 1), (1, 2), (3, 5), (2, 3), (1, 1), (2, 1)].map(|(h, d)| Row { h, d }).to_vec();
-    reference::write(&Sheet { kind: Kind::Space, a: 1, sizes: vec![1, 3], rows, refs: vec![0, 1, 0, 1, 1, 0] })
+    sheet_of(Kind::Space, 1, vec![1, 3], rows, vec![0, 1, 0, 1, 1, 0])
 }
 
 /// Sizing gives the first of the rows of least load.
@@ -169,8 +197,8 @@ fn bills() -> Vec<(Vec<u8>, [u64; 3], u64)> {
         (largest, [9_999, 9_999, 99_999], 21_467_473_038),
     ];
     let rows = vec![Row { h: 0, d: 1 }];
-    let sheet = |(a, sizes, refs)| Sheet { kind: Kind::Space, a, sizes, rows: rows.clone(), refs };
-    list.map(|(parts, rates, cents)| (reference::write(&sheet(parts)), rates, cents)).to_vec()
+    let sheet = |(a, sizes, refs)| sheet_of(Kind::Space, a, sizes, rows.clone(), refs);
+    list.map(|(parts, rates, cents)| (sheet(parts), rates, cents)).to_vec()
 }
 
 fn bill(bytes: &[u8], rates: [u64; 3], want: u64) -> Outcome {
@@ -209,6 +237,10 @@ fn verdicts() -> Vec<(Vec<u8>, u64)> {
     };
     let row = "rows=1\nrow=1/2\n";
     let many = |count: usize| [sheet("0", "1", row, &count.to_string()), b"ref=0\n".repeat(count)].concat();
+    let second = |steps: &str, refs: &str, touches: &str| {
+        format!("form=2\nkind=time\na=0\nsegs=1\nsize=1\n{row}steps={steps}\nrefs={refs}\n{touches}").into_bytes()
+    };
+    let longest_second = longest_second_sheet();
     let longest = longest_sheet();
     let one_more = [&longest[..], b"\n"].concat();
     vec![
@@ -234,6 +266,34 @@ fn verdicts() -> Vec<(Vec<u8>, u64)> {
         (one_more, 1),
         (vec![b'x'; 20_012], 2),
         (vec![b'x'; 20_013], 1),
+        (second("1", "1", "ref=0@1\n"), 0),
+        (second("0", "0", ""), 0),
+        (second("7", "0", ""), 0),
+        (second("0", "1", "ref=0@1\n"), 4),
+        (second("2049", "0", ""), 4),
+        (second("1", "1", "ref=0\n"), 3),
+        (second("1", "1", "ref=0@\n"), 3),
+        (second("1", "1", "ref=0@01\n"), 3),
+        (second("1", "1", "ref=0@1w\n"), 3),
+        (second("1", "1", "ref=1@2\n"), 4),
+        (second("1", "1", "ref=0@0\n"), 16),
+        (second("1", "1", "ref=0@2\n"), 16),
+        (second("1", "1", "ref=0@18446744073709551617\n"), 16),
+        (second("2", "2", "ref=0@1\nref=0@1\n"), 16),
+        (second("2", "2", "ref=0@2\nref=0@1\n"), 16),
+        (second("2", "2", "ref=0@3\nref=x\n"), 16),
+        (second("2", "2", "ref=0@1\nref=0@2\n\n"), 6),
+        (b"form=1\nkind=time\n".to_vec(), 4),
+        (b"form=3\nkind=time\n".to_vec(), 4),
+        (b"form=0".to_vec(), 2),
+        (b"form=02\n".to_vec(), 3),
+        (b"form".to_vec(), 2),
+        (b"Form=2\n".to_vec(), 2),
+        (longest_second.clone(), 0),
+        ([&longest_second[..], b"\n"].concat(), 1),
+        ([b"form=3\n", &[b'x'; 20_005][..]].concat(), 4),
+        ([b"form=3\n", &[b'x'; 20_006][..]].concat(), 1),
+        ([b"form=2", &[b'x'; 20_007][..]].concat(), 1),
     ]
 }
 
@@ -241,5 +301,12 @@ fn verdicts() -> Vec<(Vec<u8>, u64)> {
 fn longest_sheet() -> Vec<u8> {
     let rows = (0..64).map(|row| Row { h: 60_000 + row, d: 10_000 }).collect();
     let refs = (0..2_048).map(|step| 100 + step % 156).collect();
-    reference::write(&Sheet { kind: Kind::Space, a: 255, sizes: vec![4_095; 256], rows, refs })
+    sheet_of(Kind::Space, 255, vec![4_095; 256], rows, refs)
+}
+
+/// A sheet of form 2 of exactly 29,163 bytes.
+fn longest_second_sheet() -> Vec<u8> {
+    let rows = (0..64).map(|row| Row { h: 60_000 + row, d: 10_000 }).collect();
+    let steps = (0..2_048).map(|step| Some(100 + step % 156)).collect();
+    reference::write(&Sheet { form: 2, kind: Kind::Space, a: 255, sizes: vec![4_095; 256], rows, steps })
 }

@@ -36,6 +36,9 @@ impl Case<'_> {
         let mut records = [OLD; 3];
         self.safe("check", segtrace::check(bytes), Err(number))?;
         self.safe("rewrite", segtrace::rewrite(bytes, &mut out), Err(number))?;
+        let (second, first) = (reference::to_form_2(bytes), reference::to_form_1(bytes));
+        self.safe("to_form_2", segtrace::to_form_2(bytes, &mut out), second.map(|text| text.len()))?;
+        self.safe("to_form_1", segtrace::to_form_1(bytes, &mut out), first.map(|text| text.len()))?;
         self.safe("figures", segtrace::figures(bytes, row), Err(number))?;
         self.safe("all_figures", segtrace::all_figures(bytes, &mut records), Err(number))?;
         self.safe("listing", segtrace::listing(bytes, &mut out), Err(number))?;
@@ -57,6 +60,16 @@ impl Case<'_> {
         let bytes = self.bytes;
         self.safe("check", segtrace::check(bytes), Ok(()))?;
         self.text("rewrite", bytes, |out| segtrace::rewrite(bytes, out))?;
+        match sheet.form {
+            1 => {
+                let second = reference::to_form_2(bytes).unwrap_or_default();
+                self.text("to_form_2", &second, |out| segtrace::to_form_2(bytes, out))?;
+            }
+            _ => {
+                let got = segtrace::to_form_1(bytes, &mut vec![0; bytes.len()]);
+                self.safe("to_form_1", got, reference::to_form_1(bytes).map(|text| text.len()))?;
+            }
+        }
         self.text("listing", &reference::listing(sheet, all), |out| segtrace::listing(bytes, out))?;
         self.text("page", &reference::page(sheet, all), |out| segtrace::page(bytes, out))?;
         self.records(all)?;
@@ -70,7 +83,7 @@ impl Case<'_> {
             let got = segtrace::price(bytes, number, schedule).map(|price| [price.memory, price.load, price.total]);
             self.safe("price", got, reference::price(sheet, sheet.rows[row], schedule))?;
         }
-        let reference = self.prng.between(0, sheet.refs.len() as u64 + 1);
+        let reference = self.prng.between(0, sheet.references().len() as u64 + 1);
         let margin = reference::margin(sheet, sheet.rows[row], reference);
         self.safe("margin", segtrace::margin(bytes, number, reference), margin)?;
         let ceiling = all[row][reference::OPTMEM].saturating_sub(self.prng.next() & 1);

@@ -8,6 +8,8 @@ use std::sync::atomic::{AtomicUsize, Ordering};
 pub enum Call {
     Check,
     Rewrite,
+    ToForm2,
+    ToForm1,
     Figures,
     AllFigures,
     Listing,
@@ -19,6 +21,7 @@ pub enum Call {
     Bill,
     Start,
     Touch,
+    Idle,
     TouchAll,
     FiguresNow,
 }
@@ -30,6 +33,8 @@ pub enum Way {
     OtherNumber,
     /// A refusal of this number is none.
     NotRefused(u64),
+    /// A refusal of one number gets another.
+    Instead(u64, u64),
     /// What is carried out is refused with this number instead, and left undone.
     Refused(u64),
     /// A result that fills its place is refused with 11.
@@ -67,7 +72,15 @@ pub enum Way {
 }
 
 /// Wrong ways of every call with a lent place, and of every call with a list of fixed length.
-const PLACE_CALLS: [Call; 5] = [Call::Rewrite, Call::AllFigures, Call::Listing, Call::Page, Call::OptimalSchedule];
+const PLACE_CALLS: [Call; 7] = [
+    Call::Rewrite,
+    Call::ToForm2,
+    Call::ToForm1,
+    Call::AllFigures,
+    Call::Listing,
+    Call::Page,
+    Call::OptimalSchedule,
+];
 const PLACE_WAYS: [Way; 9] = [
     Way::OtherNumber,
     Way::Refused(11),
@@ -83,10 +96,14 @@ const LIST_CALLS: [Call; 6] = [Call::Figures, Call::Price, Call::Margin, Call::S
 const LIST_WAYS: [Way; 5] = [Way::OtherNumber, Way::Refused(7), Way::Idle, Way::LastItem, Way::ItemRefused];
 
 /// Wrong ways of single calls.
-const OTHERS: [(Call, Way); 31] = [
+const OTHERS: [(Call, Way); 40] = [
     (Call::Check, Way::OtherNumber),
     (Call::Check, Way::NotRefused(5)),
+    (Call::Check, Way::NotRefused(16)),
+    (Call::Check, Way::Instead(16, 4)),
     (Call::Check, Way::Refused(6)),
+    (Call::ToForm1, Way::NotRefused(17)),
+    (Call::ToForm1, Way::Refused(17)),
     (Call::AllFigures, Way::RowZero),
     (Call::Price, Way::NotRefused(9)),
     (Call::Price, Way::NotRefused(10)),
@@ -107,6 +124,11 @@ const OTHERS: [(Call, Way); 31] = [
     (Call::Touch, Way::FirstFiled),
     (Call::Touch, Way::LastRefused),
     (Call::Touch, Way::SumsRefused),
+    (Call::Idle, Way::OtherNumber),
+    (Call::Idle, Way::NotRefused(13)),
+    (Call::Idle, Way::Idle),
+    (Call::Idle, Way::LastRefused),
+    (Call::Idle, Way::SumsRefused),
     (Call::TouchAll, Way::OtherNumber),
     (Call::TouchAll, Way::NotRefused(13)),
     (Call::TouchAll, Way::FullFirst),
@@ -146,6 +168,7 @@ fn number(way: Way, number: u64) -> u64 {
     match way {
         Way::OtherNumber if number > 0 => number % 15 + 1,
         Way::NotRefused(other) if number == other => 0,
+        Way::Instead(one, other) if number == one => other,
         Way::Refused(other) if number == 0 => other,
         _ => number,
     }
@@ -215,8 +238,8 @@ pub fn start(recorder: &mut Recorder, real: impl FnOnce(&mut Recorder) -> u64) -
     number(way, returned)
 }
 
-pub fn touch(recorder: &mut Recorder, real: impl FnOnce(&mut Recorder) -> u64) -> u64 {
-    let Some(way) = way(Call::Touch) else { return real(recorder) };
+pub fn touch(call: Call, recorder: &mut Recorder, real: impl FnOnce(&mut Recorder) -> u64) -> u64 {
+    let Some(way) = way(call) else { return real(recorder) };
     let old = recorder.clone();
     let returned = real(recorder);
     match (way, returned) {

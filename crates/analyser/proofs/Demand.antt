@@ -2,6 +2,7 @@
 use Prim.Native.Nat.{ℕ, _*_, _≤_, _<_}
 use mathlib.Core.Path.{_≡_, sym, ap, _∙_}
 use mathlib.Core.List.{List, _++_}
+use native.Mathlib.Omega.{arith}
 use lib.ListN.{length, drop}
 use lib.Seq.{take-append-seam}
 use borrow.Author.Tests.{lt-ltb}
@@ -9,7 +10,7 @@ use Rattle.model.specs.Demand.{rowTotal, rowSchedule}
 use Rattle.model.specs.Places.{PlaceLeft}
 use Rattle.model.specs.Rows.{rowFigures}
 use Rattle.model.specs.Schedules.{Permitted, scheduleMemory, scheduleLoad}
-use Rattle.model.specs.Sheets.{SheetValue, traceOf, rowAt}
+use Rattle.model.specs.Sheets.{newestForm, SheetValue, traceOf, rowAt}
 use Rattle.model.specs.declared.Verdict.the-variants.{Accepted}
 use Rattle.model.proofs.Demand.{demand-3}
 use Rattle.sheet.specs.Reading.{accepted, readSheet}
@@ -47,7 +48,7 @@ module _ (s : List ℕ) (v : SheetValue) (reads : readSheet s ≡ accepted v) (r
   -- which has the optimum
   optimum-of : HasOptimum s v r (rowSchedule v r)
   optimum-of =
-      let d = demand-3 v (accepted-valid s v reads .run .segs-within) r row in
+      let d = demand-3 v (accepted-valid 1 newestForm (omega arith) s v reads .run .segs-within) r row in
       record {
         permitted = d .permitted;
         total = d .total;
@@ -59,7 +60,7 @@ module _ (s : List ℕ) (v : SheetValue) (reads : readSheet s ≡ accepted v) (r
   pub demand-3-from-bytes : Demand3FromBytes s v r
   unfolding rowFigures
   demand-3-from-bytes =
-      let d = demand-3 v (accepted-valid s v reads .run .segs-within) r row in
+      let d = demand-3 v (accepted-valid 1 newestForm (omega arith) s v reads .run .segs-within) r row in
       record {
         figures-accepted = ap (λ a. a .verdict) figures-are;
         reported-optimum = ap (λ a. a .figures .opttotal) figures-are;

@@ -2,7 +2,7 @@
 use Prim.Native.Nat.{ℕ}
 use mathlib.Core.Path.{_≡_, refl, sym, ap, _∙_}
 use mathlib.Core.List.{List}
-use Rattle.model.specs.Sheets.{SheetValue}
+use Rattle.model.specs.Sheets.{SheetValue, newestForm}
 use Rattle.sheet.specs.Reading.{accepted, readSheet}
 use Rattle.model.specs.Values.{valueOf}
 use Rattle.sheet.specs.Answers.{answerOf}
@@ -19,7 +19,7 @@ module _ (s : List ℕ) (v : SheetValue) (reads : readSheet s ≡ accepted v) wh
   -- the text of the sheet that was read
   text-is : sheetText (valueOf (sheetRead s)) ≡ s
   unfolding answerOf
-  text-is = ap (λ a. sheetText (valueOf (a .sheet))) answer-is ∙ held-text s v reads
+  text-is = ap (λ a. sheetText (valueOf (a .sheet))) answer-is ∙ held-text 1 newestForm s v reads
 
   pub round-trip : RoundTripOf s
   unfolding answerOf

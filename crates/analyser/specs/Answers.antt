@@ -1,4 +1,4 @@
--- What each public call on bytes answers, by what the bytes read as. Assumes nothing.
+-- What each public call on bytes answers, by what the bytes read as. The sheet's refusals are 1 to 6 and 16. Assumes nothing.
 use Prim.Native.Nat.{ℕ}
 use mathlib.Core.List.{List}
 use Rattle.model.specs.Places.{Result, gives, refuses}
@@ -6,8 +6,9 @@ use Rattle.model.specs.Sizing.{sizedRow}
 use Rattle.model.specs.Values.{valueOf}
 use Rattle.model.specs.declared.Sheet.{Sheet}
 use Rattle.sheet.specs.Accepting.{onSheet}
-use Rattle.sheet.specs.Reading.{readSheet}
+use Rattle.sheet.specs.Reading.{readForms, readSheet}
 use Rattle.sheet.specs.Writing.{sheetText}
+use Rattle.forms.specs.Forms.{toForm2, toForm1}
 use Rattle.figures.specs.Rows.{noFigures, figuresOf}
 use Rattle.figures.specs.declared.FiguresAnswer.{FiguresAnswer}
 use Rattle.report.specs.Listing.{listingOf, refusedText}
@@ -26,39 +27,47 @@ use Rattle.rows.specs.declared.billing.BillAnswer.{BillAnswer}
 abbrev pub writeResult : Sheet → Result
 writeResult sheet = gives (sheetText (valueOf sheet))
 
--- the figures of row r of the sheet that the bytes stand for: 1 to 6, 7
+-- the sheet of form 1 that the bytes stand for, in form 2: the sheet's refusals, where any other form is 4, then 11 by the place (request F-3)
+unfoldable pub toForm2Result : List ℕ → Result
+toForm2Result s = onSheet (readForms 1 1 s) refuses toForm2
+
+-- the sheet of form 2 that the bytes stand for, in form 1: the sheet's refusals, where any other form is 4, 17, then 11 by the place
+unfoldable pub toForm1Result : List ℕ → Result
+toForm1Result s = onSheet (readForms 2 2 s) refuses toForm1
+
+-- the figures of row r of the sheet that the bytes stand for: the sheet's refusals, 7
 unfoldable pub figuresAnswer : List ℕ → ℕ → FiguresAnswer
 figuresAnswer s r = onSheet (readSheet s) noFigures (λ v. figuresOf v r)
 
--- the listing of the sheet that the bytes stand for: 1 to 6, then 11 by the place
+-- the listing of the sheet that the bytes stand for: the sheet's refusals, then 11 by the place
 unfoldable pub listingResult : List ℕ → Result
 listingResult s = onSheet (readSheet s) refuses (λ v. gives (listingOf v))
 
--- what the program prints for a run of bytes: the listing of the sheet that they stand for, or for a refusal, 1 to 6, the line refused=
+-- what the program prints for a run of bytes: the listing of the sheet that they stand for, or for a refusal of the sheet the line refused=
 -- with its number (`numberOf`)
 unfoldable pub printedText : List ℕ → List ℕ
 printedText s = onSheet (readSheet s) refusedText listingOf
 
--- the page for the binder of the sheet that the bytes stand for: 1 to 6, then 11 by the place (request F-2)
+-- the page for the binder of the sheet that the bytes stand for: the sheet's refusals, then 11 by the place (request F-2)
 unfoldable pub pageResult : List ℕ → Result
 pageResult s = onSheet (readSheet s) refuses (λ v. gives (pagesOf v))
 
--- the optimal schedule of row r of the sheet that the bytes stand for: 1 to 6, 7, then 11 by the place
+-- the optimal schedule of row r of the sheet that the bytes stand for: the sheet's refusals, 7, then 11 by the place
 unfoldable pub scheduleResult : List ℕ → ℕ → Result
 scheduleResult s r = onSheet (readSheet s) refuses (λ v. scheduleFor v r)
 
--- the price of a schedule p at row r of the sheet that the bytes stand for: 1 to 6, 7, 8, 9, 10
+-- the price of a schedule p at row r of the sheet that the bytes stand for: the sheet's refusals, 7, 8, 9, 10
 unfoldable pub pricing : List ℕ → ℕ → List ℕ → PriceAnswer
 pricing s r p = onSheet (readSheet s) noPrice (λ v. priceFor v r p)
 
--- the margin of the n-th reference at row r of the sheet that the bytes stand for: 1 to 6, 7, 14, 15
+-- the margin of the n-th reference at row r of the sheet that the bytes stand for: the sheet's refusals, 7, 14, 15
 unfoldable pub marginAnswer : List ℕ → ℕ → ℕ → MarginAnswer
 marginAnswer s r n = onSheet (readSheet s) noMargin (λ v. marginFor v r n)
 
--- the row for a ceiling of the sheet that the bytes stand for: 1 to 6, 12
+-- the row for a ceiling of the sheet that the bytes stand for: the sheet's refusals, 12
 unfoldable pub sizeAnswer : List ℕ → ℕ → SizingAnswer
 sizeAnswer s ceiling = onSheet (readSheet s) noSize (λ v. sizing (sizedRow v ceiling))
 
--- the bill of row r of the sheet that the bytes stand for: 1 to 6, 7, 18
+-- the bill of row r of the sheet that the bytes stand for: the sheet's refusals, 7, 18
 unfoldable pub billAnswer : List ℕ → ℕ → ℕ → ℕ → ℕ → BillAnswer
 billAnswer s r m l least = onSheet (readSheet s) noBill (λ v. billFor v r (tariffOf m l least))

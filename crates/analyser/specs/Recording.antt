@@ -1,11 +1,12 @@
--- What the recorder's start answers: 1 to 6. What a touch and reading the figures answer is written in crate `recorder`. And every recorder
+-- What the recorder's start answers: the sheet's refusals. What a touch, an idle step and reading the figures answer is written in crate `recorder`. And every recorder
 -- that a start and the calls after it handed back, and what holds of it. Assumes nothing.
-use Prim.Native.Nat.{ℕ}
+use Prim.Native.Nat.{ℕ, max}
 use mathlib.Core.Path.{_≡_}
 use mathlib.Core.List.{List, [], _∷_, _++_}
 use lib.ListN.{length, getD}
 use Rattle.model.specs.Sums.{sum}
-use Rattle.model.specs.Sheets.{SheetValue, Valid}
+use Rattle.model.specs.Sheets.{SheetValue, Valid, idle, traceOf}
+use Rattle.model.specs.Traces.{refsOf}
 use Rattle.model.specs.declared.Refusal.{Refusal}
 use Rattle.model.specs.declared.Verdict.{Verdict}
 use Rattle.model.specs.declared.Verdict.the-variants.{Accepted, Refused}
@@ -14,7 +15,7 @@ use Rattle.figures.specs.Buckets.{bucketCount}
 use Rattle.figures.specs.Rows.{figuresOf}
 use Rattle.figures.specs.Buckets.{noBucket}
 use Rattle.figures.specs.declared.FiguresAnswer.{FiguresAnswer}
-use Rattle.recorder.specs.Recorders.{recorderOf, emptyRecorder, started, appended, Touched, TouchedAll, Figured}
+use Rattle.recorder.specs.Recorders.{recorderOf, emptyRecorder, started, Touched, TouchedAll, Rested, Figured}
 use Rattle.recorder.specs.declared.Recorder.{Recorder}
 use Rattle.recorder.specs.declared.TouchAnswer.{TouchAnswer}
 use Rattle.sheet.specs.Accepting.{onSheet}
@@ -23,33 +24,52 @@ use Rattle.sheet.specs.Accepting.{onSheet}
 abbrev pub noRecorder : Refusal → TouchAnswer
 noRecorder r = record { verdict = Refused r; recorder = emptyRecorder }
 
--- the recorder of the sheet's kind, a, sizes and rows with no references
+-- the recorder of the sheet's kind, a, sizes and rows with no steps
 unfoldable pub startAnswer : List ℕ → TouchAnswer
 startAnswer s = onSheet (readSheet s) noRecorder (λ v. record { verdict = Accepted; recorder = recorderOf (started v) })
 
--- what a call takes of the references xs: all, or where it is refused none
+-- what a call takes of the entries xs: all, or where it is refused none
 abbrev pub takenOf : Verdict → List ℕ → List ℕ
 takenOf Accepted xs = xs
 takenOf (Refused why) xs = []
 
--- R was handed back by a start on the bytes s, or by a call on a recorder that was; `taken` are the references taken since the start. The
--- calls and the start may have been refused
+-- R was handed back by a start on the bytes s, or by a call on a recorder that was; `taken` are the entries of the steps taken since the
+-- start, a segment for a reference and `idle` for a step without a touch. The calls and the start may have been refused
 pub data Handed (s : List ℕ) : (taken : List ℕ) → (R : Recorder) → Type 0 where
   begun : Handed s [] (startAnswer s .recorder)
   touched : {taken : List ℕ} {R : Recorder} → Handed s taken R → (x : ℕ) (r : TouchAnswer) → Touched R x r
       → Handed s (taken ++ takenOf (r .verdict) (x ∷ [])) (r .recorder)
   touched-all : {taken : List ℕ} {R : Recorder} → Handed s taken R → (xs : List ℕ) (r : TouchAnswer) → TouchedAll R xs r
       → Handed s (taken ++ takenOf (r .verdict) xs) (r .recorder)
+  idled : {taken : List ℕ} {R : Recorder} → Handed s taken R → (r : TouchAnswer) → Rested R r
+      → Handed s (taken ++ takenOf (r .verdict) (idle ∷ [])) (r .recorder)
+
+-- the sheet that ends at the steps taken: of form 2 on, since they may be idle
+abbrev pub recordedOf : SheetValue → List ℕ → SheetValue
+recordedOf v taken = record { form = max 2 (v .form); head = v .head; refs = taken }
+
+-- the recorder without segments and rows after n idle steps
+abbrev pub emptyAfter : ℕ → Recorder
+emptyAfter n =
+    record {
+      head = emptyRecorder .head;
+      steps = n;
+      last = emptyRecorder .last;
+      buckets = emptyRecorder .buckets;
+      cost = emptyRecorder .cost;
+      volume = emptyRecorder .volume;
+    }
 
 -- what holds of such a recorder
 pub record Recorded (s taken : List ℕ) (R : Recorder) : Type 0 where
-  -- it stands for a valid sheet, the head of the one that was read with the references taken; where the start was refused it is empty
-  pub valid : (v : SheetValue) → readSheet s ≡ accepted v → Valid (appended (started v) taken)
-  pub stands : (v : SheetValue) → readSheet s ≡ accepted v → R ≡ recorderOf (appended (started v) taken)
-  pub empty : (why : Refusal) → readSheet s ≡ rejected why → R ≡ emptyRecorder
-  -- the counts of its buckets add up to the references taken
-  pub references : R .refs ≡ length taken
-  pub counts-add-up : sum bucketCount (λ k. getD (R .buckets) k noBucket .count) ≡ length taken
+  -- it stands for a valid sheet, the head of the one that was read with the steps taken; where the start was refused it has no segments
+  pub valid : (v : SheetValue) → readSheet s ≡ accepted v → Valid (recordedOf v taken)
+  pub stands : (v : SheetValue) → readSheet s ≡ accepted v → R ≡ recorderOf (recordedOf v taken)
+  pub empty : (why : Refusal) → readSheet s ≡ rejected why → R ≡ emptyAfter (length taken)
+  -- it counts the steps taken, and the counts of its buckets add up to the references among them
+  pub counts-steps : R .steps ≡ length taken
+  pub counts-add-up : (v : SheetValue) → readSheet s ≡ accepted v
+      → sum bucketCount (λ k. getD (R .buckets) k noBucket .count) ≡ refsOf (traceOf (recordedOf v taken))
   -- its figures are those of that sheet
   pub figures : (v : SheetValue) → readSheet s ≡ accepted v → (row : ℕ) (r : FiguresAnswer) → Figured R row r
-      → r ≡ figuresOf (appended (started v) taken) row
+      → r ≡ figuresOf (recordedOf v taken) row

@@ -6,7 +6,7 @@ use rows::billing::BillAnswer;
 ghost use mathlib.Core.Path.{_≡_};
 ghost use Rattle.analyser.specs.Answers.{billAnswer};
 
-// The bill of a row, at two rates and a minimum in cents: refused with 1 to 6, 7, 18.
+// The bill of a row, at two rates and a minimum in cents: refused with the sheet's refusals, 7, 18.
 pub fn bill(bytes: &[u8], row: usize, memory_rate: u64, load_rate: u64, minimum: u64) -> BillAnswer
     ensures { λ r. ⌜ r ≡ billAnswer (now (bytes .entry)) row «memory_rate» «load_rate» minimum ⌝ }
 {

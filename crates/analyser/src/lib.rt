@@ -2,6 +2,7 @@
 // gives zeros and changes nothing.
 // What each call answers is written in specs/ here and in the crates below; nothing is assumed.
 pub mod billing;
+pub mod converting;
 pub mod margins;
 pub mod recording;
 pub mod sizing;
@@ -19,7 +20,7 @@ ghost use Rattle.sheet.specs.Reading.{readSheet};
 ghost use Rattle.analyser.specs.Answers.{writeResult, figuresAnswer, listingResult, pageResult, printedText};
 ghost use Rattle.analyser.specs.Answers.{scheduleResult, pricing};
 
-// The sheet that a run of bytes stands for, or the refusal (1 to 6) and the empty sheet.
+// The sheet that a run of bytes stands for, or the sheet's refusal and the empty sheet.
 pub fn read(bytes: &[u8]) -> SheetAnswer
     ensures { λ r. ⌜ r ≡ answerOf (readSheet (now (bytes .entry))) ⌝ }
 {
@@ -33,7 +34,7 @@ pub fn write(sheet: Sheet, out: &mut [u8]) -> PlaceAnswer
     writing::write(sheet, out)
 }
 
-// The figures of a row: refused with 1 to 6, 7.
+// The figures of a row: refused with the sheet's refusals, 7.
 pub fn figures(bytes: &[u8], row: usize) -> FiguresAnswer
     ensures { λ r. ⌜ r ≡ figuresAnswer (now (bytes .entry)) row ⌝ }
 {
@@ -46,7 +47,7 @@ pub fn figures(bytes: &[u8], row: usize) -> FiguresAnswer
     }
 }
 
-// The listing into a lent place, then its old contents: refused with 1 to 6, 11.
+// The listing into a lent place, then its old contents: refused with the sheet's refusals, 11.
 pub fn listing(bytes: &[u8], out: &mut [u8]) -> PlaceAnswer
     ensures { λ r. ⌜ PlaceLeft (listingResult (now (bytes .entry))) (now (out .entry)) (now (out .exit)) r ⌝ }
 {
@@ -73,7 +74,7 @@ pub fn printed(bytes: &[u8], out: &mut [u8]) -> PlaceAnswer
     }
 }
 
-// The page for the binder into a lent place, two where there are more than 58 rows, then its old contents: refused with 1 to 6, 11.
+// The page for the binder into a lent place, two where there are more than 58 rows, then its old contents: refused with the sheet's refusals, 11.
 pub fn page(bytes: &[u8], out: &mut [u8]) -> PlaceAnswer
     ensures { λ r. ⌜ PlaceLeft (pageResult (now (bytes .entry))) (now (out .entry)) (now (out .exit)) r ⌝ }
 {
@@ -86,7 +87,7 @@ pub fn page(bytes: &[u8], out: &mut [u8]) -> PlaceAnswer
     }
 }
 
-// The optimal schedule of a row into a lent place, then its old contents: refused with 1 to 6, 7, 11.
+// The optimal schedule of a row into a lent place, then its old contents: refused with the sheet's refusals, 7, 11.
 pub fn optimal_schedule(bytes: &[u8], row: usize, out: &mut [u8]) -> PlaceAnswer
     ensures { λ r. ⌜ PlaceLeft (scheduleResult (now (bytes .entry)) row) (now (out .entry)) (now (out .exit)) r ⌝ }
 {
@@ -99,7 +100,7 @@ pub fn optimal_schedule(bytes: &[u8], row: usize, out: &mut [u8]) -> PlaceAnswer
     }
 }
 
-// The price of a schedule at a row: refused with 1 to 6, 7, 8, 9, 10.
+// The price of a schedule at a row: refused with the sheet's refusals, 7, 8, 9, 10.
 pub fn price(bytes: &[u8], row: usize, schedule: &[u8]) -> PriceAnswer
     ensures { λ r. ⌜ r ≡ pricing (now (bytes .entry)) row (now (schedule .entry)) ⌝ }
 {

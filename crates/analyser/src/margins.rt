@@ -5,7 +5,7 @@ use model::Verdict;
 ghost use mathlib.Core.Path.{_≡_};
 ghost use Rattle.analyser.specs.Answers.{marginAnswer};
 
-// The margin h*w - d*R of the n-th reference, counted from 1, at a row: refused with 1 to 6, 7, 14, 15.
+// The margin h*w - d*R of the n-th reference, counted from 1, at a row: refused with the sheet's refusals, 7, 14, 15.
 pub fn margin(bytes: &[u8], row: usize, reference: usize) -> MarginAnswer
     ensures { λ r. ⌜ r ≡ marginAnswer (now (bytes .entry)) row reference ⌝ }
 {

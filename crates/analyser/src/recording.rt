@@ -6,7 +6,7 @@ use model::Verdict;
 use recorder::Recorder;
 use recorder::TouchAnswer;
 ghost use mathlib.Core.Path.{_≡_};
-ghost use Rattle.recorder.specs.Recorders.{Touched, TouchedAll, Figured};
+ghost use Rattle.recorder.specs.Recorders.{Touched, TouchedAll, Rested, Figured};
 ghost use Rattle.analyser.specs.Recording.{noRecorder, startAnswer};
 
 // No recorder, and why.
@@ -19,7 +19,7 @@ fn no_recorder(why: Refusal) -> TouchAnswer
     }
 }
 
-// A recorder from a sheet's kind, a, sizes and rows, with no references; refused with 1 to 6, and then with no segments and no rows.
+// A recorder from a sheet's kind, a, sizes and rows, with no steps; refused with the sheet's refusals, and then with no segments and no rows.
 pub fn start(bytes: &[u8]) -> TouchAnswer
     ensures { λ r. ⌜ r ≡ startAnswer (now (bytes .entry)) ⌝ }
 {
@@ -40,6 +40,13 @@ pub fn touch(recorder: Recorder, segment: usize) -> TouchAnswer
     ensures { λ r. ⌜ Touched recorder segment r ⌝ }
 {
     recorder.touch(segment)
+}
+
+// Takes one step without a touch; refused with 13, the recorder comes back as it was.
+pub fn idle(recorder: Recorder) -> TouchAnswer
+    ensures { λ r. ⌜ Rested recorder r ⌝ }
+{
+    recorder.idle()
 }
 
 // The figures of a row at this moment; refused with 7.

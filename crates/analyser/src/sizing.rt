@@ -5,7 +5,7 @@ use rows::sizing::SizingAnswer;
 ghost use mathlib.Core.Path.{_≡_};
 ghost use Rattle.analyser.specs.Answers.{sizeAnswer};
 
-// The lowest row with the least load among the rows with optmem within the ceiling: refused with 1 to 6, 12.
+// The lowest row with the least load among the rows with optmem within the ceiling: refused with the sheet's refusals, 12.
 pub fn size(bytes: &[u8], ceiling: u64) -> SizingAnswer
     ensures { λ r. ⌜ r ≡ sizeAnswer (now (bytes .entry)) ceiling ⌝ }
 {

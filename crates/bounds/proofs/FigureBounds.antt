@@ -28,7 +28,7 @@ use Rattle.model.specs.Figures.{
   wsocc,
   mean,
 }
-use Rattle.model.specs.Sheets.{RunWithin, largestA, mostSegs, largestSize, mostRefs}
+use Rattle.model.specs.Sheets.{RunWithin, largestA, mostSegs, largestSize, mostSteps}
 use Rattle.model.specs.declared.Kind.{Kind}
 use Rattle.model.specs.declared.Kind.the-variants.{Time, Space}
 use Rattle.model.proofs.Bounds.{product-within}
@@ -185,24 +185,24 @@ module _ (T : Trace) (c : RunWithin T) (h d : ℕ) where
   unfolding misses
   misses-within = touching-within T (steps T) 1 (λ t i. cond (kept T h d t i) 0 1) (λ t i lt l. missed (kept T h d t i) 1)
 
-  pub volume-within : volume T h d ≤ mostRefs * largestSize
+  pub volume-within : volume T h d ≤ mostSteps * largestSize
   unfolding volume
   volume-within =
       omega (
         arith,
         touching-within T (steps T) largestSize (λ t i. cond (kept T h d t i) 0 (sizeOf T i))
             (λ t i lt l. omega (arith, missed (kept T h d t i) (sizeOf T i), c .size-within i l)),
-        product-within (steps T) largestSize mostRefs largestSize (c .refs-within) (omega arith),
+        product-within (steps T) largestSize mostSteps largestSize (c .steps-within) (omega arith),
       )
 
-  pub load-within : load T h d ≤ mostRefs + largestA * (mostRefs * largestSize)
+  pub load-within : load T h d ≤ mostSteps + largestA * (mostSteps * largestSize)
   unfolding load
   load-within =
       omega (
         arith,
         misses-within,
-        c .refs-within,
-        product-within (T .a) (volume T h d) largestA (mostRefs * largestSize) (c .a-within) volume-within,
+        c .steps-within,
+        product-within (T .a) (volume T h d) largestA (mostSteps * largestSize) (c .a-within) volume-within,
       )
 
   pub sizes-within : allSizes T ≤ mostSegs * largestSize

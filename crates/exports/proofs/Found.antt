@@ -9,7 +9,7 @@ use lib.Dec.{leb}
 use lib.ListN.{length, take}
 use borrow.Author.Tests.{leb-true, leb-false}
 use Rattle.model.specs.Places.{nothingPlaced, gives, PlaceLeft}
-use Rattle.model.specs.Sheets.{SheetValue, mostRows}
+use Rattle.model.specs.Sheets.{newestForm, SheetValue, mostRows}
 use Rattle.model.specs.declared.Refusal.{Refusal}
 use Rattle.model.specs.declared.Refusal.the-variants.{PlaceTooShort}
 use Rattle.model.specs.declared.Verdict.the-variants.{Accepted, Refused}
@@ -45,7 +45,7 @@ module _ (s place : List ℕ) (v : SheetValue) (e : readSheet s ≡ accepted v) 
       → Fitting s place (recordsFor v (length place / 11))
   unfolding recordsFor sheetAnswer noRecords rowsResult
   sheet-fits true t a =
-      let most = accepted-valid s v e .rows .rows-within in
+      let most = accepted-valid 1 newestForm (omega arith) s v e .rows .rows-within in
       let fits = leb-true (length (v .head .rows)) (length place / 11) t in
       rw t (record { most = most; room = omega arith; result = rw (e, figures-front v most) })
   sheet-fits false t a =

@@ -2,13 +2,14 @@
 use Prim.Native.Nat.{ℕ}
 use mathlib.Core.Path.{_≡_}
 use mathlib.Core.List.{List}
+use lib.ListN.{getD}
 use Rattle.model.specs.Refusals.{verdictNumber}
 use Rattle.figures.specs.declared.FiguresAnswer.{FiguresAnswer}
-use Rattle.recorder.specs.Recorders.{Figured}
+use Rattle.recorder.specs.Recorders.{Figured, stepVerdict}
 use Rattle.recorder.specs.declared.Recorder.{Recorder}
 use Rattle.recorder.specs.declared.TouchAnswer.{TouchAnswer}
 use Rattle.numbers.specs.Figures.{figureList}
-use Rattle.numbers.specs.Recorders.{RecorderLists, recorderIn, listsOf, withTaken}
+use Rattle.numbers.specs.Recorders.{RecorderLists, recorderIn, listsOf, withTaken, idleCounts}
 use Rattle.analyser.specs.Recording.{startAnswer}
 use Rattle.exports.specs.Exported.{orOld}
 
@@ -24,6 +25,11 @@ pub record TouchCall (Answers : Recorder → TouchAnswer → Type 0) (l l' : Rec
   pub answered : Answers (recorderIn l) answer
   pub returned-is : returned ≡ verdictNumber (answer .verdict)
   pub lists-are : l' ≡ orOld (answer .verdict) (withTaken l (answer .recorder)) l
+
+-- one idle step, by the counts alone: accepted, the first of them, the steps taken, is one more; refused, they are as they were
+pub record IdleCall (counts counts' : List ℕ) (returned : ℕ) : Type 0 where
+  pub returned-is : returned ≡ verdictNumber (stepVerdict (getD counts 0 0))
+  pub counts-are : counts' ≡ idleCounts counts
 
 -- the figures of a row: an answer that the recorder gives, and the lent numbers after it
 pub record FiguresCall (l : RecorderLists) (row : ℕ) (out out' : List ℕ) (returned : ℕ) : Type 0 where

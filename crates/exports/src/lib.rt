@@ -11,11 +11,11 @@ ghost use Rattle.model.specs.Refusals.{verdictNumber};
 ghost use Rattle.sheet.specs.Reading.{readSheet};
 ghost use Rattle.sheet.specs.Answers.{answerOf};
 ghost use Rattle.numbers.specs.Figures.{figureList};
-ghost use Rattle.analyser.specs.Answers.{figuresAnswer, listingResult, pageResult, scheduleResult};
+ghost use Rattle.analyser.specs.Answers.{toForm2Result, toForm1Result, figuresAnswer, listingResult, pageResult, scheduleResult};
 ghost use Rattle.analyser.specs.Answers.{pricing, marginAnswer, sizeAnswer, billAnswer};
 ghost use Rattle.exports.specs.Exported.{orOld, priceList, rewriteResult, rowsResult, PlaceCall};
 
-// Whether the bytes are a sheet: 1 to 6.
+// Whether the bytes are a sheet: the sheet's refusals.
 #[no_mangle]
 pub extern "C" fn segtrace_check(sheet: &[u8]) -> u64
     ensures { λ r. ⌜ r ≡ verdictNumber (answerOf (readSheet (now (sheet .entry))) .verdict) ⌝ }
@@ -40,7 +40,7 @@ fn tell(answer: PlaceAnswer, written: &mut u64) -> u64
     }
 }
 
-// The sheet read and written again, and its length: 1 to 6, 11.
+// The sheet read and written again, and its length: the sheet's refusals, 11.
 #[no_mangle]
 pub extern "C" fn segtrace_rewrite(sheet: &[u8], out: &mut [u8], written: &mut u64) -> u64
     ensures { λ r. ⌜ PlaceCall (rewriteResult (now (sheet .entry))) (now (out .entry)) (now (out .exit))
@@ -54,7 +54,25 @@ pub extern "C" fn segtrace_rewrite(sheet: &[u8], out: &mut [u8], written: &mut u
     }
 }
 
-// The figures of a row in the listing's order: 1 to 6, 7.
+// A sheet of form 1 in form 2, and its length: the sheet's refusals, where any other form is 4, 11.
+#[no_mangle]
+pub extern "C" fn segtrace_to_form_2(sheet: &[u8], out: &mut [u8], written: &mut u64) -> u64
+    ensures { λ r. ⌜ PlaceCall (toForm2Result (now (sheet .entry))) (now (out .entry)) (now (out .exit))
+        (now (written .entry)) (now (written .exit)) r ⌝ }
+{
+    tell(analyser::converting::to_form_2(sheet, out), written)
+}
+
+// A sheet of form 2 in form 1, and its length: the sheet's refusals, where any other form is 4, 17, 11.
+#[no_mangle]
+pub extern "C" fn segtrace_to_form_1(sheet: &[u8], out: &mut [u8], written: &mut u64) -> u64
+    ensures { λ r. ⌜ PlaceCall (toForm1Result (now (sheet .entry))) (now (out .entry)) (now (out .exit))
+        (now (written .entry)) (now (written .exit)) r ⌝ }
+{
+    tell(analyser::converting::to_form_1(sheet, out), written)
+}
+
+// The figures of a row in the listing's order: the sheet's refusals, 7.
 #[no_mangle]
 pub extern "C" fn segtrace_figures(
     sheet: &[u8],
@@ -76,7 +94,7 @@ pub extern "C" fn segtrace_figures(
     }
 }
 
-// The figures of every row, 11 numbers each, one row after the other, and how many numbers: 1 to 6, 11.
+// The figures of every row, 11 numbers each, one row after the other, and how many numbers: the sheet's refusals, 11.
 #[no_mangle]
 pub extern "C" fn segtrace_all_figures(sheet: &[u8], out: &mut [u64], written: &mut u64) -> u64
     ensures { λ r. ⌜ PlaceCall (rowsResult (now (sheet .entry))) (now (out .entry)) (now (out .exit))
@@ -97,7 +115,7 @@ pub extern "C" fn segtrace_all_figures(sheet: &[u8], out: &mut [u64], written: &
     }
 }
 
-// The listing, and its length: 1 to 6, 11.
+// The listing, and its length: the sheet's refusals, 11.
 #[no_mangle]
 pub extern "C" fn segtrace_listing(sheet: &[u8], out: &mut [u8], written: &mut u64) -> u64
     ensures { λ r. ⌜ PlaceCall (listingResult (now (sheet .entry))) (now (out .entry)) (now (out .exit))
@@ -106,7 +124,7 @@ pub extern "C" fn segtrace_listing(sheet: &[u8], out: &mut [u8], written: &mut u
     tell(analyser::listing(sheet, out), written)
 }
 
-// The page for the binder, or two pages, and their length: 1 to 6, 11.
+// The page for the binder, or two pages, and their length: the sheet's refusals, 11.
 #[no_mangle]
 pub extern "C" fn segtrace_page(sheet: &[u8], out: &mut [u8], written: &mut u64) -> u64
     ensures { λ r. ⌜ PlaceCall (pageResult (now (sheet .entry))) (now (out .entry)) (now (out .exit))
@@ -115,7 +133,7 @@ pub extern "C" fn segtrace_page(sheet: &[u8], out: &mut [u8], written: &mut u64)
     tell(analyser::page(sheet, out), written)
 }
 
-// The optimal schedule of a row, and its length: 1 to 6, 7, 11.
+// The optimal schedule of a row, and its length: the sheet's refusals, 7, 11.
 #[no_mangle]
 pub extern "C" fn segtrace_optimal_schedule(
     sheet: &[u8],
@@ -132,7 +150,7 @@ pub extern "C" fn segtrace_optimal_schedule(
     )
 }
 
-// Memory, load and total of a schedule at a row: 1 to 6, 7, 8, 9, 10.
+// Memory, load and total of a schedule at a row: the sheet's refusals, 7, 8, 9, 10.
 #[no_mangle]
 pub extern "C" fn segtrace_price(
     sheet: &[u8],
@@ -155,7 +173,7 @@ pub extern "C" fn segtrace_price(
     }
 }
 
-// The margin of a reference, counted from 1, at a row: 1 to 6, 7, 14, 15.
+// The margin of a reference, counted from 1, at a row: the sheet's refusals, 7, 14, 15.
 #[no_mangle]
 pub extern "C" fn segtrace_margin(sheet: &[u8], row: u64, reference: u64, margin: &mut i64) -> u64
     ensures { λ r. ⌜ (r ≡ verdictNumber (marginAnswer (now (sheet .entry)) row reference .verdict))
@@ -174,7 +192,7 @@ pub extern "C" fn segtrace_margin(sheet: &[u8], row: u64, reference: u64, margin
     }
 }
 
-// The lowest row with the least load among the rows with optmem within the ceiling: 1 to 6, 12.
+// The lowest row with the least load among the rows with optmem within the ceiling: the sheet's refusals, 12.
 #[no_mangle]
 pub extern "C" fn segtrace_size(sheet: &[u8], ceiling: u64, row: &mut u64) -> u64
     ensures { λ r. ⌜ (r ≡ verdictNumber (sizeAnswer (now (sheet .entry)) ceiling .verdict))
@@ -192,7 +210,7 @@ pub extern "C" fn segtrace_size(sheet: &[u8], ceiling: u64, row: &mut u64) -> u6
     }
 }
 
-// The bill of a row in cents, at two rates and a minimum: 1 to 6, 7, 18.
+// The bill of a row in cents, at two rates and a minimum: the sheet's refusals, 7, 18.
 #[no_mangle]
 pub extern "C" fn segtrace_bill(
     sheet: &[u8],

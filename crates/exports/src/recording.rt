@@ -10,9 +10,9 @@ use numbers::recorders::store_head;
 use numbers::recorders::store_taken;
 ghost use Rattle.recorder.specs.Recorders.{Touched, TouchedAll};
 ghost use Rattle.numbers.specs.Recorders.{lists};
-ghost use Rattle.exports.specs.Recording.{StartCall, TouchCall, FiguresCall};
+ghost use Rattle.exports.specs.Recording.{StartCall, TouchCall, IdleCall, FiguresCall};
 
-// A recorder with the kind, a, sizes and rows of a sheet and no references: 1 to 6.
+// A recorder with the kind, a, sizes and rows of a sheet and no steps: the sheet's refusals.
 #[no_mangle]
 pub extern "C" fn segtrace_recorder_start(
     sheet: &[u8],
@@ -72,6 +72,14 @@ pub extern "C" fn segtrace_recorder_touch(
         }
         Verdict::Refused(why) => model::number(why),
     }
+}
+
+// Takes one step without a touch, by the counts alone: 13.
+#[no_mangle]
+pub extern "C" fn segtrace_recorder_idle(counts: &mut [u64; 3]) -> u64
+    ensures { λ r. ⌜ IdleCall (now (counts .entry)) (now (counts .exit)) r ⌝ }
+{
+    model::verdict_number(numbers::recorders::idle(counts))
 }
 
 // Takes all references, or none where one would be refused: 4, 13.

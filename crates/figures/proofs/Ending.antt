@@ -42,7 +42,7 @@ module _ (rows : List PriceRow) (T : Trace) where
       → (b : Bucket) → b ≡ withEnd (getD buckets (y .bucket) noBucket) y → set buckets (y .bucket) b ≡ endsUpTo (i + 1)
   ending-step run n all last table i lt buckets are y lim is b added =
       let touch : y ≡ endTouch i =
-      rw (table, last-time T n i 0 (omega (arith, run .segs-within)) (omega (arith, run .refs-within)), ← all) at is in
+      rw (table, last-time T n i 0 (omega (arith, run .segs-within)) (omega (arith, run .steps-within)), ← all) at is in
       rw (add-one i)
       (buckets-step (λ i. endTouch i .reuse) endTouch i buckets (are ∙ sym (ends-over i)) y touch (omega (arith, lim .is-bucket)) b
       (rw (← ap (λ (q : Touch). q .reuse) touch) added)

@@ -7,12 +7,12 @@ use mathlib.Core.List.{List}
 use native.Mathlib.Omega.{arith}
 use lib.Dec.{eqb, ltb}
 use lib.ListN.{length, getD}
-use borrow.Author.Tests.{le-ltb, lt-ltb}
+use borrow.Author.Tests.{le-ltb}
 use Rattle.model.specs.Costs.{keeps}
 use Rattle.model.specs.Sums.{sum, tabulate}
-use Rattle.model.specs.Traces.{Trace, segs, steps, entry, swapOf, touching, overTouches, overSegments, unreferenced}
+use Rattle.model.specs.Traces.{Trace, segs, steps, entry, swapOf, touching, overTouches, overSegments, unreferenced, refsBy, refsOf}
 use Rattle.model.specs.Figures.{isReuse, retentionOf, kept}
-use Rattle.model.specs.Sheets.{RowsWithin, RunWithin, rowIn}
+use Rattle.model.specs.Sheets.{RowsWithin, rowIn}
 use Rattle.model.specs.declared.PriceRow.{PriceRow}
 use Rattle.model.proofs.Sums.{sum-none, sum-suc, sum-eq, sum-add, sum-zero, sum-at}
 use Rattle.model.proofs.Loads.{overTouches-eq}
@@ -70,11 +70,6 @@ unfolding ended
 ended-below rows T n m g =
     sorted m n (λ i. isReuse (unreferenced T (steps T) i)) (λ i. bucketOf rows T (steps T) i) g
 
-sum-ones : (n : ℕ) → sum n (λ t. 1) ≡ n
-unfolding sum
-sum-ones zero = refl
-sum-ones (suc n) = omega (arith, sum-ones n)
-
 module _ (rows : List PriceRow) (up : RowsWithin rows) (T : Trace) where
   -- all buckets together hold every touch
   pub filed-all : (g : ℕ → ℕ → ℕ)
@@ -85,17 +80,14 @@ module _ (rows : List PriceRow) (up : RowsWithin rows) (T : Trace) where
       (λ t i lt l touch. rw (bucket-within rows up T t i))
 
   -- the counts of the buckets add up to the references
-  pub counts-add-up : RunWithin T → sum bucketCount (λ k. getD (tallyOf rows T .buckets) k noBucket .count) ≡ steps T
-  unfolding tallyOf bucketAfter touching
-  counts-add-up run =
+  pub counts-add-up : sum bucketCount (λ k. getD (tallyOf rows T .buckets) k noBucket .count) ≡ refsOf T
+  unfolding tallyOf bucketAfter refsBy
+  counts-add-up =
       sum-eq bucketCount
       (λ k. getD (tabulate bucketCount (bucketAfter rows T (steps T))) k noBucket .count)
       (λ k. filed rows T (steps T) k (λ t i. 1))
       (λ k lt. rw (getD-tabulate bucketCount (bucketAfter rows T (steps T)) k noBucket lt))
       ∙ filed-all (λ t i. 1)
-      ∙ sum-eq (steps T) (touching T (λ t i. 1)) (λ t. 1)
-      (λ t lt. rw (lt-ltb (entry T t) (segs T) (run .ref-within t lt)))
-      ∙ sum-ones (steps T)
 
   module _ (r : ℕ) (lt : r < length rows) where
     -- the buckets up to row r hold what it keeps

@@ -13,7 +13,7 @@ use Rattle.model.specs.Sums.{sum}
 use Rattle.model.specs.Traces.{Trace, segs, steps, entry, sizeOf, swapOf, unitOf, touching, overTouches, overSegments, unreferenced}
 use Rattle.model.specs.Figures.{refCost, refVolume, isReuse, ofTime, retentionOf, spaceOf, kept, misses, volume, load, optmem}
 use Rattle.model.specs.Figures.{smaller, wsmem, wsspace, wsocc}
-use Rattle.model.specs.Sheets.{RunWithin, largestA, mostSegs, largestSize, largestPrice, mostRefs}
+use Rattle.model.specs.Sheets.{RunWithin, largestA, mostSegs, largestSize, largestPrice, mostSteps}
 use Rattle.model.specs.declared.Kind.{Kind}
 use Rattle.model.specs.declared.Kind.the-variants.{Time, Space}
 use Rattle.model.proofs.Sums.{sum-within}
@@ -54,19 +54,19 @@ module _ (T : Trace) (run : RunWithin T) where
       omega (arith, product-within (T .a) (sizeOf T i) largestA largestSize (run .a-within) (run .size-within i lt))
 
   -- the unreferenced time, each step counted with at most the largest size
-  times-within : (t i x : ℕ) → t ≤ mostRefs → x ≤ largestSize → ofTime (λ k. k * x) (unreferenced T t i) ≤ retentionBound
+  times-within : (t i x : ℕ) → t ≤ mostSteps → x ≤ largestSize → ofTime (λ k. k * x) (unreferenced T t i) ≤ retentionBound
   times-within t i x le fit = go (unreferenced T t i) (unreferenced-within T t i)
     where
       go : (o : Option ℕ) → ((k : ℕ) → o ≡ some k → k ≤ t) → ofTime (λ k. k * x) o ≤ retentionBound
       go none below = omega arith
-      go (some k) below = product-within k x mostRefs largestSize (omega (arith, below k refl)) fit
+      go (some k) below = product-within k x mostSteps largestSize (omega (arith, below k refl)) fit
 
-  retention-within : (t i : ℕ) → t ≤ mostRefs → i < segs T → retentionOf T t i ≤ retentionBound
+  retention-within : (t i : ℕ) → t ≤ mostSteps → i < segs T → retentionOf T t i ≤ retentionBound
   retention-within t i le lt = times-within t i (unitOf T i) le (units-within i lt)
 
   -- a bucket whose sums are within n times any bound of the items
   bucket-holds : (n : ℕ) (S : (ℕ → ℕ → ℕ) → ℕ)
-      → ((g : ℕ → ℕ → ℕ) (m : ℕ) → ((t i : ℕ) → t ≤ mostRefs → i < segs T → g t i ≤ m) → S g ≤ n * m)
+      → ((g : ℕ → ℕ → ℕ) (m : ℕ) → ((t i : ℕ) → t ≤ mostSteps → i < segs T → g t i ≤ m) → S g ≤ n * m)
       → Holds n (bucketBy T S)
   bucket-holds n S within =
       record {
@@ -85,17 +85,17 @@ module _ (T : Trace) (run : RunWithin T) where
       }
 
   -- the first n buckets of the touches hold at most 2,048 items
-  pub buckets-hold : (rows : List PriceRow) (n : ℕ) → n ≤ bucketCount → Holds mostRefs (summed (tallyOf rows T .buckets) n)
+  pub buckets-hold : (rows : List PriceRow) (n : ℕ) → n ≤ bucketCount → Holds mostSteps (summed (tallyOf rows T .buckets) n)
   buckets-hold rows n le =
       rw (summed-buckets rows T n le)
-      (bucket-holds mostRefs (λ g. sum n (λ k. filed rows T (steps T) k g))
+      (bucket-holds mostSteps (λ g. sum n (λ k. filed rows T (steps T) k g))
       (λ g m each.
       rw (filed-below rows T (steps T) n g)
       (omega (
         arith,
         touches-within T m (λ t i. cond (ltb (bucketOf rows T t i) n) (g t i) 0)
-            (λ t i lt l. left-out (ltb (bucketOf rows T t i) n) (g t i) m (each t i (omega (arith, run .refs-within)) l)),
-        product-within (steps T) m mostRefs m (run .refs-within) (omega arith),
+            (λ t i lt l. left-out (ltb (bucketOf rows T t i) n) (g t i) m (each t i (omega (arith, run .steps-within)) l)),
+        product-within (steps T) m mostSteps m (run .steps-within) (omega arith),
       ))))
 
   -- so has each bucket, and there is room in it
@@ -106,17 +106,17 @@ module _ (T : Trace) (run : RunWithin T) where
         each = λ k le.
             rw (getD-tabulate bucketCount (bucketAfter rows T (steps T)) k noBucket (omega arith))
             (has-room (bucketAfter rows T (steps T) k)
-            (bucket-holds mostRefs (λ g. filed rows T (steps T) k g)
+            (bucket-holds mostSteps (λ g. filed rows T (steps T) k g)
             (λ g m each.
             omega (
               arith,
               touches-within T m (λ t i. cond (eqb (bucketOf rows T t i) k) (g t i) 0)
-                  (λ t i lt l. left-out (eqb (bucketOf rows T t i) k) (g t i) m (each t i (omega (arith, run .refs-within)) l)),
-              product-within (steps T) m mostRefs m (run .refs-within) (omega arith),
+                  (λ t i lt l. left-out (eqb (bucketOf rows T t i) k) (g t i) m (each t i (omega (arith, run .steps-within)) l)),
+              product-within (steps T) m mostSteps m (run .steps-within) (omega arith),
             ))));
       }
     where
-      has-room : (b : Bucket) → Holds mostRefs b → Within b (2 ^ 60)
+      has-room : (b : Bucket) → Holds mostSteps b → Within b (2 ^ 60)
       has-room b h = omega arith
 
   -- those of the end intervals at most 256
@@ -132,26 +132,26 @@ module _ (T : Trace) (run : RunWithin T) where
             (λ i. cond (isReuse (unreferenced T (steps T) i)) (cond (ltb (bucketOf rows T (steps T) i) n) (g (steps T) i) 0) 0)
             (λ i lt.
             left-out (isReuse (unreferenced T (steps T) i)) (cond (ltb (bucketOf rows T (steps T) i) n) (g (steps T) i) 0) m
-            (left-out (ltb (bucketOf rows T (steps T) i) n) (g (steps T) i) m (each (steps T) i (run .refs-within) lt))),
+            (left-out (ltb (bucketOf rows T (steps T) i) n) (g (steps T) i) m (each (steps T) i (run .steps-within) lt))),
         product-within (segs T) m mostSegs m (run .segs-within) (omega arith),
       ))))
 
-  pub cost-within : refCost T ≤ mostRefs * largestSize
+  pub cost-within : refCost T ≤ mostSteps * largestSize
   unfolding refCost
   cost-within =
       omega (
         arith,
         touches-within T largestSize (λ t i. unitOf T i) (λ t i lt l. units-within i l),
-        product-within (steps T) largestSize mostRefs largestSize (run .refs-within) (omega arith),
+        product-within (steps T) largestSize mostSteps largestSize (run .steps-within) (omega arith),
       )
 
-  pub volume-within : refVolume T ≤ mostRefs * largestSize
+  pub volume-within : refVolume T ≤ mostSteps * largestSize
   unfolding refVolume
   volume-within =
       omega (
         arith,
         touches-within T largestSize (λ t i. sizeOf T i) (λ t i lt l. run .size-within i l),
-        product-within (steps T) largestSize mostRefs largestSize (run .refs-within) (omega arith),
+        product-within (steps T) largestSize mostSteps largestSize (run .steps-within) (omega arith),
       )
 
   -- optmem and load, at any prices
@@ -163,18 +163,18 @@ module _ (T : Trace) (run : RunWithin T) where
         cost-within,
         touches-within T retentionBound (λ t i. cond (kept T h d t i) (retentionOf T t i) 0)
             (λ t i lt l.
-            left-out (kept T h d t i) (retentionOf T t i) retentionBound (retention-within t i (omega (arith, run .refs-within)) l)),
-        product-within (steps T) retentionBound mostRefs retentionBound (run .refs-within) (omega arith),
+            left-out (kept T h d t i) (retentionOf T t i) retentionBound (retention-within t i (omega (arith, run .steps-within)) l)),
+        product-within (steps T) retentionBound mostSteps retentionBound (run .steps-within) (omega arith),
       )
 
-  missed-within : (h d : ℕ) → volume T h d ≤ mostRefs * largestSize
+  missed-within : (h d : ℕ) → volume T h d ≤ mostSteps * largestSize
   unfolding volume
   missed-within h d =
       omega (
         arith,
         touches-within T largestSize (λ t i. cond (kept T h d t i) 0 (sizeOf T i))
             (λ t i lt l. either-within (kept T h d t i) 0 (sizeOf T i) largestSize (omega arith) (run .size-within i l)),
-        product-within (steps T) largestSize mostRefs largestSize (run .refs-within) (omega arith),
+        product-within (steps T) largestSize mostSteps largestSize (run .steps-within) (omega arith),
       )
 
   pub load-within : (h d : ℕ) → load T h d < 2 ^ 40
@@ -182,10 +182,10 @@ module _ (T : Trace) (run : RunWithin T) where
   load-within h d =
       omega (
         arith,
-        run .refs-within,
+        run .steps-within,
         touches-within T 1 (λ t i. cond (kept T h d t i) 0 1)
             (λ t i lt l. either-within (kept T h d t i) 0 1 1 (omega arith) (omega arith)),
-        product-within (T .a) (volume T h d) largestA (mostRefs * largestSize) (run .a-within) (missed-within h d),
+        product-within (T .a) (volume T h d) largestA (mostSteps * largestSize) (run .a-within) (missed-within h d),
       )
 
   module _ (h d : ℕ) (fit : d ≤ largestPrice) where
@@ -210,7 +210,7 @@ module _ (T : Trace) (run : RunWithin T) where
         item Space false R hw z = omega arith
 
     -- and so within the largest price times the largest retention
-    occupied-within : (t i : ℕ) → t ≤ mostRefs → i < segs T
+    occupied-within : (t i : ℕ) → t ≤ mostSteps → i < segs T
         → byKind (T .kind) (sizeOf T i * smaller T h d t i) (smaller T h d t i)
         ≤ largestPrice * retentionBound
     occupied-within t i le lt =
@@ -221,17 +221,17 @@ module _ (T : Trace) (run : RunWithin T) where
         )
 
     -- the references' cost or volume, and S over all touches and end intervals
-    total-within : (S : ℕ → ℕ → ℕ) (base : ℕ) → base ≤ mostRefs * largestSize
-        → ((t i : ℕ) → t ≤ mostRefs → i < segs T → S t i ≤ largestPrice * retentionBound)
+    total-within : (S : ℕ → ℕ → ℕ) (base : ℕ) → base ≤ mostSteps * largestSize
+        → ((t i : ℕ) → t ≤ mostSteps → i < segs T → S t i ≤ largestPrice * retentionBound)
         → d * base + overTouches T S + overSegments T (S (steps T)) < 2 ^ 53
     total-within S base small each =
         let B = largestPrice * retentionBound in
         omega (
           arith,
-          product-within d base largestPrice (mostRefs * largestSize) fit small,
-          touches-within T B S (λ t i lt l. each t i (omega (arith, run .refs-within)) l),
-          product-within (steps T) B mostRefs B (run .refs-within) (omega arith),
-          sum-within (segs T) B (S (steps T)) (λ i lt. each (steps T) i (run .refs-within) lt),
+          product-within d base largestPrice (mostSteps * largestSize) fit small,
+          touches-within T B S (λ t i lt l. each t i (omega (arith, run .steps-within)) l),
+          product-within (steps T) B mostSteps B (run .steps-within) (omega arith),
+          sum-within (segs T) B (S (steps T)) (λ i lt. each (steps T) i (run .steps-within) lt),
           product-within (segs T) B mostSegs B (run .segs-within) (omega arith),
         )
 
@@ -240,7 +240,7 @@ module _ (T : Trace) (run : RunWithin T) where
     wsocc-within = go (T .kind) occupied-within
       where
         go : (kind : Kind)
-            → ((t i : ℕ) → t ≤ mostRefs → i < segs T
+            → ((t i : ℕ) → t ≤ mostSteps → i < segs T
             → byKind kind (sizeOf T i * smaller T h d t i) (smaller T h d t i)
             ≤ largestPrice * retentionBound)
             → elim kind [ Time ↦ wsspace T h d | Space ↦ wsmem T h d ] < 2 ^ 53

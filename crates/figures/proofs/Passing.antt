@@ -72,7 +72,7 @@ module _ (rows : List PriceRow) (T : Trace) where
       unfolding passedAfter
       step-entry segment y lim is b added =
           let touch : y ≡ stepTouch n =
-          rw (last-are, last-time T n (entry T n) 0 (omega (arith, segment, run .segs-within)) (omega (arith, run .refs-within))) at is in
+          rw (last-are, last-time T n (entry T n) 0 (omega (arith, segment, run .segs-within)) (omega (arith, run .steps-within))) at is in
           let bs : set buckets (y .bucket) b ≡ tabulate bucketCount (bucketAfter rows T (suc n)) =
           buckets-step (touches T) stepTouch n buckets buckets-are y touch (omega (arith, lim .is-bucket)) b
           (rw (lt-ltb (entry T n) (segs T) segment) added)

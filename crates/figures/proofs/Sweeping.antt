@@ -12,7 +12,7 @@ use native.Mathlib.Nat.{add-zero}
 use Rattle.model.specs.Traces.{Trace, steps, sizeOf, swapOf, overTouches}
 use Rattle.model.specs.Figures.{refCost, refVolume}
 use Rattle.model.proofs.FirstTouches.{none-started}
-use Rattle.model.specs.Sheets.{rowIn, mostSegs, mostRows, mostRefs}
+use Rattle.model.specs.Sheets.{rowIn, mostSegs, mostRows, mostSteps}
 use Rattle.model.specs.Costs.{unitCost}
 use Rattle.model.specs.declared.Kind.{Kind}
 use Rattle.model.specs.declared.Kind.the-variants.{Time, Space}
@@ -59,7 +59,7 @@ figures-all rows T = refl
 
 -- for a tally that belongs to rows and a run
 module _ (rows : List PriceRow) (T : Trace) (tally : Tally) (given : Tallied rows T tally) where
-  pub tallied-buckets : (n : ℕ) → n ≤ bucketCount → Holds mostRefs (summed (tally .buckets) n)
+  pub tallied-buckets : (n : ℕ) → n ≤ bucketCount → Holds mostSteps (summed (tally .buckets) n)
   tallied-buckets n le = rw (given .is-tally) (buckets-hold T (given .run-ok) rows n le)
 
   pub tallied-ends : (n : ℕ) → n ≤ bucketCount → Holds mostSegs (summed (tally .ends) n)
@@ -123,7 +123,7 @@ module _ (rows : List PriceRow) (T : Trace) (tally : Tally) (given : Tallied row
               rw (all-are, kept-are, ends-are, ← wsocc-swept T (rowIn rows r))
               (wsocc-within T run (rowIn rows r .h) (rowIn rows r .d) (up .d-within r lt));
           some-d = up .some-d r lt;
-          refs-fit = run .refs-within;
+          refs-fit = run .steps-within;
         })
 
     -- and they are the row's

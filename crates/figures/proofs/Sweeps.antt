@@ -10,7 +10,7 @@ use Rattle.model.specs.Costs.{retention}
 use Rattle.model.specs.Sums.{sum, tabulate}
 use Rattle.model.specs.Traces.{Trace, segs, steps, sizeOf, swapOf, overTouches, overSegments}
 use Rattle.model.specs.Figures.{ofTime, retentionOf, kept}
-use Rattle.model.specs.Sheets.{RowsWithin, rowIn, mostSegs, mostRefs}
+use Rattle.model.specs.Sheets.{RowsWithin, rowIn, mostSegs, mostSteps}
 use Rattle.model.specs.declared.Kind.{Kind}
 use Rattle.model.specs.declared.Kind.the-variants.{Time, Space}
 use Rattle.model.specs.declared.PriceRow.{PriceRow}
@@ -34,7 +34,7 @@ pub summed-more : (bs : List Bucket) (n : ℕ) {x y : Bucket} → x ≡ summed b
 summed-more bs n e f = f ∙ rw e (sym (summed-suc bs n))
 
 -- what holds at most 256 items holds at most 2,048
-pub holds-more : (b : Bucket) → Holds mostSegs b → Holds mostRefs b
+pub holds-more : (b : Bucket) → Holds mostSegs b → Holds mostSteps b
 holds-more b few = omega arith
 
 -- a number chosen by the kind is within a bound of both

@@ -12,7 +12,7 @@ use Rattle.model.specs.Costs.{retention, swapCost}
 use Rattle.model.specs.Traces.{Trace, segs, steps, entry, sizeOf, touching, unreferenced}
 use Rattle.model.specs.declared.Kind.{Kind}
 use Rattle.model.specs.declared.PriceRow.{PriceRow}
-use Rattle.model.specs.Sheets.{RowsWithin, mostRefs, largestA, largestSize}
+use Rattle.model.specs.Sheets.{RowsWithin, mostSteps, largestA, largestSize}
 use Rattle.figures.specs.Buckets.{bucketOf, filed, bucketAfter, ended, endBucket}
 use Rattle.search.specs.FirstRow.{lastBucket}
 use Rattle.figures.specs.inner.Pass.{touchOf, unplaced, Limited}
@@ -50,7 +50,7 @@ placed-is kind a rows z o x k is bucket up = rw (bucket up, is) refl
 -- the touch with the bucket that the quotient tells
 pub touch-placed : (kind : Kind) (a : ℕ) (rows : List PriceRow) (qs : List ℕ) → Quoted (unitsFor a) rows qs → (z rate mark n : ℕ)
     (x : Touch) (k : ℕ)
-    → a ≤ largestA → z ≤ largestSize → n ≤ mostRefs → rate ≡ rateOf kind a z → x ≡ unplaced kind a z (timeSince n mark)
+    → a ≤ largestA → z ≤ largestSize → n ≤ mostSteps → rate ≡ rateOf kind a z → x ≡ unplaced kind a z (timeSince n mark)
     → IsPlace qs (length rows) rate mark n k → RowsWithin rows → placed x k ≡ touchOf kind a rows z (timeSince n mark)
 unfolding touchOf unplaced
 touch-placed kind a rows qs quoted z rate mark n x k la lz ln is touch place up =

@@ -9,9 +9,9 @@ use model::Sheet;
 use model::Verdict;
 ghost use mathlib.Core.Path.{_≡_};
 ghost use Prim.Native.Nat.{_≤_};
-ghost use Rattle.model.specs.Sheets.{Valid, mostSegs, mostRows};
+ghost use Rattle.model.specs.Sheets.{RowsWithin, RunWithin, headRun, mostSegs, mostRows};
 ghost use Rattle.model.specs.Values.{headValueOf};
-ghost use Rattle.figures.specs.Rows.{allFigures};
+ghost use Rattle.figures.specs.Rows.{runFigures};
 
 // A bucket: how many touches it holds, their sizes, retentions and swap costs added, the last two also with each item multiplied by
 // its size.
@@ -48,10 +48,11 @@ pub struct FiguresAnswer {
     pub figures: RowFigures,
 }
 
-// The figures of every row of a sheet with this head and these references; zeros beyond the rows.
+// The figures of every row of a sheet with this head and these entries, one per step; zeros beyond the rows.
 pub fn figures(head: Head, refs: &[u16]) -> [RowFigures; Sheet::MAX_ROWS]
-    requires { ⌜ (head .segs ≤ mostSegs) × (head .rows ≤ mostRows) × Valid (record { head = headValueOf head; refs = now refs }) ⌝ }
-    ensures { λ r. ⌜ r ≡ allFigures (record { head = headValueOf head; refs = now (refs .entry) }) ⌝ }
+    requires { ⌜ (head .segs ≤ mostSegs) × (head .rows ≤ mostRows) ⌝ }
+    requires { ⌜ RowsWithin (headValueOf head .rows) × RunWithin (headRun (headValueOf head) (now refs)) ⌝ }
+    ensures { λ r. ⌜ r ≡ runFigures (headValueOf head .rows) (headRun (headValueOf head) (now (refs .entry))) ⌝ }
 {
     let kind = head.kind;
     let a = head.a;

@@ -11,7 +11,7 @@ use model::Sheet;
 ghost use mathlib.Core.Path.{_≡_};
 ghost use Prim.Native.Nat.{ℕ, _+_, _*_, _-_, _≤_, _<_, _^_};
 ghost use lib.ListN.{take};
-ghost use Rattle.model.specs.Sheets.{runOf, mostRefs, mostSegs, largestSize, mostRows};
+ghost use Rattle.model.specs.Sheets.{runOf, mostSteps, mostSegs, largestSize, mostRows};
 ghost use Rattle.figures.specs.Buckets.{bucketCount, noBucket};
 ghost use Rattle.figures.specs.Rows.{runFigures};
 ghost use Rattle.figures.specs.inner.Sweep.{added, summed, byKind, wsmemFrom, wsspaceFrom, meanFrom, rowFrom, noRowFigures};
@@ -33,7 +33,7 @@ fn none() -> Bucket
 
 // Two buckets, each sum added.
 fn add(x: Bucket, y: Bucket) -> Bucket
-    requires { ⌜ Holds mostRefs (added x y) ⌝ }
+    requires { ⌜ Holds mostSteps (added x y) ⌝ }
     ensures { λ r. ⌜ r ≡ added x y ⌝ }
 {
     Bucket {
@@ -48,7 +48,7 @@ fn add(x: Bucket, y: Bucket) -> Bucket
 
 // All 65 buckets added.
 fn add_up(buckets: [Bucket; Tally::BUCKETS]) -> Bucket
-    requires { ⌜ ((n : ℕ) → n ≤ bucketCount → Holds mostRefs (summed buckets n)) ⌝ }
+    requires { ⌜ ((n : ℕ) → n ≤ bucketCount → Holds mostSteps (summed buckets n)) ⌝ }
     ensures { λ r. ⌜ r ≡ summed buckets bucketCount ⌝ }
 {
     let mut all = none();
@@ -69,7 +69,7 @@ fn no_figures() -> [RowFigures; Sheet::MAX_ROWS]
 
 // The load of some misses and their sizes.
 fn load_of(a: u8, misses: u64, missed: u64) -> LoadUnits
-    requires { ⌜ (misses ≤ mostRefs) × (missed ≤ mostRefs * largestSize) ⌝ }
+    requires { ⌜ (misses ≤ mostSteps) × (missed ≤ mostSteps * largestSize) ⌝ }
     ensures { λ r. ⌜ r .0 ≡ misses + a * missed ⌝ }
 {
     LoadUnits(misses + (a as u64) * missed)
@@ -83,7 +83,7 @@ pub struct WorkingSet {
 
 // The memory of a working set: Q, and the retentions that the row keeps.
 fn retained(cost: u64, kept: Bucket, ends: Bucket) -> MemoryUnits
-    requires { ⌜ (cost ≤ mostRefs * largestSize) × Holds mostRefs kept × Holds mostSegs ends ⌝ }
+    requires { ⌜ (cost ≤ mostSteps * largestSize) × Holds mostSteps kept × Holds mostSegs ends ⌝ }
     ensures { λ r. ⌜ (r .0 ≡ cost + kept .retention + ends .retention) × (r .0 < 2 ^ 47) ⌝ }
 {
     MemoryUnits(cost + kept.retention + ends.retention)
@@ -91,7 +91,7 @@ fn retained(cost: u64, kept: Bucket, ends: Bucket) -> MemoryUnits
 
 // The same with each item multiplied by its size: V, and the retentions.
 fn retained_space(volume: u64, kept: Bucket, ends: Bucket) -> MemoryUnits
-    requires { ⌜ (volume ≤ mostRefs * largestSize) × Holds mostRefs kept × Holds mostSegs ends ⌝ }
+    requires { ⌜ (volume ≤ mostSteps * largestSize) × Holds mostSteps kept × Holds mostSegs ends ⌝ }
     ensures { λ r. ⌜ (r .0 ≡ volume + kept .retentionz + ends .retentionz) × (r .0 < 2 ^ 47) ⌝ }
 {
     MemoryUnits(volume + kept.retentionz + ends.retentionz)
@@ -99,7 +99,7 @@ fn retained_space(volume: u64, kept: Bucket, ends: Bucket) -> MemoryUnits
 
 // The swap costs that the row does not keep. The first touches and the end intervals have the same ones.
 fn removed(all: Bucket, kept: Bucket, ends: Bucket) -> LoadUnits
-    requires { ⌜ Holds mostRefs all × KeptWithin all kept ends ⌝ }
+    requires { ⌜ Holds mostSteps all × KeptWithin all kept ends ⌝ }
     ensures { λ r. ⌜ (r .0 ≡ all .swap - kept .swap - ends .swap) × (r .0 < 2 ^ 47) ⌝ }
 {
     LoadUnits(all.swap - kept.swap - ends.swap)
@@ -107,7 +107,7 @@ fn removed(all: Bucket, kept: Bucket, ends: Bucket) -> LoadUnits
 
 // The same with each item multiplied by its size.
 fn removed_space(all: Bucket, kept: Bucket, ends: Bucket) -> LoadUnits
-    requires { ⌜ Holds mostRefs all × KeptWithin all kept ends ⌝ }
+    requires { ⌜ Holds mostSteps all × KeptWithin all kept ends ⌝ }
     ensures { λ r. ⌜ (r .0 ≡ all .swapz - kept .swapz - ends .swapz) × (r .0 < 2 ^ 47) ⌝ }
 {
     LoadUnits(all.swapz - kept.swapz - ends.swapz)
@@ -146,7 +146,7 @@ pub fn by_kind(kind: Kind, time: u64, space: u64) -> u64
 
 // The mean of an occupancy over the references.
 fn mean(refs: usize, d: u16, wsocc: u64) -> u64
-    requires { ⌜ (refs ≤ mostRefs) × (1 ≤ d) × (wsocc < 2 ^ 53) ⌝ }
+    requires { ⌜ (refs ≤ mostSteps) × (1 ≤ d) × (wsocc < 2 ^ 53) ⌝ }
     ensures { λ r. ⌜ r ≡ meanFrom refs d wsocc ⌝ }
 {
     if refs == 0 {

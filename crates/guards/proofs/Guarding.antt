@@ -4,7 +4,7 @@ use mathlib.Core.Path.{_≡_}
 use mathlib.Core.List.{List}
 use native.Mathlib.Omega.{arith}
 use lib.ListN.{getD}
-use Rattle.model.specs.Sheets.{mostRefs}
+use Rattle.model.specs.Sheets.{mostSteps}
 use Rattle.figures.specs.inner.Pass.{Within}
 use Rattle.figures.specs.Buckets.{noBucket}
 use Rattle.figures.specs.inner.Sweep.{added, summed, Holds}
@@ -12,14 +12,14 @@ use Rattle.figures.specs.declared.Bucket.{Bucket}
 use Rattle.figures.proofs.Sweeps.{summed-suc, summed-more}
 
 -- two buckets whose sum holds at most 2,048 items have room
-added-within : (x y : Bucket) → Holds mostRefs (added x y) → Within x (2 ^ 60) × Within y (2 ^ 60)
+added-within : (x y : Bucket) → Holds mostSteps (added x y) → Within x (2 ^ 60) × Within y (2 ^ 60)
 added-within x y h = (omega arith, omega arith)
 
 -- one bucket more, added with a guard
-pub sum-more : (buckets : List Bucket) (k : ℕ) {all next : Bucket} → Holds mostRefs (summed buckets (suc k)) → all ≡ summed buckets k
+pub sum-more : (buckets : List Bucket) (k : ℕ) {all next : Bucket} → Holds mostSteps (summed buckets (suc k)) → all ≡ summed buckets k
     → (Within all (2 ^ 60) → Within (getD buckets k noBucket) (2 ^ 60) → next ≡ added all (getD buckets k noBucket))
     → next ≡ summed buckets (suc k)
 sum-more buckets k {all} {next} h e joined =
-    let holds : Holds mostRefs (added all (getD buckets k noBucket)) = rw e (rw (summed-suc buckets k) at h) in
+    let holds : Holds mostSteps (added all (getD buckets k noBucket)) = rw e (rw (summed-suc buckets k) at h) in
     let room = added-within all (getD buckets k noBucket) holds in
     summed-more buckets k e (joined (room .0) (room .1))

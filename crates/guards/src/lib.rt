@@ -7,7 +7,7 @@ use model::Sheet;
 ghost use mathlib.Core.Path.{_≡_};
 ghost use Prim.Native.Nat.{ℕ, _+_, _≤_, _^_, min};
 ghost use Rattle.figures.specs.Buckets.{bucketCount};
-ghost use Rattle.model.specs.Sheets.{mostRefs, mostSegs};
+ghost use Rattle.model.specs.Sheets.{mostSteps, mostSegs};
 ghost use Rattle.figures.specs.inner.Pass.{Limited, Within, Roomy, withTouch};
 ghost use Rattle.figures.specs.inner.Sweep.{added, summed, Holds, KeptWithin};
 ghost use Rattle.guards.specs.inner.Tests.{Tells};
@@ -15,8 +15,8 @@ ghost use Rattle.guards.specs.inner.Tests.{Tells};
 // What a sum holds at most before something is added to it.
 const ROOM: u64 = 1_152_921_504_606_846_976;
 
-// The most references and segments of a sheet.
-pub const REFS: u64 = Sheet::MAX_REFS as u64;
+// The most steps and segments of a sheet.
+pub const STEPS: u64 = Sheet::MAX_STEPS as u64;
 
 pub const SEGS: u64 = Sheet::MAX_SEGS as u64;
 
@@ -24,7 +24,7 @@ pub const SEGS: u64 = Sheet::MAX_SEGS as u64;
 // times the largest size.
 const SIZE: u64 = Sheet::MAX_SIZE as u64;
 
-pub const RETENTION: u64 = REFS * SIZE;
+pub const RETENTION: u64 = STEPS * SIZE;
 
 const SWAP: u64 = 1 + Sheet::MAX_A as u64 * SIZE;
 
@@ -127,7 +127,7 @@ fn join(x: Bucket, y: Bucket) -> Bucket
 // The first n buckets, added.
 pub fn sum_first(buckets: [Bucket; Tally::BUCKETS], n: usize) -> Bucket
     requires { ⌜ n ≤ bucketCount ⌝ }
-    ensures { λ r. ⌜ (((m : ℕ) → m ≤ n → Holds mostRefs (summed buckets m)) → r ≡ summed buckets n) ⌝ }
+    ensures { λ r. ⌜ (((m : ℕ) → m ≤ n → Holds mostSteps (summed buckets m)) → r ≡ summed buckets n) ⌝ }
 {
     let mut all = Bucket {
         count: 0,
@@ -146,7 +146,7 @@ pub fn sum_first(buckets: [Bucket; Tally::BUCKETS], n: usize) -> Bucket
 
 // Whether a bucket can be one of n items.
 pub fn holds(b: Bucket, n: u64) -> bool
-    requires { ⌜ n ≤ mostRefs ⌝ }
+    requires { ⌜ n ≤ mostSteps ⌝ }
     ensures { λ r. ⌜ Tells r (Holds n b) ⌝ }
 {
     if n < b.count {
@@ -172,7 +172,7 @@ pub fn holds(b: Bucket, n: u64) -> bool
 
 // Whether what is kept is within the whole.
 pub fn within(all: Bucket, kept: Bucket, ends: Bucket) -> bool
-    requires { ⌜ Holds mostRefs kept × Holds mostSegs ends ⌝ }
+    requires { ⌜ Holds mostSteps kept × Holds mostSegs ends ⌝ }
     ensures { λ r. ⌜ Tells r (KeptWithin all kept ends) ⌝ }
 {
     if all.count < kept.count {

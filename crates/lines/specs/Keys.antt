@@ -1,4 +1,4 @@
--- The words of a sheet as bytes: each key with its "=", the two kinds, the line feed and "/". Assumes nothing.
+-- The words of a sheet as bytes: each key with its "=", the two kinds, the line feed, "/" and "@". Assumes nothing.
 use Prim.Native.Nat.{ℕ}
 use mathlib.Core.List.{List, [], _∷_}
 use Rattle.model.specs.declared.Kind.{Kind}
@@ -9,6 +9,13 @@ lineFeed = 10
 
 abbrev pub slash : ℕ
 slash = 47
+
+abbrev pub atSign : ℕ
+atSign = 64
+
+-- form=
+abbrev pub formKey : List ℕ
+formKey = 102 ∷ 111 ∷ 114 ∷ 109 ∷ 61 ∷ []
 
 -- kind=
 abbrev pub kindKey : List ℕ
@@ -33,6 +40,10 @@ rowsKey = 114 ∷ 111 ∷ 119 ∷ 115 ∷ 61 ∷ []
 -- row=
 abbrev pub rowKey : List ℕ
 rowKey = 114 ∷ 111 ∷ 119 ∷ 61 ∷ []
+
+-- steps=
+abbrev pub stepsKey : List ℕ
+stepsKey = 115 ∷ 116 ∷ 101 ∷ 112 ∷ 115 ∷ 61 ∷ []
 
 -- refs=
 abbrev pub refsKey : List ℕ

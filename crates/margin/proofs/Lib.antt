@@ -1,3 +1,4 @@
 pub mod MarginResults
+pub mod Places
 pub mod Times
 pub mod TouchMargins

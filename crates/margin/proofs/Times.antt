@@ -14,9 +14,9 @@ use Rattle.model.proofs.Touches.{touched-entry, unreferenced-none, unreferenced
 use Rattle.model.specs.Values.{valueOf}
 use Rattle.model.specs.declared.Sheet.{Sheet}
 use Rattle.model.specs.Standing.{Standing}
-use Rattle.margin.specs.inner.Times.{timeOf, nextTime}
+use Rattle.margin.specs.inner.Times.{timeOf, nextTime, HasTouch}
 use Rattle.margin.specs.declared.Unreferenced.{Unreferenced}
-use Rattle.model.proofs.Standing.{segs-counted, entry-of, entry-segment}
+use Rattle.model.proofs.Standing.{segs-counted, entry-of}
 
 -- no segment was touched before step 1
 pub time-start : (v : SheetValue) (i : ℕ) → timeOf (unreferenced (traceOf v) 0 i) ≡ timeOf none
@@ -45,7 +45,7 @@ time-within v t i u same = rw same (go (unreferenced (traceOf v) t i) refl)
     go (some k) e = omega (arith, unreferenced-within (traceOf v) t i k e)
 
 -- the segment touched at place t of a standing sheet, by its arrays
-module _ (s : Sheet) (c : Standing s) (t : ℕ) (lt : t < s .refs) where
+module _ (s : Sheet) (c : Standing s) (t : ℕ) (touch : HasTouch s t) where
   -- its time after n steps
   abbrev pub timeAfter : ℕ → Unreferenced
   timeAfter n = timeOf (unreferenced (traceOf (valueOf s)) n (getD (s .touches) t 0))
@@ -54,5 +54,5 @@ module _ (s : Sheet) (c : Standing s) (t : ℕ) (lt : t < s .refs) where
   pub time-again : (n : ℕ) → n < t → (u : Unreferenced) → u ≡ timeAfter n
       → nextTime u (eqb (getD (s .touches) n 0) (getD (s .touches) t 0)) ≡ timeAfter (n + 1)
   time-again n le u e =
-      rw (e, add-one n, ← entry-of s c n (omega arith))
-      (time-step (traceOf (valueOf s)) n (getD (s .touches) t 0) (omega (arith, entry-segment s c t lt, segs-counted s c)))
+      rw (e, add-one n, ← entry-of s c n (omega (arith, touch .within)))
+      (time-step (traceOf (valueOf s)) n (getD (s .touches) t 0) (omega (arith, touch .segment, segs-counted s c)))

@@ -20,9 +20,9 @@ use Rattle.model.specs.declared.Sheet.{Sheet}
 use Rattle.model.proofs.Bounds.{retention-within, swap-within}
 use Rattle.model.specs.Standing.{Standing}
 use Rattle.margin.specs.Margins.{noMargin, touchMargin}
-use Rattle.margin.specs.inner.Times.{timeOf}
+use Rattle.margin.specs.inner.Times.{timeOf, HasTouch}
 use Rattle.margin.specs.declared.Unreferenced.{Unreferenced}
-use Rattle.model.proofs.Standing.{rows-counted, row-of, entry-of, entry-segment, size-of, size-within}
+use Rattle.model.proofs.Standing.{rows-counted, row-of, entry-of, size-of, size-within}
 use Rattle.margin.proofs.Times.{time-within}
 
 reuse-time : (o : Option ℕ) → isReuse o ≡ timeOf o .reuse
@@ -47,7 +47,7 @@ touchedSize s t = getD (s .head .sizes) (getD (s .touches) t 0) 0
 abbrev pub touchedTime : Sheet → ℕ → Option ℕ
 touchedTime s t = unreferenced (traceOf (valueOf s)) t (entry (traceOf (valueOf s)) t)
 
-module _ (s : Sheet) (c : Standing s) (r t : ℕ) (row : r < s .head .rows) (lt : t < s .refs) (u : Unreferenced) (e : u ≡ timeOf (touchedTime s t)) where
+module _ (s : Sheet) (c : Standing s) (r t : ℕ) (row : r < s .head .rows) (touch : HasTouch s t) (u : Unreferenced) (e : u ≡ timeOf (touchedTime s t)) where
   reuse-here : isReuse (touchedTime s t) ≡ u .reuse
   reuse-here = reuse-time (touchedTime s t) ∙ ap (λ x. x .reuse) (sym e)
 
@@ -63,7 +63,7 @@ module _ (s : Sheet) (c : Standing s) (r t : ℕ) (row : r < s .head .rows) (lt 
   swapHere = swapCost (s .head .a) (touchedSize s t)
 
   size-here : sizeOf (traceOf (valueOf s)) (entry (traceOf (valueOf s)) t) ≡ touchedSize s t
-  size-here = rw (entry-of s c t lt) (size-of s c (getD (s .touches) t 0) (entry-segment s c t lt))
+  size-here = rw (entry-of s c t (touch .within)) (size-of s c (getD (s .touches) t 0) (touch .segment))
 
   retention-here : retentionOf (traceOf (valueOf s)) t (entry (traceOf (valueOf s)) t) ≡ retentionHere
   unfolding valueOf headValueOf
@@ -78,13 +78,13 @@ module _ (s : Sheet) (c : Standing s) (r t : ℕ) (row : r < s .head .rows) (lt 
 
   -- the size is a 16-bit number
   size-room : touchedSize s t < 2 ^ 16
-  size-room = omega (arith, size-within s c (getD (s .touches) t 0) (entry-segment s c t lt))
+  size-room = omega (arith, size-within s c (getD (s .touches) t 0) (touch .segment))
 
   -- neither cost exceeds what may be priced
   pub retention-room : retentionHere < 2 ^ 32
   retention-room =
       retention-within (s .head .kind) (touchedSize s t) (u .time) size-room
-      (omega (arith, time-within (valueOf s) t (entry (traceOf (valueOf s)) t) u e))
+      (omega (arith, touch .within, time-within (valueOf s) t (entry (traceOf (valueOf s)) t) u e))
 
   pub swap-room : swapHere < 2 ^ 32
   unfolding valueOf headValueOf

@@ -4,13 +4,15 @@ use model::Refusal;
 use model::Sheet;
 use model::Verdict;
 ghost use mathlib.Core.Path.{_≡_};
-ghost use Prim.Native.Nat.{_<_};
+ghost use mathlib.Core.Bool.{_&&_};
+ghost use Prim.Native.Nat.{_≤_, _<_};
+ghost use lib.Dec.{eqb};
 ghost use Rattle.model.specs.Sheets.{traceOf};
 ghost use Rattle.model.specs.Traces.{entry, unreferenced};
 ghost use Rattle.model.specs.Values.{valueOf};
 ghost use Rattle.model.specs.Standing.{Standing};
 ghost use Rattle.margin.specs.Margins.{noMargin, touchMargin, marginFor};
-ghost use Rattle.margin.specs.inner.Times.{timeOf, nextTime};
+ghost use Rattle.margin.specs.inner.Times.{timeOf, nextTime, leftAfter, HasTouch, PlaceFound};
 
 // The margin of a reference, signed; 0 where the call is refused.
 pub struct MarginAnswer {
@@ -57,7 +59,7 @@ fn next_time(before: Unreferenced, touched: bool) -> Unreferenced
 
 // The unreferenced time, just before the step at place t, of the segment that this step touches.
 fn unreferenced_time(s: Sheet, t: usize) -> Unreferenced
-    requires { ⌜ Standing s × (t < s .refs) ⌝ }
+    requires { ⌜ Standing s × HasTouch s t ⌝ }
     ensures { λ r. ⌜ r ≡ timeOf (unreferenced (traceOf (valueOf s)) t (entry (traceOf (valueOf s)) t)) ⌝ }
 {
     let segment = s.touches[t];
@@ -75,7 +77,7 @@ fn unreferenced_time(s: Sheet, t: usize) -> Unreferenced
 
 // The margin of the touch at place t of an accepted sheet: 15 where it is a first touch.
 fn touch_margin(s: Sheet, row: usize, t: usize) -> MarginAnswer
-    requires { ⌜ Standing s × (row < s .head .rows) × (t < s .refs) ⌝ }
+    requires { ⌜ Standing s × (row < s .head .rows) × HasTouch s t ⌝ }
     ensures { λ r. ⌜ r ≡ touchMargin (valueOf s) row t ⌝ }
 {
     let before = unreferenced_time(s, t);
@@ -96,6 +98,41 @@ fn touch_margin(s: Sheet, row: usize, t: usize) -> MarginAnswer
     }
 }
 
+// Whether a step is that of the reference looked for, the first of `left` references, where the step has a touch or not.
+fn is_found(touched: bool, left: usize) -> bool
+    ensures { λ r. ⌜ r ≡ touched && eqb left 1 ⌝ }
+{
+    if touched { left == 1 } else { false }
+}
+
+// How many references are left to pass after a step that has a touch or not.
+fn left_after(touched: bool, left: usize) -> usize
+    requires { ⌜ 1 ≤ left ⌝ }
+    ensures { λ r. ⌜ r ≡ leftAfter touched left ⌝ }
+{
+    if touched { left - 1 } else { left }
+}
+
+// The place of the n-th reference of an accepted sheet, counted from 1, or the number of its steps where it has fewer.
+fn reference_place(s: Sheet, n: usize) -> usize
+    requires { ⌜ Standing s × (1 ≤ n) ⌝ }
+    ensures { λ r. ⌜ PlaceFound (traceOf (valueOf s)) n r ⌝ }
+    ensures { λ r. ⌜ (r < s .steps → HasTouch s r) ⌝ }
+{
+    let segs = s.head.segs;
+    let mut left = n;
+    let mut t = 0;
+    while t < s.steps {
+        let touched = (s.touches[t] as usize) < segs;
+        if is_found(touched, left) {
+            return t;
+        }
+        left = left_after(touched, left);
+        t += 1;
+    }
+    t
+}
+
 // The margin of the n-th reference of an accepted sheet, counted from 1, at a row: 7, then 14, then 15.
 pub fn sheet_margin(s: Sheet, row: usize, reference: usize) -> MarginAnswer
     requires { ⌜ Standing s ⌝ }
@@ -107,8 +144,9 @@ pub fn sheet_margin(s: Sheet, row: usize, reference: usize) -> MarginAnswer
     if reference == 0 {
         return no_margin(Refusal::NoSuchReference);
     }
-    if s.refs < reference {
+    let t = reference_place(s, reference);
+    if s.steps <= t {
         return no_margin(Refusal::NoSuchReference);
     }
-    touch_margin(s, row, reference - 1)
+    touch_margin(s, row, t)
 }

@@ -8,10 +8,10 @@ use lib.ListN.{getD, replicate}
 use lib.Dec.{eqb, lit<}
 use lib.IntN.{ℤ, pos, negsuc}
 use Rattle.model.specs.Sums.{sum, tabulate}
-use Rattle.model.specs.Traces.{Trace, entry, touching, later, unreferenced}
+use Rattle.model.specs.Traces.{Trace, entry, touching, later, unreferenced, refsBy, refsOf, refPlace, placeOf}
 use Rattle.model.specs.Figures.{misses, volume, load, optmem, opttotal, optocc, wsmem, wsocc, mean, kept, marginAt, refCost, refVolume, smaller, wsspace}
 use Rattle.model.specs.Schedules.{Permitted, held, scheduleMemory, scheduleLoad, scheduleTotal, optimalSchedule, nextKept, optimalHeld, optimalByte}
-use Rattle.model.specs.Sheets.{runOf}
+use Rattle.model.specs.Sheets.{idle, runOf}
 use Rattle.model.specs.declared.Kind.{Kind}
 use Rattle.model.specs.declared.Kind.the-variants.{Time, Space}
 
@@ -19,7 +19,8 @@ use Rattle.model.specs.declared.Kind.the-variants.{Time, Space}
 -- the optimal schedule, or the price of a schedule given by the first two bytes of each step as one number
 pub data Item : Type 0 where
   Misses Volume Load Optmem Opttotal Optocc Wsmem Wsocc Mean : Item
-  MarginAbove MarginBelow ScheduleByte : ℕ → Item
+  References : Item
+  MarginAbove MarginBelow ScheduleByte PlaceOf : ℕ → Item
   MemoryOf LoadOf TotalOf : List ℕ → Item
 
 -- 32 bytes for each step, all but the first two of them 0: bit i of a step's number says whether segment i is held
@@ -47,6 +48,8 @@ valueOf Optocc T h d = optocc T h d
 valueOf Wsmem T h d = wsmem T h d
 valueOf Wsocc T h d = wsocc T h d
 valueOf Mean T h d = mean T h d
+valueOf References T h d = refsOf T
+valueOf (PlaceOf n) T h d = placeOf T n
 valueOf (MarginAbove t) T h d = above (marginAt T h d t (entry T t))
 valueOf (MarginBelow t) T h d = below (marginAt T h d t (entry T t))
 valueOf (ScheduleByte j) T h d = getD (optimalSchedule T h d) j 0
@@ -116,6 +119,11 @@ timed = runOf Time 1 (1 ∷ 3 ∷ []) (0 ∷ 1 ∷ 0 ∷ 1 ∷ 1 ∷ 0 ∷ [])
 distant : Trace
 distant = runOf Time 0 (replicate 10 1) (9 ∷ 0 ∷ 9 ∷ [])
 
+-- the listing's run with two steps without a touch, the third and the eighth (F-3): the reuses of segment 0 have R = 2 and 2, those of
+-- segment 1 R = 6 and 0, the end intervals R = 1 and 6, and the mean is over 8 steps
+idling : Trace
+idling = runOf Space 1 (1 ∷ 3 ∷ []) (0 ∷ 1 ∷ idle ∷ 0 ∷ 1 ∷ 1 ∷ 0 ∷ idle ∷ [])
+
 -- P1 to P10, then the further ones
 pub table : List Example
 table =
@@ -138,6 +146,10 @@ table =
     ∷ at distant 1 1 (ScheduleByte 0 is 0 ∷ ScheduleByte 1 is 2 ∷ ScheduleByte 32 is 1 ∷ ScheduleByte 33 is 2 ∷ ScheduleByte 64 is 0 ∷ ScheduleByte 65 is 2 ∷ [])
     ∷ at distant 1 1 (MemoryOf (512 ∷ 513 ∷ 512 ∷ []) is 4 ∷ LoadOf (512 ∷ 513 ∷ 512 ∷ []) is 2 ∷ TotalOf (512 ∷ 513 ∷ 512 ∷ []) is 6 ∷ [])
     ∷ at distant 1 1 (MemoryOf (512 ∷ 1 ∷ 512 ∷ []) is 3 ∷ LoadOf (512 ∷ 1 ∷ 512 ∷ []) is 3 ∷ TotalOf (512 ∷ 1 ∷ 512 ∷ []) is 6 ∷ [])
+    ∷ at idling 1 2 (Misses is 5 ∷ Volume is 9 ∷ Load is 14 ∷ Optmem is 12 ∷ Opttotal is 38 ∷ Optocc is 12 ∷ Wsmem is 38 ∷ Wsocc is 38 ∷ Mean is 2375 ∷ [])
+    ∷ at idling 1 1 (Misses is 3 ∷ Volume is 7 ∷ Load is 10 ∷ Optmem is 16 ∷ Opttotal is 26 ∷ Optocc is 16 ∷ Wsmem is 25 ∷ Wsocc is 25 ∷ Mean is 3125 ∷ [])
+    ∷ at idling 1 1 (ScheduleByte 0 is 1 ∷ ScheduleByte 32 is 3 ∷ ScheduleByte 64 is 1 ∷ ScheduleByte 96 is 1 ∷ ScheduleByte 128 is 3 ∷ ScheduleByte 160 is 3 ∷ ScheduleByte 192 is 1 ∷ ScheduleByte 224 is 0 ∷ [])
+    ∷ at idling 1 1 (References is 6 ∷ PlaceOf 1 is 0 ∷ PlaceOf 2 is 1 ∷ PlaceOf 3 is 3 ∷ PlaceOf 6 is 6 ∷ [])
     ∷ at between 3 1 (Optmem is 6 ∷ Load is 2 ∷ Opttotal is 12 ∷ [])
     ∷ at between 3 1 (MemoryOf (1 ∷ 3 ∷ 3 ∷ 1 ∷ []) is 6 ∷ LoadOf (1 ∷ 3 ∷ 3 ∷ 1 ∷ []) is 2 ∷ TotalOf (1 ∷ 3 ∷ 3 ∷ 1 ∷ []) is 12 ∷ [])
     ∷ at between 3 1 (MemoryOf (1 ∷ 2 ∷ 2 ∷ 1 ∷ []) is 4 ∷ LoadOf (1 ∷ 2 ∷ 2 ∷ 1 ∷ []) is 3 ∷ TotalOf (1 ∷ 2 ∷ 2 ∷ 1 ∷ []) is 13 ∷ [])
@@ -145,7 +157,7 @@ table =
     ∷ []
 
 pub table-holds : allHold table ≡ true
-unfolding allHold claims valueOf bytesOf above below _is_ table listing paper untouched weighted rounded between timed distant held scheduleMemory scheduleLoad scheduleTotal misses volume load optmem opttotal optocc wsmem wsocc mean optimalSchedule sum tabulate touching later unreferenced kept refCost refVolume smaller wsspace nextKept optimalHeld optimalByte
+unfolding allHold claims valueOf bytesOf above below _is_ table listing paper untouched weighted rounded between timed distant idling held scheduleMemory scheduleLoad scheduleTotal misses volume load optmem opttotal optocc wsmem wsocc mean optimalSchedule sum tabulate touching refsBy refPlace later unreferenced kept refCost refVolume smaller wsspace nextKept optimalHeld optimalByte
 table-holds = refl
 
 -- the last schedule of the table drops segment 0 in step 2 and lets it enter again, untouched, in step 3. It would cost less than the

@@ -17,6 +17,7 @@ pub mod LowerBound
 pub mod Margins
 pub mod Optimal
 pub mod Places
+pub mod References
 pub mod Relation
 pub mod Sizing
 pub mod SizingExamples

@@ -1,10 +1,11 @@
 -- What the counts and arrays of a standing sheet hold: its value's lists, rows, references and sizes. Assumes nothing.
 use Prim.Native.Nat.{ℕ, _≤_, _<_}
-use mathlib.Core.Path.{_≡_, refl, _∙_}
+use mathlib.Core.Path.{_≡_, refl, sym, _∙_}
+use mathlib.Core.Logic.{_⊎_, inl, inr, ⊎-elim}
 use native.Mathlib.Omega.{arith}
 use lib.ListN.{length, getD}
 use lib.Seq.{length-take-le, getD-take}
-use Rattle.model.specs.Sheets.{traceOf, rowAt, largestSize}
+use Rattle.model.specs.Sheets.{traceOf, rowAt, idle, largestSize}
 use Rattle.model.specs.Standing.{Standing}
 use Rattle.model.specs.Traces.{entry, sizeOf}
 use Rattle.model.specs.Values.{headValueOf, valueOf}
@@ -21,9 +22,9 @@ module _ (s : Sheet) (c : Standing s) where
   unfolding valueOf headValueOf
   rows-counted = length-take-le (s .head .rows) (s .head .prices) (omega arith)
 
-  pub refs-counted : length (valueOf s .refs) ≡ s .refs
+  pub steps-counted : length (valueOf s .refs) ≡ s .steps
   unfolding valueOf
-  refs-counted = length-take-le (s .refs) (s .touches) (omega arith)
+  steps-counted = length-take-le (s .steps) (s .touches) (omega arith)
 
   pub kind-is : valueOf s .head .kind ≡ s .head .kind
   unfolding valueOf headValueOf
@@ -38,16 +39,18 @@ module _ (s : Sheet) (c : Standing s) where
   unfolding valueOf headValueOf
   row-of r lt = getD-take (s .head .rows) (s .head .prices) r (record { h = 0; d = 0 }) lt
 
-  module _ (t : ℕ) (lt : t < s .refs) where
+  module _ (t : ℕ) (lt : t < s .steps) where
     -- the reference at place t is the entry of the step
     pub entry-of : entry (traceOf (valueOf s)) t ≡ getD (s .touches) t 0
     unfolding valueOf
     entry-of =
-        getD-any (valueOf s .refs) t (length (valueOf s .head .sizes)) 0 (omega (arith, refs-counted)) ∙ getD-take (s .refs) (s .touches) t 0 lt
+        getD-any (valueOf s .refs) t (length (valueOf s .head .sizes)) 0 (omega (arith, steps-counted)) ∙ getD-take (s .steps) (s .touches) t 0 lt
 
-    -- and the number of a segment
-    pub entry-segment : getD (s .touches) t 0 < s .head .segs
-    entry-segment = omega (arith, entry-of, segs-counted, c .valid .run .ref-within t (omega (arith, refs-counted)))
+    -- and the number of a segment, or idle
+    pub entry-segment : (getD (s .touches) t 0 < s .head .segs) ⊎ (getD (s .touches) t 0 ≡ idle)
+    entry-segment =
+        ⊎-elim (λ l. inl (omega (arith, entry-of, segs-counted, l))) (λ e. inr (sym entry-of ∙ e))
+        (c .valid .run .entry-within t (omega (arith, steps-counted)))
 
   module _ (i : ℕ) (lt : i < s .head .segs) where
     -- the size of segment i

@@ -4,12 +4,17 @@ use mathlib.Core.Path.{_≡_}
 use mathlib.Core.List.{List}
 use native.Mathlib.Omega.{arith}
 use lib.ListN.{length, length-append, length-drop, length-replicate}
-use Rattle.model.specs.Values.{zeros, zeroRows, padded}
+use Rattle.model.specs.Sheets.{idle}
+use Rattle.model.specs.Values.{zeros, idles, zeroRows, padded}
 
--- n zeros, n rows 0/0
+-- n zeros, n idle entries, n rows 0/0
 pub zeros-length : (n : ℕ) → length (zeros n) ≡ n
 unfolding zeros
 zeros-length n = length-replicate n 0
+
+pub idles-length : (n : ℕ) → length (idles n) ≡ n
+unfolding idles
+idles-length n = length-replicate n idle
 
 pub zero-rows-length : (n : ℕ) → length (zeroRows n) ≡ n
 unfolding zeroRows

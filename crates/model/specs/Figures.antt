@@ -74,7 +74,7 @@ smaller T h d t i =
     cond (isReuse (unreferenced T t i)) (min (d * retentionOf T t i) (h * swapOf T i)) 0
 
 -- wsmem: d × Q plus the smaller of d × R and h × w, over all reuses and end intervals. An end interval is as if the segment were
--- touched once more at step refs + 1; a never-touched segment has none
+-- touched once more at step steps + 1 (F-3, in place of document 01's refs + 1); a never-touched segment has none
 unfoldable pub wsmem : Trace → ℕ → ℕ → ℕ
 wsmem T h d =
     d * refCost T + overTouches T (λ t i. smaller T h d t i) + overSegments T (λ i. smaller T h d (steps T) i)
@@ -88,10 +88,10 @@ wsspace T h d =
 unfoldable pub wsocc : Trace → ℕ → ℕ → ℕ
 wsocc T h d = elim (T .kind) [ Time ↦ wsspace T h d | Space ↦ wsmem T h d ]
 
--- what the mean divides by: d × refs
+-- what the mean divides by: d × steps
 abbrev pub meanDivisor : Trace → ℕ → ℕ
 meanDivisor T d = d * steps T
 
--- mean: 1,000 × wsocc divided by d × refs, rounded down; 0 when refs is 0
+-- mean: 1,000 × wsocc divided by d × steps, rounded down; 0 when steps is 0 (F-3: over steps, in place of document 01's references)
 unfoldable pub mean : Trace → ℕ → ℕ → ℕ
 mean T h d = cond (eqb (steps T) 0) 0 (1000 * wsocc T h d / meanDivisor T d)

@@ -1,8 +1,11 @@
 -- What a sheet says, and its limits. Assumes nothing.
 use Prim.Native.Nat.{ℕ, suc, _*_, _≤_, _<_}
-use mathlib.Core.Bool.{false}
+use mathlib.Core.Path.{_≡_}
+use mathlib.Core.Logic.{_⊎_}
+use mathlib.Core.Bool.{false, cond}
 use mathlib.Core.List.{List}
 use lib.ListN.{length, getD}
+use lib.Dec.{eqb}
 use Rattle.model.specs.Traces.{Trace, segs, steps, sizeOf, entry}
 use Rattle.model.specs.Figures.{optmem, load}
 use Rattle.model.specs.declared.Kind.{Kind}
@@ -15,14 +18,23 @@ pub record HeadValue : Type 0 where
   pub sizes : List ℕ
   pub rows : List PriceRow
 
--- a sheet's value: its head and its references
+-- a sheet's value: its form, its head and the entry of each step, a segment or `idle` (request F-3). Every step of a sheet of form 1 has a touch
 pub record SheetValue : Type 0 where
+  pub form : ℕ
   pub head : HeadValue
   pub refs : List ℕ
 
--- the limits: the most bytes, the largest a, the most segments, the largest size, the most rows, the largest price, the most references
-abbrev pub mostBytes : ℕ
-mostBytes = 20012
+-- the entry of a step without a touch
+abbrev pub idle : ℕ
+idle = 65535
+
+-- the newest form of a sheet
+abbrev pub newestForm : ℕ
+newestForm = 2
+
+-- the limits: the most bytes by the form, the largest a, the most segments, the largest size, the most rows, the largest price, the most steps
+abbrev pub formBytes : ℕ → ℕ
+formBytes form = cond (eqb form 2) 29163 20012
 
 abbrev pub largestA : ℕ
 largestA = 255
@@ -39,16 +51,20 @@ mostRows = 64
 abbrev pub largestPrice : ℕ
 largestPrice = 65535
 
-abbrev pub mostRefs : ℕ
-mostRefs = 2048
+abbrev pub mostSteps : ℕ
+mostSteps = 2048
 
 -- the run of a kind, a weight a, sizes and references: no segment counts as touched or held before step 1
 abbrev pub runOf : Kind → ℕ → List ℕ → List ℕ → Trace
 runOf kind a sizes refs = record { kind = kind; a = a; sizes = sizes; start = λ i. false; refs = refs }
 
+-- the run of a head and the entry of each step
+abbrev pub headRun : HeadValue → List ℕ → Trace
+headRun head refs = runOf (head .kind) (head .a) (head .sizes) refs
+
 -- the run that a sheet records
 abbrev pub traceOf : SheetValue → Trace
-traceOf s = runOf (s .head .kind) (s .head .a) (s .head .sizes) (s .refs)
+traceOf s = headRun (s .head) (s .refs)
 
 -- row r of a list of rows, and of a sheet
 abbrev pub rowIn : List PriceRow → ℕ → PriceRow
@@ -77,13 +93,16 @@ pub record RunWithin (T : Trace) : Type 0 where
   pub segs-within : segs T ≤ mostSegs
   pub some-size : (i : ℕ) → i < segs T → 1 ≤ sizeOf T i
   pub size-within : (i : ℕ) → i < segs T → sizeOf T i ≤ largestSize
-  pub refs-within : steps T ≤ mostRefs
-  pub ref-within : (t : ℕ) → t < steps T → entry T t < segs T
+  pub steps-within : steps T ≤ mostSteps
+  pub entry-within : (t : ℕ) → t < steps T → (entry T t < segs T) ⊎ (entry T t ≡ idle)
 
--- a sheet's value within the limits: its rows, and its run
+-- a sheet's value within the limits: its form is known, its rows, its run, and a sheet of form 1 has a touch in every step
 pub record Valid (s : SheetValue) : Type 0 where
+  pub some-form : 1 ≤ s .form
+  pub form-within : s .form ≤ newestForm
   pub rows : RowsWithin (s .head .rows)
   pub run : RunWithin (traceOf s)
+  pub whole : s .form ≡ 1 → (t : ℕ) → t < length (s .refs) → entry (traceOf s) t < length (s .head .sizes)
 
 -- optmem and load of row r of a sheet
 abbrev pub rowOptmem : SheetValue → ℕ → ℕ

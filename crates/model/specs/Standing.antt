@@ -2,7 +2,7 @@
 use Prim.Native.Nat.{_≤_}
 use mathlib.Core.Path.{_≡_}
 use lib.ListN.{length}
-use Rattle.model.specs.Sheets.{Valid, mostSegs, mostRows, mostRefs}
+use Rattle.model.specs.Sheets.{Valid, mostSegs, mostRows, mostSteps}
 use Rattle.model.specs.Values.{valueOf}
 use Rattle.model.specs.declared.Sheet.{Sheet}
 
@@ -11,7 +11,7 @@ pub record Standing (s : Sheet) : Type 0 where
   pub valid : Valid (valueOf s)
   pub segs-within : s .head .segs ≤ mostSegs
   pub rows-within : s .head .rows ≤ mostRows
-  pub refs-within : s .refs ≤ mostRefs
+  pub steps-within : s .steps ≤ mostSteps
   pub sizes-whole : length (s .head .sizes) ≡ mostSegs
   pub prices-whole : length (s .head .prices) ≡ mostRows
-  pub touches-whole : length (s .touches) ≡ mostRefs
+  pub touches-whole : length (s .touches) ≡ mostSteps

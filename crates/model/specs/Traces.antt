@@ -1,11 +1,11 @@
 -- What a run of the aligner is: its segments, and the segment touched in each step. Step t + 1 of document 01, which counts from 1,
 -- is the step at place t here; after t steps is the moment just before it. Assumes nothing.
-use Prim.Native.Nat.{ℕ, zero, suc}
+use Prim.Native.Nat.{ℕ, zero, suc, pred}
 use mathlib.Core.Bool.{Bool, cond, _&&_}
 use mathlib.Core.List.{List}
 use mathlib.Core.Option.{Option, none, some}
 use lib.ListN.{length, getD}
-use lib.Dec.{eqb, ltb}
+use lib.Dec.{eqb, leb, ltb}
 use Rattle.model.specs.Costs.{swapCost, unitCost}
 use Rattle.model.specs.Sums.{sum}
 use Rattle.model.specs.declared.Kind.{Kind}
@@ -54,6 +54,24 @@ touching T f t = cond (ltb (entry T t) (segs T)) (f t (entry T t)) 0
 -- the sum of f t i over all touches, t the place of the step and i the segment
 abbrev pub overTouches : Trace → (ℕ → ℕ → ℕ) → ℕ
 overTouches T f = sum (steps T) (touching T f)
+
+-- how many of the first t steps have a touch
+unfoldable pub refsBy : Trace → ℕ → ℕ
+refsBy T t = sum t (touching T (λ s i. 1))
+
+-- refs: how many references there are
+abbrev pub refsOf : Trace → ℕ
+refsOf T = refsBy T (steps T)
+
+-- the place of the n-th reference, counted from 1, among the k steps from place t on
+unfoldable pub refPlace : Trace → ℕ → ℕ → ℕ → ℕ
+refPlace T zero t n = t
+refPlace T (suc k) t n =
+    cond (ltb (entry T t) (segs T)) (cond (leb n 1) t (refPlace T k (suc t) (pred n))) (refPlace T k (suc t) n)
+
+-- the place of the n-th reference
+abbrev pub placeOf : Trace → ℕ → ℕ
+placeOf T n = refPlace T (steps T) 0 n
 
 -- the sum of f i over all segments i
 abbrev pub overSegments : Trace → (ℕ → ℕ) → ℕ

@@ -2,7 +2,7 @@
 use Prim.Native.Nat.{ℕ}
 use mathlib.Core.List.{List, _++_}
 use lib.ListN.{length, take, drop, replicate}
-use Rattle.model.specs.Sheets.{HeadValue, SheetValue, mostBytes, largestA, mostSegs, largestSize, mostRows, largestPrice, mostRefs}
+use Rattle.model.specs.Sheets.{HeadValue, SheetValue, idle, newestForm, formBytes, largestA, mostSegs, largestSize, mostRows, largestPrice, mostSteps}
 use Rattle.model.specs.declared.Kind.the-variants.{Time}
 use Rattle.model.specs.declared.PriceRow.{PriceRow}
 use Rattle.model.specs.declared.Head.{Head}
@@ -13,18 +13,24 @@ use Rattle.model.specs.declared.SheetLimits.{SheetLimits}
 abbrev pub sheetLimits : SheetLimits
 sheetLimits =
     record {
-      bytes = mostBytes;
+      form = newestForm;
+      bytes = formBytes 1;
+      «bytes_2» = formBytes 2;
       a = largestA;
       segs = mostSegs;
       size = largestSize;
       rows = mostRows;
       price = largestPrice;
-      refs = mostRefs;
+      steps = mostSteps;
+      idle = idle;
     }
 
--- n zeros; n rows 0/0
+-- n zeros; n idle entries; n rows 0/0
 unfoldable pub zeros : ℕ → List ℕ
 zeros n = replicate n 0
+
+unfoldable pub idles : ℕ → List ℕ
+idles n = replicate n idle
 
 unfoldable pub zeroRows : ℕ → List PriceRow
 zeroRows n = replicate n (record { h = 0; d = 0 })
@@ -50,19 +56,20 @@ unfoldable pub headValueOf : Head → HeadValue
 headValueOf h =
     record { kind = h .kind; a = h .a; sizes = take (h .segs) (h .sizes); rows = take (h .rows) (h .prices) }
 
--- the sheet with a value: its references at the front of zeros
+-- the sheet with a value: its entries at the front of idle ones
 unfoldable pub sheetOf : SheetValue → Sheet
-sheetOf v = record { head = headOf (v .head); refs = length (v .refs); touches = padded (v .refs) (zeros mostRefs) }
+sheetOf v =
+    record { form = v .form; head = headOf (v .head); steps = length (v .refs); touches = padded (v .refs) (idles mostSteps) }
 
--- the value of a sheet: as many references as it counts
+-- the value of a sheet: as many entries as it counts steps
 unfoldable pub valueOf : Sheet → SheetValue
-valueOf s = record { head = headValueOf (s .head); refs = take (s .refs) (s .touches) }
+valueOf s = record { form = s .form; head = headValueOf (s .head); refs = take (s .steps) (s .touches) }
 
 -- no segments and no rows
 unfoldable pub emptyHead : Head
 emptyHead =
     record { kind = Time; a = 0; segs = 0; sizes = zeros mostSegs; rows = 0; prices = zeroRows mostRows }
 
--- no segments, no rows, no references
+-- form 0, which no sheet has, no segments, no rows, no steps
 unfoldable pub emptySheet : Sheet
-emptySheet = record { head = emptyHead; refs = 0; touches = zeros mostRefs }
+emptySheet = record { form = 0; head = emptyHead; steps = 0; touches = idles mostSteps }

@@ -40,27 +40,36 @@ pub struct Head {
     pub prices: [PriceRow; Sheet::MAX_ROWS],
 }
 
-// A sheet by value: its head and the first `refs` references, one per step. In a sheet that was read, what stands beyond them is 0.
+// A sheet by value: its form, its head and, for each of the first `steps` steps, the segment that it touches or `Sheet::IDLE`. In a sheet
+// that was read, what stands beyond them is `Sheet::IDLE`.
 pub struct Sheet {
+    pub form: u8,
     pub head: Head,
-    pub refs: usize,
-    pub touches: [u16; Sheet::MAX_REFS],
+    pub steps: usize,
+    pub touches: [u16; Sheet::MAX_STEPS],
 }
 
 // The limits of a sheet, as `Sheet::limits` hands them out.
 pub struct SheetLimits {
+    pub form: u8,
     pub bytes: usize,
+    pub bytes_2: usize,
     pub a: u32,
     pub segs: usize,
     pub size: u32,
     pub rows: usize,
     pub price: u32,
-    pub refs: usize,
+    pub steps: usize,
+    pub idle: u16,
 }
 
 impl Sheet {
-    // The most bytes.
+    // The newest form.
+    pub const NEWEST_FORM: u8 = 2;
+    // The most bytes of a sheet of form 1, and of form 2.
     pub const MAX_BYTES: usize = 20_012;
+
+    pub const MAX_BYTES_2: usize = 29_163;
     // The largest weight of volume a.
     pub const MAX_A: u32 = 255;
     // The most segments.
@@ -71,32 +80,38 @@ impl Sheet {
     pub const MAX_ROWS: usize = 64;
     // The largest price.
     pub const MAX_PRICE: u32 = 65_535;
-    // The most references.
-    pub const MAX_REFS: usize = 2_048;
+    // The most steps.
+    pub const MAX_STEPS: usize = 2_048;
+    // The entry of a step without a touch.
+    pub const IDLE: u16 = 65_535;
 
     // The limits: each is the number that the definitions use.
     pub fn limits() -> SheetLimits
         ensures { λ r. ⌜ r ≡ sheetLimits ⌝ }
     {
         SheetLimits {
+            form: Sheet::NEWEST_FORM,
             bytes: Sheet::MAX_BYTES,
+            bytes_2: Sheet::MAX_BYTES_2,
             a: Sheet::MAX_A,
             segs: Sheet::MAX_SEGS,
             size: Sheet::MAX_SIZE,
             rows: Sheet::MAX_ROWS,
             price: Sheet::MAX_PRICE,
-            refs: Sheet::MAX_REFS,
+            steps: Sheet::MAX_STEPS,
+            idle: Sheet::IDLE,
         }
     }
 
-    // The sheet that a refusal hands back: no segments, no rows, no references.
+    // The sheet that a refusal hands back: no form, no segments, no rows, no steps.
     pub fn empty() -> Sheet
         ensures { λ r. ⌜ r ≡ emptySheet ⌝ }
     {
         Sheet {
+            form: 0,
             head: Head::empty(),
-            refs: 0,
-            touches: [0u16; Sheet::MAX_REFS],
+            steps: 0,
+            touches: [Sheet::IDLE; Sheet::MAX_STEPS],
         }
     }
 }

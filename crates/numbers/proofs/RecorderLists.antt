@@ -1,11 +1,15 @@
 -- The lists of a recorder: what a call stores makes them, and they hold the recorder. Assumes nothing.
 use Prim.Native.Nat.{ℕ, zero, suc, _+_, _*_, min}
-use mathlib.Core.Path.{_≡_, refl, sym}
+use mathlib.Core.Path.{_≡_, refl, sym, _∙_}
 use mathlib.Core.List.{List, [], _∷_, map}
 use native.Mathlib.Omega.{arith}
 use lib.ListN.{length, getD}
-use Rattle.model.specs.Sheets.{SheetValue, Valid}
+use borrow.Author.Tests.{lt-ltb, le-ltb}
+use Rattle.model.specs.Sheets.{SheetValue, Valid, mostSteps}
 use Rattle.model.specs.Values.{headOf}
+use Rattle.model.specs.declared.Refusal.{Refusal}
+use Rattle.model.specs.declared.Verdict.{Verdict}
+use Rattle.model.specs.declared.Verdict.the-variants.{Accepted, Refused}
 use Rattle.model.specs.declared.Kind.{Kind}
 use Rattle.model.specs.declared.Kind.the-variants.{Time, Space}
 use Rattle.model.specs.declared.PriceRow.{PriceRow}
@@ -14,10 +18,13 @@ use Rattle.model.specs.Sums.{tabulate}
 use Rattle.figures.specs.Buckets.{noBucket}
 use Rattle.figures.specs.declared.Bucket.{Bucket}
 use Rattle.model.proofs.Tables.{length-tabulate, list-tabulate}
-use Rattle.recorder.specs.Recorders.{recorderOf, appended}
+use Rattle.recorder.specs.Recorders.{recorderOf, appended, rested, withStep, stepVerdict, Rested}
 use Rattle.recorder.specs.declared.Recorder.{Recorder}
-use Rattle.numbers.specs.Recorders.{kindIn, kindNumber, rowsOf, bucketIn, sumsOf, lists, recorderIn, listsOf, withTaken}
+use Rattle.recorder.specs.declared.TouchAnswer.{TouchAnswer}
+use Rattle.recorder.proofs.Answers.{refused-accepted, step-room, step-full, idle-refused, idle-accepted}
+use Rattle.numbers.specs.Recorders.{kindIn, kindNumber, rowsOf, bucketIn, sumsOf, lists, recorderIn, listsOf, withTaken, idleCounts}
 use Rattle.numbers.specs.inner.Stored.{HeadStored, TakenStored}
+use Rattle.numbers.proofs.RecorderSums.{sums-whole}
 
 -- lists in which all of a recorder was stored are its lists
 pub all-stored : (R : Recorder) (head counts sizes h d last sums : List ℕ) → HeadStored R head sizes h d → TakenStored R counts last sums
@@ -84,3 +91,47 @@ pub taken-lists : (v : SheetValue) (xs : List ℕ)
     → withTaken (listsOf (recorderOf v)) (recorderOf (appended v xs)) ≡ listsOf (recorderOf (appended v xs))
 unfolding withTaken listsOf recorderOf
 taken-lists v xs = refl
+
+-- the counts after an idle step, where it is accepted and where it is refused
+pub counts-more : (counts : List ℕ) → stepVerdict (getD counts 0 0) ≡ Accepted
+    → (getD counts 0 0 + 1) ∷ getD counts 1 0 ∷ getD counts 2 0 ∷ [] ≡ idleCounts counts
+unfolding idleCounts
+counts-more counts a = rw (lt-ltb (getD counts 0 0) mostSteps (step-room (getD counts 0 0) a)) refl
+
+pub counts-stay : (counts : List ℕ) (why : Refusal) → stepVerdict (getD counts 0 0) ≡ Refused why → counts ≡ idleCounts counts
+unfolding idleCounts
+counts-stay counts why f = rw (le-ltb (getD counts 0 0) mostSteps (step-full (getD counts 0 0) why f)) refl
+
+-- so the lists in which only the counts change are those after an idle step of the recorder that they hold
+pub record Idled (head counts sizes h d last sums : List ℕ) (w : Verdict) : Type 0 where
+  pub answer : TouchAnswer
+  pub answered : Rested (recorderIn (lists head counts sizes h d last sums)) answer
+  pub verdict-is : answer .verdict ≡ w
+  pub taken : w ≡ Accepted
+      → lists head (idleCounts counts) sizes h d last sums ≡ withTaken (lists head counts sizes h d last sums) (answer .recorder)
+  pub unchanged : (why : Refusal) → w ≡ Refused why → idleCounts counts ≡ counts
+
+pub idled : (head counts sizes h d last sums : List ℕ) → length sums ≡ 390 → (w : Verdict) → w ≡ stepVerdict (getD counts 0 0)
+    → Idled head counts sizes h d last sums w
+unfolding recorderIn withTaken listsOf
+idled head counts sizes h d last sums long Accepted is =
+    record {
+      answer = record { verdict = Accepted; recorder = withStep (recorderIn (lists head counts sizes h d last sums)) };
+      answered = idle-accepted (recorderIn (lists head counts sizes h d last sums)) (sym is);
+      verdict-is = refl;
+      taken = λ a. rw (← counts-more counts (sym is), sums-whole sums long) refl;
+      unchanged = λ why f. sym (counts-stay counts why (sym is ∙ f));
+    }
+idled head counts sizes h d last sums long (Refused why) is =
+    record {
+      answer = record { verdict = Refused why; recorder = recorderIn (lists head counts sizes h d last sums) };
+      answered = idle-refused (recorderIn (lists head counts sizes h d last sums)) why (sym is);
+      verdict-is = refl;
+      taken = λ a. refused-accepted why a;
+      unchanged = λ other f. sym (counts-stay counts other (sym is ∙ f));
+    }
+
+-- and of a recorder that stands for a sheet they are those of the one that stands for the sheet with one idle step more
+pub rested-lists : (v : SheetValue) → withTaken (listsOf (recorderOf v)) (recorderOf (rested v)) ≡ listsOf (recorderOf (rested v))
+unfolding withTaken listsOf recorderOf
+rested-lists v = refl

@@ -191,6 +191,10 @@ sums-front l (suc n) le =
     sums-more (tabulate n (bucketIn l)) (bucketIn l n)
     ∙ rw (sums-front l n (omega arith), next) (sym (take-six l (6 * n) (omega arith)))
 
+-- and of all sums the whole
+pub sums-whole : (l : List ℕ) → length l ≡ 390 → sumsOf (tabulate bucketCount (bucketIn l)) ≡ l
+sums-whole l long = sums-front l bucketCount (omega (arith, long)) ∙ take-all (6 * bucketCount) l (omega (arith, long))
+
 -- the first k buckets stand in the sums
 pub record SumsStored (buckets : List Bucket) (sums : List ℕ) (k : ℕ) : Type 0 where
   pub buckets-length : length buckets ≡ bucketCount
@@ -224,6 +228,4 @@ module _ (buckets : List Bucket) (sums : List ℕ) where
   sums-end k s le =
       let all =
       list-tabulate bucketCount (bucketIn sums) buckets noBucket (s .buckets-length) (λ j l. sym (s .stored j (omega arith))) in
-      sym
-      (rw all (sums-front sums bucketCount (omega (arith, s .sums-length)))
-      ∙ take-all (6 * bucketCount) sums (omega (arith, s .sums-length)))
+      sym (rw all (sums-whole sums (s .sums-length)))

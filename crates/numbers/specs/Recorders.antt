@@ -3,7 +3,8 @@ use Prim.Native.Nat.{ℕ, _+_, _*_, min}
 use mathlib.Core.Bool.{cond}
 use mathlib.Core.List.{List, [], _∷_, map}
 use lib.ListN.{getD}
-use lib.Dec.{eqb}
+use lib.Dec.{eqb, ltb}
+use Rattle.model.specs.Sheets.{mostSteps}
 use Rattle.model.specs.Sums.{tabulate}
 use Rattle.model.specs.declared.Kind.{Kind}
 use Rattle.model.specs.declared.Kind.the-variants.{Time, Space}
@@ -62,7 +63,7 @@ recorderIn l =
             rows = getD (l .head) 3 0;
             prices = rowsOf (l .h) (l .d);
           };
-      refs = getD (l .counts) 0 0;
+      steps = getD (l .counts) 0 0;
       last = l .last;
       buckets = tabulate bucketCount (bucketIn (l .sums));
       cost = getD (l .counts) 1 0;
@@ -79,12 +80,12 @@ unfoldable pub sumsOf : List Bucket → List ℕ
 sumsOf [] = []
 sumsOf (b ∷ bs) = b .count ∷ b .volume ∷ b .retention ∷ b .swap ∷ b .retentionz ∷ b .swapz ∷ sumsOf bs
 
--- the lists of a recorder: kind, a, segs and rows; references, Q and V; sizes; prices; last touches; sums
+-- the lists of a recorder: kind, a, segs and rows; steps, Q and V; sizes; prices; last touches; sums
 unfoldable pub listsOf : Recorder → RecorderLists
 listsOf R =
     record {
       head = kindNumber (R .head .kind) ∷ R .head .a ∷ R .head .segs ∷ R .head .rows ∷ [];
-      counts = R .refs ∷ R .cost ∷ R .volume ∷ [];
+      counts = R .steps ∷ R .cost ∷ R .volume ∷ [];
       sizes = R .head .sizes;
       h = map (λ q. q .h) (R .head .prices);
       d = map (λ q. q .d) (R .head .prices);
@@ -92,7 +93,11 @@ listsOf R =
       sums = sumsOf (R .buckets);
     }
 
--- lists with what a recorder has taken: its references, Q and V, last touches and sums; the others stay
+-- lists with what a recorder has taken: its steps, Q and V, last touches and sums; the others stay
 unfoldable pub withTaken : RecorderLists → Recorder → RecorderLists
 withTaken l R =
     lists (l .head) (listsOf R .counts) (l .sizes) (l .h) (l .d) (listsOf R .last) (listsOf R .sums)
+
+-- the counts after an idle step: one step more, Q and V as they were; as they were where there are 2,048 steps
+unfoldable pub idleCounts : List ℕ → List ℕ
+idleCounts counts = cond (ltb (getD counts 0 0) mostSteps) ((getD counts 0 0 + 1) ∷ getD counts 1 0 ∷ getD counts 2 0 ∷ []) counts

@@ -6,14 +6,16 @@ use model::Head;
 use model::Kind;
 use model::PriceRow;
 use model::Sheet;
+use model::Verdict;
 use recorder::Recorder;
 ghost use mathlib.Core.Path.{_≡_};
 ghost use Prim.Native.Nat.{min};
-ghost use lib.ListN.{length};
+ghost use lib.ListN.{length, getD};
 ghost use Rattle.model.specs.Sheets.{mostRows};
 ghost use Rattle.model.specs.Sums.{tabulate};
 ghost use Rattle.figures.specs.Buckets.{bucketCount};
-ghost use Rattle.numbers.specs.Recorders.{kindIn, kindNumber, rowsOf, bucketIn, sumsOf, lists, recorderIn};
+ghost use Rattle.numbers.specs.Recorders.{kindIn, kindNumber, rowsOf, bucketIn, sumsOf, lists, recorderIn, idleCounts};
+ghost use Rattle.recorder.specs.Recorders.{stepVerdict};
 ghost use Rattle.numbers.specs.inner.Stored.{pricesOf, HeadStored, TakenStored};
 
 // The prices of rows, apart: of a load unit, and of a memory unit.
@@ -149,7 +151,7 @@ pub fn recorder_of(
             rows: head[3] as usize,
             prices: prices,
         },
-        refs: counts[0] as usize,
+        steps: counts[0] as usize,
         last: table,
         buckets: buckets,
         cost: counts[1],
@@ -185,7 +187,7 @@ pub fn store_head(
     *d = of_memory;
 }
 
-// Stores the references taken, Q and V, the table of last touches and the buckets.
+// Stores the steps taken, Q and V, the table of last touches and the buckets.
 pub fn store_taken(
     r: Recorder,
     counts: &mut [u64; 3],
@@ -196,7 +198,21 @@ pub fn store_taken(
 {
     let table = r.last;
     let buckets = r.buckets;
-    *counts = [r.refs as u64, r.cost, r.volume];
+    *counts = [r.steps as u64, r.cost, r.volume];
     *last = table;
     store_buckets(buckets, sums);
+}
+
+// One idle step, of which only the counts of a recorder tell: 13.
+pub fn idle(counts: &mut [u64; 3]) -> Verdict
+    ensures verdict { λ r. ⌜ r ≡ stepVerdict (getD (now (counts .entry)) 0 0) ⌝ }
+    ensures counted { λ r. ⌜ now (counts .exit) ≡ idleCounts (now (counts .entry)) ⌝ }
+{
+    let t = counts[0];
+    let step = recorder::taking::idle_verdict(t as usize);
+    if let Verdict::Refused(why) = step {
+        return Verdict::Refused(why);
+    }
+    *counts = [t + 1, counts[1], counts[2]];
+    Verdict::Accepted
 }

@@ -21,7 +21,7 @@ every-field-fits s v r lt =
     record {
       h-fits = written-length 6 h (omega (arith, v .rows .h-within r lt));
       d-fits = written-length 6 d (omega (arith, v .rows .d-within r lt));
-      misses-fits = written-length 7 (misses T h d) (omega (arith, misses-within T c h d, c .refs-within));
+      misses-fits = written-length 7 (misses T h d) (omega (arith, misses-within T c h d, c .steps-within));
       volume-fits = written-length 11 (volume T h d) (omega (arith, volume-within T c h d));
       load-fits = written-length 11 (load T h d) (omega (arith, load-within T c h d));
       mean-fits = written-length 11 (mean T h d) (omega (arith, mean-within T c h d, sizes-within T c h d));

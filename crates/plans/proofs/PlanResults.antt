@@ -17,7 +17,7 @@ use Rattle.model.proofs.Tables.{length-tabulate}
 use Rattle.pricing.specs.Checking.{noPrice, priceAnswer}
 use Rattle.plans.specs.Plans.{scheduleFor, priceFor}
 
--- the optimal schedule has 32 bytes for each reference
+-- the optimal schedule has 32 bytes for each step
 pub schedule-length : (v : SheetValue) (r : ℕ) → length (rowSchedule v r) ≡ 32 * length (v .refs)
 unfolding optimalSchedule
 schedule-length v r =

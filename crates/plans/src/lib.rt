@@ -23,8 +23,8 @@ pub fn sheet_schedule(s: Sheet, row: usize, out: &mut [u8]) -> PlaceAnswer
     let head = s.head;
     let kind = head.kind;
     let segs = head.segs;
-    let refs = s.refs;
-    if out.len() / Schedule::STEP_BYTES < refs {
+    let steps = s.steps;
+    if out.len() / Schedule::STEP_BYTES < steps {
         return PlaceAnswer::refused(Refusal::PlaceTooShort);
     }
     let sizes = head.sizes;
@@ -35,12 +35,12 @@ pub fn sheet_schedule(s: Sheet, row: usize, out: &mut [u8]) -> PlaceAnswer
         head.a,
         prices[row],
         &sizes[..segs],
-        &touches[..refs],
+        &touches[..steps],
         out,
     );
     PlaceAnswer {
         verdict: Verdict::Accepted,
-        length: Schedule::of_steps(refs).length(),
+        length: Schedule::of_steps(steps).length(),
     }
 }
 
@@ -55,7 +55,7 @@ pub fn sheet_price(s: Sheet, row: usize, schedule: &[u8]) -> PriceAnswer
     let head = s.head;
     let kind = head.kind;
     let segs = head.segs;
-    let refs = s.refs;
+    let steps = s.steps;
     let sizes = head.sizes;
     let touches = s.touches;
     let prices = head.prices;
@@ -64,7 +64,7 @@ pub fn sheet_price(s: Sheet, row: usize, schedule: &[u8]) -> PriceAnswer
         head.a,
         prices[row],
         &sizes[..segs],
-        &touches[..refs],
+        &touches[..steps],
         schedule,
     )
 }

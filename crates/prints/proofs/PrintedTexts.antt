@@ -1,28 +1,30 @@
 -- The listing and the pages of a sheet, from the figures of all its rows. Assumes nothing.
 use Prim.Native.Nat.{ℕ, _≤_, _<_}
-use mathlib.Core.Path.{_≡_}
+use mathlib.Core.Path.{_≡_, refl}
 use mathlib.Core.List.{List}
 use native.Mathlib.Omega.{arith}
 use lib.ListN.{length, take, getD}
 use Rattle.model.specs.Rows.{zeroFigures}
-use Rattle.model.specs.Sheets.{SheetValue, Valid, mostRows}
+use Rattle.model.specs.Sheets.{SheetValue, Valid, traceOf, mostRows}
 use Rattle.model.specs.Standing.{Standing}
+use Rattle.model.specs.Traces.{refsOf}
 use Rattle.model.specs.Values.{valueOf}
 use Rattle.model.specs.declared.Kind.{Kind}
 use Rattle.model.specs.declared.RowFigures.{RowFigures}
 use Rattle.model.specs.declared.Sheet.{Sheet}
-use Rattle.model.proofs.Standing.{segs-counted, rows-counted, refs-counted, kind-is, a-is}
+use Rattle.model.proofs.Standing.{segs-counted, rows-counted, steps-counted, kind-is, a-is}
 use Rattle.figures.specs.Rows.{allFigures}
 use Rattle.page.specs.Page.{pages, pagesOf, Fits}
 use Rattle.page.proofs.Fitting.{every-field-fits}
 use Rattle.report.specs.Listing.{listing, listingOf}
 use Rattle.rows.proofs.RowFigures.{figures-at, figures-front}
 
--- the listing of a sheet from its counts and the figures of all rows
-pub listing-is : (v : SheetValue) (refs segs rows : ℕ) → length (v .refs) ≡ refs → length (v .head .sizes) ≡ segs → length (v .head .rows) ≡ rows
-    → length (v .head .rows) ≤ mostRows → listing refs segs (take rows (allFigures v)) ≡ listingOf v
+-- the listing of a sheet from its form, its counts and the figures of all rows
+pub listing-is : (v : SheetValue) (form steps segs rows : ℕ) → v .form ≡ form → length (v .refs) ≡ steps → length (v .head .sizes) ≡ segs
+    → length (v .head .rows) ≡ rows → length (v .head .rows) ≤ mostRows
+    → listing form (refsOf (traceOf v)) steps segs (take rows (allFigures v)) ≡ listingOf v
 unfolding listingOf
-listing-is v refs segs rows a b c most = rw (← a, ← b, ← c, figures-front v most)
+listing-is v form steps segs rows f a b c most = rw (← f, ← a, ← b, ← c, figures-front v most)
 
 -- the page of a sheet from its kind, its a and the figures of all rows
 pub page-is : (v : SheetValue) {kind : Kind} {a : ℕ} (rows : ℕ) → v .head .kind ≡ kind → v .head .a ≡ a → length (v .head .rows) ≡ rows
@@ -39,10 +41,16 @@ page-fits v ok {rows} c e r lt =
 
 -- those of a standing sheet, from its counts
 module _ (s : Sheet) (c : Standing s) where
-  pub listing-of : listing (s .refs) (s .head .segs) (take (s .head .rows) (allFigures (valueOf s))) ≡ listingOf (valueOf s)
+  form-is : valueOf s .form ≡ s .form
+  unfolding valueOf
+  form-is = refl
+
+  pub listing-of : listing (s .form) (refsOf (traceOf (valueOf s))) (s .steps) (s .head .segs)
+      (take (s .head .rows) (allFigures (valueOf s)))
+      ≡ listingOf (valueOf s)
   listing-of =
-      listing-is (valueOf s) (s .refs) (s .head .segs) (s .head .rows) (refs-counted s c) (segs-counted s c) (rows-counted s c)
-      (c .valid .rows .rows-within)
+      listing-is (valueOf s) (s .form) (s .steps) (s .head .segs) (s .head .rows) form-is (steps-counted s c) (segs-counted s c)
+      (rows-counted s c) (c .valid .rows .rows-within)
 
   pub pages-of : pages (s .head .kind) (s .head .a) (take (s .head .rows) (allFigures (valueOf s))) ≡ pagesOf (valueOf s)
   pages-of = page-is (valueOf s) (s .head .rows) (kind-is s c) (a-is s c) (rows-counted s c) (c .valid .rows .rows-within)

@@ -2,11 +2,33 @@
 // What the texts are is written in crates `report` and `page`; nothing is assumed.
 use model::PlaceAnswer;
 use model::Sheet;
+ghost use mathlib.Core.Path.{_≡_};
 ghost use Rattle.model.specs.Places.{gives, PlaceLeft};
+ghost use Rattle.model.specs.Sheets.{traceOf};
 ghost use Rattle.model.specs.Standing.{Standing};
+ghost use Rattle.model.specs.Traces.{refsOf};
 ghost use Rattle.model.specs.Values.{valueOf};
 ghost use Rattle.page.specs.Page.{pagesOf};
 ghost use Rattle.report.specs.Listing.{listingOf};
+
+// How many references an accepted sheet has: the steps whose entry is a segment.
+pub fn sheet_refs(s: Sheet) -> usize
+    requires { ⌜ Standing s ⌝ }
+    ensures { λ r. ⌜ r ≡ refsOf (traceOf (valueOf s)) ⌝ }
+{
+    let segs = s.head.segs;
+    let steps = s.steps;
+    let touches = s.touches;
+    let mut refs = 0;
+    let mut t = 0;
+    while t < steps {
+        if (touches[t] as usize) < segs {
+            refs += 1;
+        }
+        t += 1;
+    }
+    refs
+}
 
 // The listing of an accepted sheet into a lent place, or 11.
 pub fn sheet_listing(s: Sheet, out: &mut [u8]) -> PlaceAnswer
@@ -14,7 +36,8 @@ pub fn sheet_listing(s: Sheet, out: &mut [u8]) -> PlaceAnswer
     ensures { λ r. ⌜ PlaceLeft (gives (listingOf (valueOf s))) (now (out .entry)) (now (out .exit)) r ⌝ }
 {
     let all = rows::all_figures(s);
-    report::write(s.refs, s.head.segs, all, s.head.rows, out)
+    let refs = sheet_refs(s);
+    report::write(s.form, refs, s.steps, s.head.segs, all, s.head.rows, out)
 }
 
 // The page or the two pages of an accepted sheet into a lent place, or 11.

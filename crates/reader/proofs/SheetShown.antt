@@ -1,32 +1,36 @@
 -- A reader that goes along an accepted sheet shows the key and the value of each of its lines in order, and ends at its end.
 -- Assumes nothing.
-use Prim.Native.Nat.{ℕ, _+_, _<_}
+use Prim.Native.Nat.{ℕ, suc, _+_, _<_}
 use mathlib.Core.Path.{_≡_, refl, sym, ap, _∙_}
-use mathlib.Core.Bool.{true}
-use mathlib.Core.List.{List, [], _∷_}
+use mathlib.Core.Bool.{Bool, true, false, cond}
+use mathlib.Core.List.{List, [], _∷_, _++_, map}
 use native.Mathlib.Omega.{arith}
+use lib.Dec.{leb}
 use lib.ListN.{length, getD, length-append, length-map}
 use Rattle.decimal.specs.Decimal.{written}
 use Rattle.model.specs.Sheets.{SheetValue}
 use Rattle.model.specs.declared.Kind.{Kind}
 use Rattle.model.specs.declared.Kind.the-variants.{Time, Space}
 use Rattle.model.specs.declared.PriceRow.{PriceRow}
-use Rattle.lines.specs.Keys.{lineFeed, slash, sizeKey, rowKey, refKey, kindWord}
+use Rattle.lines.specs.Keys.{lineFeed, slash, atSign, formKey, sizeKey, rowKey, refKey, kindWord}
 use Rattle.sheet.specs.Lines.{splitAt}
-use Rattle.sheet.specs.Order.{sizesPart, pricesPart, tablesPart, headPart, refsPart, runPart, sheetPart, linesOf}
-use Rattle.sheet.specs.Reading.{accepted, readSheet}
+use Rattle.sheet.specs.Order.{sizesPart, pricesPart, tablesPart, headPart, refsPart, stepsPart, entriesPart}
+use Rattle.sheet.specs.Order.{runPart, bodyPart, formLines, sheetPart, linesOf}
+use Rattle.sheet.specs.Parts.{Line}
+use Rattle.sheet.specs.Reading.{accepted, readForms}
+use Rattle.sheet.specs.Touches.{Touch, touchWord, touchesOf}
 use Rattle.sheet.specs.Values.{rowWord}
 use Rattle.sheet.specs.Writing.{sheetText}
 use Rattle.sheet.proofs.Parsing.{lacks, lacks-append}
 use Rattle.sheet.proofs.RoundTrip.{read-then-written}
 use Rattle.sheet.proofs.Words.{written-lacks}
-use Rattle.reader.specs.Along.{Shown, shown, leftAfter, sheetShown}
+use Rattle.reader.specs.Along.{Shown, shown, leftAfter, keyed, sheetShown}
 use Rattle.reader.specs.Parts.{lineKey, lineValue}
 use Rattle.reader.proofs.ShownLines.{shown-at, Shows, AllPlain, plain-append, plain-map, text-shows}
 
 -- no value has a line feed
 plain-number : (n : ℕ) → lacks lineFeed (written n) ≡ true
-plain-number n = written-lacks lineFeed n (omega arith)
+plain-number n = written-lacks lineFeed n refl
 
 plain-kind : (k : Kind) → lacks lineFeed (kindWord k) ≡ true
 plain-kind Time = refl
@@ -34,6 +38,10 @@ plain-kind Space = refl
 
 plain-row : (q : PriceRow) → lacks lineFeed (rowWord q) ≡ true
 plain-row q = lacks-append lineFeed (written (q .h)) (slash ∷ written (q .d)) (plain-number (q .h)) (plain-number (q .d))
+
+plain-touch : (x : Touch) → lacks lineFeed (touchWord x) ≡ true
+plain-touch x =
+    lacks-append lineFeed (written (x .segment)) (atSign ∷ written (x .step)) (plain-number (x .segment)) (plain-number (x .step))
 
 -- and no key has one, or another "="
 sizes-plain : (xs : List ℕ) → AllPlain (sizesPart .lines xs)
@@ -51,32 +59,100 @@ unfolding refsPart splitAt
 refs-plain segs xs =
     ((refl, refl, plain-number (length xs)), plain-map (λ x. (refKey, written x)) (λ x. (refl, refl, plain-number x)) xs)
 
+steps-plain : (segs : ℕ) (xs : List ℕ) → AllPlain (stepsPart segs .lines xs)
+unfolding stepsPart splitAt
+steps-plain segs xs = (
+  (refl, refl, plain-number (length xs)),
+  (
+    (refl, refl, plain-number (length (touchesOf xs))),
+    plain-map (λ x. (refKey, touchWord x)) (λ x. (refl, refl, plain-touch x)) (touchesOf xs),
+  ),
+)
+
+-- by the form
+entries-plain : (later : Bool) (segs : ℕ) (xs : List ℕ) → AllPlain (entriesPart later segs .lines xs)
+entries-plain true segs xs = steps-plain segs xs
+entries-plain false segs xs = refs-plain segs xs
+
+form-plain : (form : ℕ) → AllPlain (formLines form)
+unfolding splitAt
+form-plain form = go (leb 2 form)
+  where
+    go : (b : Bool) → AllPlain (cond b ((formKey, written form) ∷ []) [])
+    go true = ((refl, refl, plain-number form), tt)
+    go false = tt
+
 lines-plain : (v : SheetValue) → AllPlain (linesOf v)
-unfolding sheetPart runPart headPart tablesPart splitAt
+unfolding sheetPart bodyPart runPart headPart tablesPart splitAt
 lines-plain v =
     let tables = plain-append (sizesPart .lines (v .head .sizes)) _ (sizes-plain (v .head .sizes))
     (plain-append (pricesPart .lines (v .head .rows)) [] (prices-plain (v .head .rows)) tt) in
-    let run = plain-append (refsPart (length (v .head .sizes)) .lines (v .refs)) [] (refs-plain (length (v .head .sizes)) (v .refs)) tt in
-    plain-append (headPart .lines (v .head)) _
-    ((refl, refl, plain-kind (v .head .kind)), ((refl, refl, plain-number (v .head .a)), tables)) run
+    let entries = entriesPart (leb 2 (v .form)) (length (v .head .sizes)) .lines (v .refs) in
+    let run = plain-append entries [] (entries-plain (leb 2 (v .form)) (length (v .head .sizes)) (v .refs)) tt in
+    plain-append (formLines (v .form)) _ (form-plain (v .form))
+    (plain-append (headPart true .lines (v .head)) _
+    ((refl, refl, plain-kind (v .head .kind)), ((refl, refl, plain-number (v .head .a)), tables)) run)
 
 -- the text of a sheet
 pub sheet-shows : (v : SheetValue) → Shows (sheetShown v) (sheetText v) []
 unfolding sheetText
 sheet-shows v = text-shows (linesOf v) (lines-plain v)
 
--- an accepted sheet
-pub accepted-shows : (s : List ℕ) (v : SheetValue) → readSheet s ≡ accepted v
+-- an accepted sheet, whatever forms the call takes
+pub accepted-shows : (lo hi : ℕ) (s : List ℕ) (v : SheetValue) → readForms lo hi s ≡ accepted v
     → (shown (length (sheetShown v)) s ≡ sheetShown v) × (leftAfter (length (sheetShown v)) s ≡ [])
-accepted-shows s v e = let h = sheet-shows v in rw (← read-then-written s v e) (h .lines, h .left)
+accepted-shows lo hi s v e = let h = sheet-shows v in rw (← read-then-written lo hi s v e) (h .lines, h .left)
 
--- it has 5 lines beside those of the sizes, the rows and the references
-pub lines-count : (v : SheetValue) → length (sheetShown v) ≡ 5 + (length (v .head .sizes) + (length (v .head .rows) + length (v .refs)))
-unfolding sheetPart runPart headPart tablesPart sizesPart pricesPart refsPart
-lines-count v = simp (length-append, length-map) (omega arith)
+-- how many lines there are: a form line where the form has one, kind=, a=, and those of the sizes, the rows and the entries
+parts-count : (v : SheetValue) → length (sheetShown v)
+    ≡ length (formLines (v .form)) + (2 + (length (sizesPart .lines (v .head .sizes)) + (length (pricesPart .lines (v .head .rows))
+    + length (entriesPart (leb 2 (v .form)) (length (v .head .sizes)) .lines (v .refs)))))
+unfolding sheetPart bodyPart runPart headPart tablesPart
+parts-count v =
+    length-map (linesOf v) (λ (l : Line). keyed (l .0) (l .1))
+    ∙ all (formLines (v .form)) (sizesPart .lines (v .head .sizes)) (pricesPart .lines (v .head .rows))
+    (entriesPart (leb 2 (v .form)) (length (v .head .sizes)) .lines (v .refs)) _ _
+  where
+    all : (f s p e : List Line) (k a : Line) → length (f ++ ((k ∷ a ∷ (s ++ (p ++ []))) ++ (e ++ [])))
+        ≡ length f + (2 + (length s + (length p + length e)))
+    all f s p e k a = simp length-append (omega arith)
+
+-- a count, and a line for each element
+counted-count : {A : Type 0} (f : A → Line) (xs : List A) → suc (length (map f xs)) ≡ 1 + length xs
+counted-count f xs = omega (arith, length-map xs f)
+
+sizes-count : (xs : List ℕ) → length (sizesPart .lines xs) ≡ 1 + length xs
+unfolding sizesPart
+sizes-count xs = counted-count (λ x. (sizeKey, written x)) xs
+
+prices-count : (qs : List PriceRow) → length (pricesPart .lines qs) ≡ 1 + length qs
+unfolding pricesPart
+prices-count qs = counted-count (λ q. (rowKey, rowWord q)) qs
+
+refs-count : (segs : ℕ) (xs : List ℕ) → length (refsPart segs .lines xs) ≡ 1 + length xs
+unfolding refsPart
+refs-count segs xs = counted-count (λ x. (refKey, written x)) xs
+
+steps-count : (segs : ℕ) (xs : List ℕ) → length (stepsPart segs .lines xs) ≡ 2 + length (touchesOf xs)
+unfolding stepsPart
+steps-count segs xs = omega (arith, length-map {B = Line} (touchesOf xs) (λ x. (refKey, touchWord x)))
+
+-- beside those of the sizes and the rows, form 1 has 5 lines and one for each reference
+pub lines-count : (v : SheetValue) → leb 2 (v .form) ≡ false
+    → length (sheetShown v) ≡ 5 + (length (v .head .sizes) + (length (v .head .rows) + length (v .refs)))
+lines-count v e =
+    parts-count v
+    ∙ rw (e, sizes-count (v .head .sizes), prices-count (v .head .rows), refs-count (length (v .head .sizes)) (v .refs)) (omega arith)
+
+-- and form 2 has 7 and one for each touch
+pub lines-count-2 : (v : SheetValue) → leb 2 (v .form) ≡ true
+    → length (sheetShown v) ≡ 7 + (length (v .head .sizes) + (length (v .head .rows) + length (touchesOf (v .refs))))
+lines-count-2 v e =
+    parts-count v
+    ∙ rw (e, sizes-count (v .head .sizes), prices-count (v .head .rows), steps-count (length (v .head .sizes)) (v .refs)) (omega arith)
 
 -- the line n of an accepted sheet: what `value_of` gives for it is the value of the sheet's line n
-pub accepted-line : (s : List ℕ) (v : SheetValue) (n : ℕ) → readSheet s ≡ accepted v → n < length (sheetShown v)
+pub accepted-line : (lo hi : ℕ) (s : List ℕ) (v : SheetValue) (n : ℕ) → readForms lo hi s ≡ accepted v → n < length (sheetShown v)
     → (lineKey (leftAfter n s), lineValue (leftAfter n s)) ≡ getD (sheetShown v) n ([], [])
-accepted-line s v n e h =
-    sym (shown-at (length (sheetShown v)) n s ([], []) h) ∙ ap (λ (ls : List Shown). getD ls n ([], [])) (accepted-shows s v e .0)
+accepted-line lo hi s v n e h =
+    sym (shown-at (length (sheetShown v)) n s ([], []) h) ∙ ap (λ (ls : List Shown). getD ls n ([], [])) (accepted-shows lo hi s v e .0)

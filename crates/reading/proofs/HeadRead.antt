@@ -1,19 +1,21 @@
 -- Laws of the parts of a sheet as they are read: what was read so far, then the next part. Assumes nothing.
 use Prim.Native.Nat.{ℕ, _+_, _-_, _≤_}
 use mathlib.Core.Path.{_≡_, refl, sym, ap, _∙_}
+use mathlib.Core.Bool.{Bool, true, false}
 use mathlib.Core.List.{List}
 use native.Mathlib.Omega.{arith}
 use lib.ListN.{length, take, drop}
-use Rattle.lines.specs.Keys.{aKey, refsKey, refKey}
-use Rattle.model.specs.Sheets.{HeadValue, largestA, mostSegs, mostRows, mostRefs}
+use Rattle.lines.specs.Keys.{aKey, stepsKey, refsKey, refKey}
+use Rattle.model.specs.Sheets.{HeadValue, largestA, mostSegs, mostRows, mostSteps}
 use Rattle.model.specs.Values.{zeros, zeroRows, headValueOf, emptyHead}
 use Rattle.model.specs.declared.Head.{Head}
 use Rattle.model.specs.declared.Kind.{Kind}
 use Rattle.model.specs.declared.PriceRow.{PriceRow}
 use Rattle.sheet.specs.Lines.{Parsed, read, andThen, numberLine}
-use Rattle.sheet.specs.Order.{numberPart, numbersPart, sizesPart, pricesPart, tablesPart, headPart, refsPart}
+use Rattle.sheet.specs.Order.{numberPart, numbersPart, sizesPart, pricesPart, tablesPart, kindFor, headPart}
+use Rattle.sheet.specs.Order.{refsPart, stepsPart, entriesPart}
 use Rattle.sheet.specs.Parts.{counted}
-use Rattle.sheet.specs.Values.{kindLine}
+use Rattle.sheet.specs.Touches.{entryLines}
 use Rattle.sheet.proofs.SheetLines.{head-segs}
 use Rattle.scan.specs.AtPlace.{parsedLines, movedOn}
 use Rattle.reading.specs.inner.AtPlace.{HeadFilled}
@@ -41,31 +43,57 @@ table-read kind a segs sizes rows prices s at l q e h m =
     then-part _ _ (take segs sizes) s at l q (g (take rows prices)) e
     (made g (tail s at) l (take rows prices) ∙ ap (λ p. andThen p (λ qs end. read (g qs) end)) h) m
 
--- kind and a, then the sizes and the rows
-pub head-read : (s : List ℕ) (i j : ℕ) (kind : Kind) (a : ℕ) (l q : LinesRead) (v : HeadValue) → kindLine s ≡ read kind (drop i s)
-    → numberLine aKey 0 largestA (tail s i) ≡ read a (drop j (tail s i))
-    → parsedLines (tail s (i + j)) l v ≡ tablesPart kind a .reads (tail s (i + j)) → q ≡ movedOn (i + j) l
-    → parsedLines s q v ≡ headPart .reads s
-unfolding headPart
-head-read s i j kind a l q v e₁ e₂ h m =
-    let r = ap (λ k. parsedLines s k v) m ∙ (moved s (i + j) l v ∙ (h ∙ ap (tablesPart kind a .reads) (sym (tail-tail s i j)))) in
-    stage-read (λ p. p) _ _ kind s i (parsedLines s q v) (stage-read (λ p. p) _ _ a (tail s i) j (parsedLines s q v) r e₂) e₁
+-- two parts, and what was read after them
+after-two : {A B C : Type 0} (p : Parsed A) (g : A → List ℕ → Parsed B) (f : A → B → List ℕ → Parsed C) (s : List ℕ) (i j : ℕ)
+    (x : A) (y : B) (l q : LinesRead) (v : C) → p ≡ read x (drop i s) → g x (tail s i) ≡ read y (drop j (tail s i))
+    → parsedLines (tail s (i + j)) l v ≡ f x y (tail s (i + j)) → q ≡ movedOn (i + j) l
+    → parsedLines s q v ≡ andThen p (λ x rest. andThen (g x rest) (λ y end. f x y end))
+after-two p g f s i j x y l q v e₁ e₂ h m =
+    let r = ap (λ k. parsedLines s k v) m ∙ (moved s (i + j) l v ∙ (h ∙ ap (f x y) (sym (tail-tail s i j)))) in
+    stage-read (λ p. p) _ _ x s i (parsedLines s q v) (stage-read (λ p. p) _ _ y (tail s i) j (parsedLines s q v) r e₂) e₁
 
--- the references of a sheet with a head
-pub refs-read : (h : Head) (s : List ℕ) (m : ℕ) (q : Parsed (List ℕ)) → HeadFilled h → m ≡ mostRefs
-    → q ≡ counted (numberPart refsKey 0 m) (numbersPart refKey 0 (h .segs - 1)) .reads s
-    → refsPart (length (headValueOf h .sizes)) .reads s ≡ q
-unfolding refsPart headValueOf
-refs-read h s m q f e d =
-    ap (λ n. counted (numberPart refsKey 0 mostRefs) (numbersPart refKey 0 (n - 1)) .reads s)
-    (filled-length (h .segs) (h .sizes) (zeros mostSegs) (f .sizes))
-    ∙ counted-most refsKey refKey 0 0 (h .segs - 1) m mostRefs s q e d
+-- kind and a, then the sizes and the rows
+pub head-read : (taken : Bool) (s : List ℕ) (i j : ℕ) (kind : Kind) (a : ℕ) (l q : LinesRead) (v : HeadValue)
+    → kindFor taken .reads s ≡ read kind (drop i s) → numberLine aKey 0 largestA (tail s i) ≡ read a (drop j (tail s i))
+    → parsedLines (tail s (i + j)) l v ≡ tablesPart kind a .reads (tail s (i + j)) → q ≡ movedOn (i + j) l
+    → parsedLines s q v ≡ headPart taken .reads s
+unfolding headPart
+head-read taken s i j kind a l q v =
+    after-two (kindFor taken .reads s) (λ _. numberLine aKey 0 largestA) (λ k n. tablesPart k n .reads) s i j kind a l q v
+
+-- the number of steps and that of references, then the touches
+pub steps-read : (segs : ℕ) (s : List ℕ) (i j steps n : ℕ) (l q : LinesRead) (xs : List ℕ)
+    → numberLine stepsKey 0 mostSteps s ≡ read steps (drop i s) → numberLine refsKey 0 steps (tail s i) ≡ read n (drop j (tail s i))
+    → parsedLines (tail s (i + j)) l xs ≡ entryLines segs steps n (tail s (i + j)) → q ≡ movedOn (i + j) l
+    → parsedLines s q xs ≡ stepsPart segs .reads s
+unfolding stepsPart
+steps-read segs s i j steps n l q xs =
+    after-two (numberLine stepsKey 0 mostSteps s) (λ m. numberLine refsKey 0 m) (λ m k. entryLines segs m k) s i j steps n l q xs
+
+-- the entries of a later form
+pub entries-later : (later : Bool) (segs : ℕ) (s : List ℕ) (q : Parsed (List ℕ)) → later ≡ true → q ≡ stepsPart segs .reads s
+    → q ≡ entriesPart later segs .reads s
+entries-later later segs s q t e = rw t e
+
+-- those of form 1
+pub entries-first : (later : Bool) (segs : ℕ) (s : List ℕ) (m : ℕ) (q : Parsed (List ℕ)) → later ≡ false → m ≡ mostSteps
+    → q ≡ counted (numberPart refsKey 0 m) (numbersPart refKey 0 (segs - 1)) .reads s → q ≡ entriesPart later segs .reads s
+unfolding refsPart
+entries-first later segs s m q t e d = rw t (sym (counted-most refsKey refKey 0 0 (segs - 1) m mostSteps s q e d))
+
+-- the entries of a sheet with a head
+pub entries-read : (later : Bool) (h : Head) (s : List ℕ) (q : Parsed (List ℕ)) → HeadFilled h → q ≡ entriesPart later (h .segs) .reads s
+    → entriesPart later (length (headValueOf h .sizes)) .reads s ≡ q
+unfolding headValueOf
+entries-read later h s q f d =
+    ap (λ n. entriesPart later n .reads s) (filled-length (h .segs) (h .sizes) (zeros mostSegs) (f .sizes)) ∙ sym d
 
 -- a head that was read has a segment
-pub some-segs : (h : Head) (s rest : List ℕ) → HeadFilled h → headPart .reads s ≡ read (headValueOf h) rest → 1 ≤ h .segs
+pub some-segs : (taken : Bool) (h : Head) (s rest : List ℕ) → HeadFilled h → headPart taken .reads s ≡ read (headValueOf h) rest
+    → 1 ≤ h .segs
 unfolding headValueOf
-some-segs h s rest f e =
-    rw (filled-length (h .segs) (h .sizes) (zeros mostSegs) (f .sizes)) at (head-segs s (headValueOf h) rest e)
+some-segs taken h s rest f e =
+    rw (filled-length (h .segs) (h .sizes) (zeros mostSegs) (f .sizes)) at (head-segs taken s (headValueOf h) rest e .0)
 
 -- the lists of the empty head
 pub empty-filled : HeadFilled emptyHead

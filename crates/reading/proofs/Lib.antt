@@ -1,3 +1,5 @@
 pub mod HeadRead
 pub mod ReadRows
 pub mod ReadStages
+pub mod ReadTouches
+pub mod ShortTouches

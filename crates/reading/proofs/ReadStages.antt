@@ -1,22 +1,28 @@
 -- Laws of the end of a sheet, and of the answer with it. Assumes nothing.
-use Prim.Native.Nat.{ℕ, _≤_, _<_}
-use mathlib.Core.Path.{_≡_}
+use Prim.Native.Nat.{ℕ, _≤_, _<_, max}
+use mathlib.Core.Path.{_≡_, refl, sym, ap, _∙_}
+use mathlib.Core.Bool.{Bool, true, false, cond}
 use mathlib.Core.List.{List}
-use borrow.Author.Tests.{lt-ltb, le-ltb}
+use native.Mathlib.Omega.{arith}
+use borrow.Author.Tests.{le-ltb}
+use lib.Dec.{eqb, ltb}
 use lib.ListN.{length, take, drop-of-length-le}
 use lib.Seq.{drop-cons}
-use Rattle.model.specs.Sheets.{SheetValue, mostSegs, mostRows, mostRefs, mostBytes}
+use Rattle.model.specs.Sheets.{SheetValue, mostSegs, mostRows, mostSteps, formBytes}
 use Rattle.model.specs.declared.Head.{Head}
 use Rattle.model.specs.declared.Refusal.the-variants.{SheetTooLong, BytesAfterEnd}
 use Rattle.model.specs.declared.Verdict.the-variants.{Accepted}
-use Rattle.sheet.specs.Lines.{read}
-use Rattle.sheet.specs.Reading.{accepted, rejected, atEnd, sheetLines, readSheet}
-use Rattle.model.specs.Values.{zeros, zeroRows, headOf, headValueOf, sheetOf}
+use Rattle.lines.specs.Keys.{formKey}
+use Rattle.sheet.specs.Lines.{Parsed, read, andThen, sameBytes, numberLine}
+use Rattle.sheet.specs.Order.{bodyPart, sheetPart}
+use Rattle.sheet.specs.Reading.{accepted, rejected, atEnd, sheetLines, namedForm, readForms}
+use Rattle.model.specs.Values.{zeros, idles, zeroRows, headOf, headValueOf, sheetOf}
 use Rattle.sheet.specs.Answers.{answerOf}
 use Rattle.scan.specs.AtPlace.{Filled}
-use Rattle.reading.specs.inner.AtPlace.{HeadFilled}
+use Rattle.reading.specs.inner.AtPlace.{HeadFilled, formLine}
 use Rattle.sheet.specs.declared.SheetAnswer.{SheetAnswer}
 use Rattle.scan.proofs.Blanks.{filled-length, filled-padded}
+use Rattle.scan.proofs.NumberLines.{number-bounds}
 use Rattle.scan.proofs.Tails.{tail, tail-is}
 
 -- bytes behind the last line, and none
@@ -38,18 +44,62 @@ head-held h f =
     )
 
 -- so is a sheet, and the answer with it
-pub finished : (h : Head) (refs : ℕ) (touches : List ℕ) → HeadFilled h → Filled refs touches (zeros mostRefs)
-    → record { verdict = Accepted; sheet = record { head = h; refs = refs; touches = touches } }
-    ≡ answerOf (accepted (record { head = headValueOf h; refs = take refs touches }))
+pub finished : (form : ℕ) (h : Head) (steps : ℕ) (touches : List ℕ) → HeadFilled h → Filled steps touches (idles mostSteps)
+    → record { verdict = Accepted; sheet = record { form = form; head = h; steps = steps; touches = touches } }
+    ≡ answerOf (accepted (record { form = form; head = headValueOf h; refs = take steps touches }))
 unfolding answerOf sheetOf
-finished h refs touches f g =
-    rw (head-held h f, filled-length refs touches (zeros mostRefs) g, filled-padded refs touches (zeros mostRefs) g)
+finished form h steps touches f g =
+    rw (head-held h f, filled-length steps touches (idles mostSteps) g, filled-padded steps touches (idles mostSteps) g)
+
+-- no form has a smaller limit than form 1
+least-limit : (form : ℕ) → formBytes 1 ≤ formBytes form
+least-limit form = go (eqb form 2)
+  where
+    go : (b : Bool) → 20012 ≤ cond b 29163 20012
+    go true = omega arith
+    go false = omega arith
+
+pub within-least : (s : List ℕ) → length s ≤ formBytes 1 → false ≡ ltb (formBytes (namedForm s)) (length s)
+within-least s h = sym (le-ltb (formBytes (namedForm s)) (length s) (omega (arith, h, least-limit (namedForm s))))
+
+pub by-limit : (s : List ℕ) (most form : ℕ) → most ≡ formBytes form → form ≡ namedForm s
+    → ltb most (length s) ≡ ltb (formBytes (namedForm s)) (length s)
+by-limit s most form m f = ap (λ k. ltb k (length s)) (m ∙ ap formBytes f)
 
 -- bytes beyond the limit, and within it
-pub answer-long : (s : List ℕ) → mostBytes < length s → answerOf (readSheet s) ≡ answerOf (rejected SheetTooLong)
-unfolding readSheet
-answer-long s h = rw (lt-ltb mostBytes (length s) h)
+pub answer-long : (lo hi : ℕ) (s : List ℕ) (b : Bool) → b ≡ ltb (formBytes (namedForm s)) (length s) → b ≡ true
+    → answerOf (readForms lo hi s) ≡ answerOf (rejected SheetTooLong)
+unfolding readForms
+answer-long lo hi s b e t = rw (← e, t)
 
-pub answer-short : (s : List ℕ) (r : SheetAnswer) → length s ≤ mostBytes → r ≡ answerOf (atEnd (sheetLines s)) → r ≡ answerOf (readSheet s)
-unfolding readSheet
-answer-short s r h e = rw (le-ltb mostBytes (length s) h) e
+-- the form line, and then the head and the entries
+sheet-form : (lo hi : ℕ) (s : List ℕ) → sheetLines lo hi s ≡ andThen (formLine lo hi s) (λ form rest. bodyPart lo form .reads rest)
+unfolding sheetPart
+sheet-form lo hi s = go (sameBytes (take 5 s) formKey)
+  where
+    go : (b : Bool)
+        → cond b (andThen (numberLine formKey (max 2 lo) hi s) (λ form rest. bodyPart lo form .reads rest)) (bodyPart lo 1 .reads s)
+        ≡ andThen (cond b (numberLine formKey (max 2 lo) hi s) (read 1 s)) (λ form rest. bodyPart lo form .reads rest)
+    go true = refl
+    go false = refl
+
+pub answer-short : (lo hi : ℕ) (s : List ℕ) (r : SheetAnswer) (b : Bool) → b ≡ ltb (formBytes (namedForm s)) (length s) → b ≡ false
+    → r ≡ answerOf (atEnd (andThen (formLine lo hi s) (λ form rest. bodyPart lo form .reads rest))) → r ≡ answerOf (readForms lo hi s)
+unfolding readForms
+answer-short lo hi s r b e t f = rw (← e, t) (f ∙ ap (λ p. answerOf (atEnd p)) (sym (sheet-form lo hi s)))
+
+-- the form line where the bytes begin with its key, and where they do not
+pub form-there : (lo hi m : ℕ) (s : List ℕ) (p : Parsed ℕ) (b : Bool) → b ≡ sameBytes (take 5 s) formKey → b ≡ true → m ≡ max 2 lo
+    → p ≡ numberLine formKey m hi s → p ≡ formLine lo hi s
+form-there lo hi m s p b e t f g = rw (← e, t, ← f) g
+
+pub form-away : (lo hi : ℕ) (s : List ℕ) (b : Bool) → b ≡ sameBytes (take 5 s) formKey → b ≡ false → read 1 s ≡ formLine lo hi s
+form-away lo hi s b e t = rw (← e, t)
+
+-- a form that is read fits a byte
+pub form-bound : (lo hi : ℕ) (s : List ℕ) (form : ℕ) (rest : List ℕ) → hi ≤ 255 → formLine lo hi s ≡ read form rest → form ≤ 255
+form-bound lo hi s form rest h = go (sameBytes (take 5 s) formKey)
+  where
+    go : (b : Bool) → cond b (numberLine formKey (max 2 lo) hi s) (read 1 s) ≡ read form rest → form ≤ 255
+    go true e = omega (arith, number-bounds formKey (max 2 lo) hi s form rest e)
+    go false e = let f : _≡_ {A = ℕ} 1 form = cc in omega arith

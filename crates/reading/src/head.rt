@@ -16,7 +16,7 @@ ghost use Prim.Native.Nat.{ℕ, _+_, _≤_};
 ghost use lib.ListN.{length, drop};
 ghost use Rattle.model.specs.Sheets.{mostSegs};
 ghost use Rattle.model.specs.Values.{zeros, headValueOf};
-ghost use Rattle.sheet.specs.Order.{tablesPart, headPart};
+ghost use Rattle.sheet.specs.Order.{kindFor, tablesPart, headPart};
 ghost use Rattle.sheet.specs.Values.{kindOf, kindLine};
 ghost use Rattle.scan.specs.AtPlace.{parsedLines, linesNext};
 ghost use Rattle.reading.specs.inner.AtPlace.{parsedKind, kindNext, HeadFilled};
@@ -55,6 +55,22 @@ fn kind_line(s: &[u8]) -> KindAt
     match numbers::value_line(s, b"kind=") {
         ValueAt::Missing => KindAt::Refused(Refusal::LineMalformed),
         ValueAt::Value(start, end) => kind_value(&s[start..end], end + 1),
+    }
+}
+
+// The same for a sheet whose form is taken or is not.
+fn kind_for(s: &[u8], taken: bool) -> KindAt
+    ensures { λ r. ⌜ parsedKind (now (s .entry)) r ≡ kindFor taken .reads (now (s .entry)) ⌝ }
+    ensures { λ r. ⌜ kindNext r ≤ length (now (s .entry)) ⌝ }
+{
+    match kind_line(s) {
+        KindAt::Refused(why) => KindAt::Refused(why),
+        KindAt::Kind(kind, next) => {
+            if taken {
+                return KindAt::Kind(kind, next);
+            }
+            KindAt::Refused(Refusal::OutOfRange)
+        }
     }
 }
 
@@ -115,13 +131,13 @@ fn table_lines(s: &[u8], kind: Kind, a: u8) -> HeadRead
     }
 }
 
-// The head.
-pub fn head_lines(s: &[u8]) -> HeadRead
-    ensures { λ r. ⌜ parsedLines (now (s .entry)) (r .lines) (headValueOf (r .head)) ≡ headPart .reads (now (s .entry)) ⌝ }
+// The head of a sheet whose form is taken or is not.
+pub fn head_lines(s: &[u8], taken: bool) -> HeadRead
+    ensures { λ r. ⌜ parsedLines (now (s .entry)) (r .lines) (headValueOf (r .head)) ≡ headPart taken .reads (now (s .entry)) ⌝ }
     ensures { λ r. ⌜ linesNext (r .lines) ≤ length (now (s .entry)) ⌝ }
     ensures { λ r. ⌜ HeadFilled (r .head) ⌝ }
 {
-    match kind_line(s) {
+    match kind_for(s, taken) {
         KindAt::Refused(why) => no_head(why),
         KindAt::Kind(kind, first) => match numbers::number_line(
             &s[first..],

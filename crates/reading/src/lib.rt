@@ -1,23 +1,30 @@
-// Reading a sheet: any bytes to the sheet that they stand for, or the refusal; the head, and then the references. Each function reads
-// from the head of the bytes that it is lent, and gives the place of what follows. Nothing is assumed.
+// Reading a sheet: any bytes to the sheet that they stand for, or the refusal; its form, its head, and then the entries of its steps. Each
+// function reads from the head of the bytes that it is lent, and gives the place of what follows. Nothing is assumed.
 pub mod head;
 pub mod rows;
+pub mod touching;
 
 use model::Head;
 use model::Refusal;
 use model::Sheet;
 use model::Verdict;
+use scan::bytes;
 use scan::numbers;
+use scan::numbers::CountedAt;
 use scan::numbers::LinesRead;
+use scan::numbers::NumberAt;
 use sheet::SheetAnswer;
 ghost use mathlib.Core.Path.{_≡_};
-ghost use Prim.Native.Nat.{_-_, _≤_, _<_};
-ghost use Rattle.model.specs.Sheets.{mostRefs};
-ghost use Rattle.model.specs.Values.{zeros, headValueOf};
+ghost use Prim.Native.Nat.{_-_, _≤_, _<_, max};
+ghost use lib.Dec.{ltb};
+ghost use lib.ListN.{length, take};
+ghost use Rattle.model.specs.Sheets.{mostSegs, mostSteps, formBytes};
+ghost use Rattle.model.specs.Values.{idles, headValueOf};
 ghost use Rattle.sheet.specs.Answers.{answerOf};
-ghost use Rattle.sheet.specs.Order.{runPart};
-ghost use Rattle.sheet.specs.Reading.{atEnd, readSheet, rejected};
-ghost use Rattle.reading.specs.inner.AtPlace.{HeadFilled};
+ghost use Rattle.sheet.specs.Order.{entriesPart, runPart};
+ghost use Rattle.sheet.specs.Reading.{atEnd, namedForm, readForms, readSheet, rejected};
+ghost use Rattle.scan.specs.AtPlace.{parsedNumber, numberNext, parsedLines, linesNext, Filled};
+ghost use Rattle.reading.specs.inner.AtPlace.{HeadFilled, formLine};
 
 // The answer where the bytes are refused.
 fn refused(why: Refusal) -> SheetAnswer
@@ -29,25 +36,40 @@ fn refused(why: Refusal) -> SheetAnswer
     }
 }
 
-// 2,048 zeros.
-fn blank_touches() -> [u16; Sheet::MAX_REFS]
-    ensures { λ r. ⌜ r ≡ zeros mostRefs ⌝ }
+// 2,048 idle entries.
+fn blank_touches() -> [u16; Sheet::MAX_STEPS]
+    ensures { λ r. ⌜ r ≡ idles mostSteps ⌝ }
 {
-    [0u16; Sheet::MAX_REFS]
+    [Sheet::IDLE; Sheet::MAX_STEPS]
 }
 
-// Reads the references of a sheet with this head, to the end.
-fn run_lines(s: &[u8], head: Head) -> SheetAnswer
+// The entries of a sheet of form 1, or of a later form, into the front of `out`; all of `out` is idle.
+fn entry_lines(s: &[u8], later: bool, segs: usize, out: &mut [u16]) -> CountedAt
+    requires { ⌜ (1 ≤ segs) × (segs ≤ mostSegs) ⌝ }
+    requires { ⌜ now out ≡ idles mostSteps ⌝ }
+    ensures { λ r. ⌜ parsedLines (now (s .entry)) (r .lines) (take (r .count) (now (out .exit)))
+        ≡ entriesPart later segs .reads (now (s .entry)) ⌝ }
+    ensures { λ r. ⌜ linesNext (r .lines) ≤ length (now (s .entry)) ⌝ }
+    ensures { λ r. ⌜ Filled (r .count) (now (out .exit)) (now (out .entry)) ⌝ }
+{
+    if later {
+        return touching::step_lines(s, segs, out);
+    }
+    let last = (segs - 1) as u32;
+    numbers::counted_lines(s, b"refs=", 0, b"ref=", 0, last, out)
+}
+
+// Reads the entries of a sheet with this form and head, to the end.
+fn run_lines(s: &[u8], form: u8, head: Head) -> SheetAnswer
     requires { ⌜ HeadFilled head ⌝ }
     requires { ⌜ 1 ≤ head .segs ⌝ }
-    ensures { λ r. ⌜ r ≡ answerOf (atEnd (runPart (headValueOf head) .reads (now (s .entry)))) ⌝ }
+    ensures { λ r. ⌜ r ≡ answerOf (atEnd (runPart form (headValueOf head) .reads (now (s .entry)))) ⌝ }
 {
     let mut touches = blank_touches();
     let most = touches.len();
-    let last = (head.segs - 1) as u32;
-    let found = numbers::counted_lines(s, b"refs=", 0, b"ref=", 0, last, &mut touches[..most]);
+    let found = entry_lines(s, 2 <= form, head.segs, &mut touches[..most]);
     let lines = found.lines;
-    let refs = found.count;
+    let steps = found.count;
     match lines {
         LinesRead::Refused(why) => refused(why),
         LinesRead::Done(end) => {
@@ -57,10 +79,86 @@ fn run_lines(s: &[u8], head: Head) -> SheetAnswer
             SheetAnswer {
                 verdict: Verdict::Accepted,
                 sheet: Sheet {
+                    form: form,
                     head: head,
-                    refs: refs,
+                    steps: steps,
                     touches: touches,
                 },
+            }
+        }
+    }
+}
+
+// The form that the first line names, 1 where it names none from 2 on.
+fn named_form(bytes: &[u8]) -> u32
+    ensures { λ r. ⌜ r ≡ namedForm (now (bytes .entry)) ⌝ }
+{
+    match numbers::number_line(bytes, b"form=", 2, Sheet::NEWEST_FORM as u32) {
+        NumberAt::Refused(_) => 1,
+        NumberAt::Number(form, _) => form,
+    }
+}
+
+// The most bytes of a sheet of the form.
+fn form_bytes(form: u32) -> usize
+    ensures { λ r. ⌜ r ≡ formBytes form ⌝ }
+{
+    if form == 2 {
+        return Sheet::MAX_BYTES_2;
+    }
+    Sheet::MAX_BYTES
+}
+
+// Whether there are more bytes than a sheet of the form that the first line names may have. Up to the least limit no line is looked at.
+fn too_long(bytes: &[u8]) -> bool
+    ensures { λ r. ⌜ r ≡ ltb (formBytes (namedForm (now (bytes .entry)))) (length (now (bytes .entry))) ⌝ }
+{
+    if bytes.len() <= Sheet::MAX_BYTES {
+        return false;
+    }
+    form_bytes(named_form(bytes)) < bytes.len()
+}
+
+// The least form that a form line may name, where a call takes the forms from `lo` on.
+fn least_form(lo: u8) -> u32
+    ensures { λ r. ⌜ r ≡ max 2 lo ⌝ }
+{
+    if lo <= 2 {
+        return 2;
+    }
+    lo as u32
+}
+
+// The form `lo` to `hi` of the form line, or 1 where the bytes do not begin with its key.
+fn form_line(bytes: &[u8], lo: u8, hi: u8) -> NumberAt
+    ensures { λ r. ⌜ parsedNumber (now (bytes .entry)) r ≡ formLine lo hi (now (bytes .entry)) ⌝ }
+    ensures { λ r. ⌜ numberNext r ≤ length (now (bytes .entry)) ⌝ }
+{
+    if bytes::has_key(bytes, b"form=") {
+        return numbers::number_line(bytes, b"form=", least_form(lo), hi as u32);
+    }
+    NumberAt::Number(1, 0)
+}
+
+// Any bytes to a sheet of one of the forms `lo` to `hi`, or the refusal and the empty sheet.
+pub fn read_forms(bytes: &[u8], lo: u8, hi: u8) -> SheetAnswer
+    ensures { λ r. ⌜ r ≡ answerOf (readForms lo hi (now (bytes .entry))) ⌝ }
+{
+    if too_long(bytes) {
+        return refused(Refusal::SheetTooLong);
+    }
+    match form_line(bytes, lo, hi) {
+        NumberAt::Refused(why) => refused(why),
+        NumberAt::Number(form, first) => {
+            let found = head::head_lines(&bytes[first..], lo as u32 <= form);
+            let lines = found.lines;
+            let head = found.head;
+            match lines {
+                LinesRead::Refused(why) => refused(why),
+                LinesRead::Done(second) => {
+                    let at = first + second;
+                    run_lines(&bytes[at..], form as u8, head)
+                }
             }
         }
     }
@@ -70,14 +168,5 @@ fn run_lines(s: &[u8], head: Head) -> SheetAnswer
 pub fn read(bytes: &[u8]) -> SheetAnswer
     ensures { λ r. ⌜ r ≡ answerOf (readSheet (now (bytes .entry))) ⌝ }
 {
-    if Sheet::MAX_BYTES < bytes.len() {
-        return refused(Refusal::SheetTooLong);
-    }
-    let found = head::head_lines(bytes);
-    let lines = found.lines;
-    let head = found.head;
-    match lines {
-        LinesRead::Refused(why) => refused(why),
-        LinesRead::Done(at) => run_lines(&bytes[at..], head),
-    }
+    read_forms(bytes, 1, Sheet::NEWEST_FORM)
 }

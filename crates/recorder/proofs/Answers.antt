@@ -1,11 +1,13 @@
 -- What the calls of a recorder answer: each answer meets its contract. Assumes nothing.
 use Prim.Native.Nat.{ℕ, _≤_, _<_, min}
 use mathlib.Core.Path.{_≡_, refl, sym, ap}
+use mathlib.Core.Bool.{Bool, true, false, cond}
 use mathlib.Core.List.{List, []}
 use native.Mathlib.Omega.{arith}
 use lib.ListN.{length}
-use borrow.Author.Tests.{lt-ltb, le-ltb}
-use Rattle.model.specs.Sheets.{SheetValue, Valid, traceOf, mostSegs, mostRows, mostRefs}
+use lib.Dec.{ltb}
+use borrow.Author.Tests.{lt-ltb, le-ltb, ltb-true, ltb-false}
+use Rattle.model.specs.Sheets.{SheetValue, Valid, traceOf, mostSegs, mostRows, mostSteps}
 use Rattle.model.specs.Figures.{refCost, refVolume}
 use Rattle.model.specs.Traces.{unitOf, sizeOf, touching}
 use Rattle.model.proofs.Sums.{sum-none}
@@ -21,17 +23,34 @@ use Rattle.figures.specs.Buckets.{allEmpty}
 use Rattle.model.specs.LastTouches.{allUntouched}
 use Rattle.figures.specs.Rows.{figuresAt, figuresOf}
 use Rattle.figures.proofs.Passing.{pass-start}
-use Rattle.recorder.specs.Recorders.{recorderOf, started, appended, taken, refsVerdict, touchAllVerdict, Touched, TouchedAll, Figured}
+use Rattle.recorder.specs.Recorders.{recorderOf, started, appended, taken, withStep, stepVerdict, refsVerdict, touchAllVerdict, idleVerdict}
+use Rattle.recorder.specs.Recorders.{Touched, TouchedAll, Rested, Figured}
 use Rattle.recorder.specs.declared.Recorder.{Recorder}
 use Rattle.recorder.proofs.Standing.{recorder-passed}
+use Rattle.recorder.proofs.Stepping.{rested-stands}
 
 -- an answer is not both
 pub refused-accepted : {A : Type 0} (why : Refusal) → Refused why ≡ Accepted → A
 refused-accepted why e = let z : _≡_ {A = ℕ} 0 1 = cc in absurd (omega arith)
 
+-- after `count` steps there is room for one where the verdict on it accepts, and none where it refuses
+pub step-room : (count : ℕ) → stepVerdict count ≡ Accepted → count < mostSteps
+step-room count = go (ltb count mostSteps) refl
+  where
+    go : (b : Bool) → ltb count mostSteps ≡ b → cond b Accepted (Refused RecorderFull) ≡ Accepted → count < mostSteps
+    go true t a = ltb-true count mostSteps t
+    go false t a = refused-accepted RecorderFull a
+
+pub step-full : (count : ℕ) (why : Refusal) → stepVerdict count ≡ Refused why → mostSteps ≤ count
+step-full count why = go (ltb count mostSteps) refl
+  where
+    go : (b : Bool) → ltb count mostSteps ≡ b → cond b Accepted (Refused RecorderFull) ≡ Refused why → mostSteps ≤ count
+    go true t a = refused-accepted why (sym a)
+    go false t a = ltb-false count mostSteps t
+
 -- a start: nothing was touched yet
 pub start-stands : (v : SheetValue) → (sheet : Sheet) → sheet ≡ sheetOf v
-    → record { head = sheet .head; refs = 0; last = allUntouched; buckets = allEmpty; cost = 0; volume = 0 } ≡ recorderOf (started v)
+    → record { head = sheet .head; steps = 0; last = allUntouched; buckets = allEmpty; cost = 0; volume = 0 } ≡ recorderOf (started v)
 unfolding sheetOf refCost refVolume
 start-stands v sheet e =
     let T = traceOf (started v) in
@@ -49,21 +68,21 @@ module _ (R : Recorder) (x : ℕ) where
       }
 
   module _ (lt : x < min (R .head .segs) mostSegs) where
-    pub full : mostRefs ≤ R .refs → Touched R x (record { verdict = Refused RecorderFull; recorder = R })
+    pub full : mostSteps ≤ R .steps → Touched R x (record { verdict = Refused RecorderFull; recorder = R })
     full le =
         record {
-          verdict-is = rw (lt-ltb x (min (R .head .segs) mostSegs) lt, le-ltb (R .refs) mostRefs le) refl;
+          verdict-is = rw (lt-ltb x (min (R .head .segs) mostSegs) lt, le-ltb (R .steps) mostSteps le) refl;
           unchanged = λ why e. refl;
           stands = λ v valid e a. refused-accepted RecorderFull a;
         }
 
 -- a reference taken
-pub accepted : (R N : Recorder) (x : ℕ) → x < min (R .head .segs) mostSegs → R .refs < mostRefs
+pub accepted : (R N : Recorder) (x : ℕ) → x < min (R .head .segs) mostSegs → R .steps < mostSteps
     → ((v : SheetValue) → Valid v → R ≡ recorderOf v → N ≡ recorderOf (taken v x))
     → Touched R x (record { verdict = Accepted; recorder = N })
 accepted R N x lt room next =
     record {
-      verdict-is = rw (lt-ltb x (min (R .head .segs) mostSegs) lt, lt-ltb (R .refs) mostRefs room) refl;
+      verdict-is = rw (lt-ltb x (min (R .head .segs) mostSegs) lt, lt-ltb (R .steps) mostSteps room) refl;
       unchanged = λ why e. refused-accepted why (sym e);
       stands = λ v valid e a. next v valid e;
     }
@@ -93,6 +112,26 @@ module _ (R : Recorder) (xs : List ℕ) where
         unchanged = λ why f. refused-accepted why (sym f);
         nothing = none;
         stands = λ v valid f a. next v valid f;
+      }
+
+-- an idle step, refused or taken
+module _ (R : Recorder) where
+  pub idle-refused : (why : Refusal) → idleVerdict R ≡ Refused why → Rested R (record { verdict = Refused why; recorder = R })
+  idle-refused why e =
+      record {
+        verdict-is = sym e;
+        unchanged = λ w f. refl;
+        counted = λ a. refused-accepted why a;
+        stands = λ v valid f a. refused-accepted why a;
+      }
+
+  pub idle-accepted : idleVerdict R ≡ Accepted → Rested R (record { verdict = Accepted; recorder = withStep R })
+  idle-accepted e =
+      record {
+        verdict-is = sym e;
+        unchanged = λ why f. refused-accepted why (sym f);
+        counted = λ a. refl;
+        stands = λ v valid f a. rested-stands R v valid f;
       }
 
 -- the rows of a recorder that stands for a sheet

@@ -10,7 +10,7 @@ use lib.Dec.{ltb}
 use lib.ListN.{length, getD, drop, length-append}
 use lib.Seq.{drop-cons}
 use borrow.Author.Tests.{lt-ltb, le-ltb, ltb-true}
-use Rattle.model.specs.Sheets.{SheetValue, Valid, mostSegs, mostRefs}
+use Rattle.model.specs.Sheets.{SheetValue, Valid, mostSegs, mostSteps}
 use Rattle.model.specs.Values.{headOf}
 use Rattle.model.specs.declared.Refusal.the-variants.{OutOfRange, RecorderFull}
 use Rattle.model.specs.declared.Verdict.{Verdict}
@@ -41,16 +41,16 @@ module _ (segs count x : ℕ) where
   ref-out-of-range le = rw (le-ltb x segs le) refl
 
   module _ (lt : x < segs) where
-    ref-full : mostRefs ≤ count → refVerdict segs count x ≡ Refused RecorderFull
-    ref-full le = rw (lt-ltb x segs lt, le-ltb count mostRefs le) refl
+    ref-full : mostSteps ≤ count → refVerdict segs count x ≡ Refused RecorderFull
+    ref-full le = rw (lt-ltb x segs lt, le-ltb count mostSteps le) refl
 
-    ref-accepted : count < mostRefs → refVerdict segs count x ≡ Accepted
-    ref-accepted room = rw (lt-ltb x segs lt, lt-ltb count mostRefs room) refl
+    ref-accepted : count < mostSteps → refVerdict segs count x ≡ Accepted
+    ref-accepted room = rw (lt-ltb x segs lt, lt-ltb count mostSteps room) refl
 
 -- going along the references xs, n of which were asked: the verdict on all is that on those left
 module _ (segs count : ℕ) (xs : List ℕ) (n : ℕ) where
   abbrev pub Along : Type 0
-  Along = (n ≤ mostRefs) × (refsVerdict segs count xs ≡ refsVerdict segs (count + n) (drop n xs))
+  Along = (n ≤ mostSteps) × (refsVerdict segs count xs ≡ refsVerdict segs (count + n) (drop n xs))
 
   module _ (along : Along) where
     -- there is none left
@@ -75,11 +75,11 @@ module _ (segs count : ℕ) (xs : List ℕ) (n : ℕ) where
       unfolding rest-verdict
       along-out-of-range le = sym (next (Refused OutOfRange) (ref-out-of-range segs (count + n) (getD xs n 0) le))
 
-      pub along-full : getD xs n 0 < segs → mostRefs ≤ count + n → Refused RecorderFull ≡ refsVerdict segs count xs
+      pub along-full : getD xs n 0 < segs → mostSteps ≤ count + n → Refused RecorderFull ≡ refsVerdict segs count xs
       unfolding rest-verdict
       along-full below le = sym (next (Refused RecorderFull) (ref-full segs (count + n) (getD xs n 0) below le))
 
-      along-accepted : getD xs n 0 < segs → count + n < mostRefs
+      along-accepted : getD xs n 0 < segs → count + n < mostSteps
           → refsVerdict segs count xs ≡ refsVerdict segs (suc (count + n)) (drop (suc n) xs)
       unfolding rest-verdict
       along-accepted below room = next Accepted (ref-accepted segs (count + n) (getD xs n 0) below room)
@@ -88,7 +88,7 @@ pub along-start : (segs count : ℕ) (xs : List ℕ) → Along segs count xs 0
 along-start segs count xs = let none : count + 0 ≡ count = omega arith in (omega arith, rw none refl)
 
 pub along-next : (segs count : ℕ) (xs : List ℕ) (n : ℕ) → Along segs count xs n → n < length xs → getD xs n 0 < segs
-    → count + n < mostRefs → Along segs count xs (n + 1)
+    → count + n < mostSteps → Along segs count xs (n + 1)
 along-next segs count xs n along lt below room =
     let sum : count + suc n ≡ suc (count + n) = omega arith in
     rw (add-one n) (omega arith, rw sum (along-accepted segs count xs n along lt below room))
@@ -96,25 +96,25 @@ along-next segs count xs n along lt below room =
 -- all references are segments, and there is room for each
 pub record Takable (segs count : ℕ) (xs : List ℕ) : Type 0 where
   pub segments : (t : ℕ) → t < length xs → getD xs t 0 < segs
-  pub room : (t : ℕ) → t < length xs → count + t < mostRefs
+  pub room : (t : ℕ) → t < length xs → count + t < mostSteps
 
-one-more : (segs count x : ℕ) (xs : List ℕ) → x < segs → count < mostRefs → Takable segs (suc count) xs → Takable segs count (x ∷ xs)
+one-more : (segs count x : ℕ) (xs : List ℕ) → x < segs → count < mostSteps → Takable segs (suc count) xs → Takable segs count (x ∷ xs)
 one-more segs count x xs below room rest = record { segments = at; room = left }
   where
     at : (t : ℕ) → t < length (x ∷ xs) → getD (x ∷ xs) t 0 < segs
     at zero lt = below
     at (suc t) lt = rest .segments t (omega arith)
 
-    left : (t : ℕ) → t < length (x ∷ xs) → count + t < mostRefs
+    left : (t : ℕ) → t < length (x ∷ xs) → count + t < mostSteps
     left zero lt = omega arith
     left (suc t) lt = omega (arith, rest .room t (omega arith))
 
 -- the first reference is accepted, and then the rest
-accepted-first : (segs count x : ℕ) (xs : List ℕ) (p : Bool) → ltb x segs ≡ p → (q : Bool) → ltb count mostRefs ≡ q
+accepted-first : (segs count x : ℕ) (xs : List ℕ) (p : Bool) → ltb x segs ≡ p → (q : Bool) → ltb count mostSteps ≡ q
     → rest-verdict segs count xs (cond p (cond q Accepted (Refused RecorderFull)) (Refused OutOfRange)) ≡ Accepted
-    → (x < segs) × (count < mostRefs) × (refsVerdict segs (suc count) xs ≡ Accepted)
+    → (x < segs) × (count < mostSteps) × (refsVerdict segs (suc count) xs ≡ Accepted)
 unfolding rest-verdict
-accepted-first segs count x xs true p true q f = (ltb-true x segs p, ltb-true count mostRefs q, f)
+accepted-first segs count x xs true p true q f = (ltb-true x segs p, ltb-true count mostSteps q, f)
 accepted-first segs count x xs true p false q f = refused-accepted RecorderFull f
 accepted-first segs count x xs false p q any f = refused-accepted OutOfRange f
 
@@ -123,7 +123,7 @@ pub takable : (segs count : ℕ) (xs : List ℕ) → refsVerdict segs count xs �
 unfolding refsVerdict rest-verdict
 takable segs count [] e = record { segments = λ t lt. absurd (omega arith); room = λ t lt. absurd (omega arith) }
 takable segs count (x ∷ xs) e =
-    let first = accepted-first segs count x xs (ltb x segs) refl (ltb count mostRefs) refl e in
+    let first = accepted-first segs count x xs (ltb x segs) refl (ltb count mostSteps) refl e in
     one-more segs count x xs (first .0) (first .1) (takable segs (suc count) xs (first .2))
 
 -- and only there
@@ -145,7 +145,7 @@ none-appended v [] none = sym (appended-none v)
 none-appended v (x ∷ xs) none = absurd (omega arith)
 
 -- references that can be taken are within the number that a sheet has
-pub takable-few : (segs count : ℕ) (xs : List ℕ) → Takable segs count xs → count ≤ mostRefs → count + length xs ≤ mostRefs
+pub takable-few : (segs count : ℕ) (xs : List ℕ) → Takable segs count xs → count ≤ mostSteps → count + length xs ≤ mostSteps
 takable-few segs count [] s le = omega arith
 takable-few segs count (x ∷ xs) s le = omega (arith, s .room (length xs) (omega arith))
 
@@ -214,9 +214,9 @@ pub all-valid : (R : Recorder) (xs : List ℕ) → touchAllVerdict R xs ≡ Acce
     → Valid (appended v xs)
 all-valid R xs a v valid e =
     let can = takable-of R xs a v valid e in
-    appended-valid v valid xs (can .segments) (takable-few (length (v .head .sizes)) (length (v .refs)) xs can (valid .run .refs-within))
+    appended-valid v valid xs (can .segments) (takable-few (length (v .head .sizes)) (length (v .refs)) xs can (valid .run .steps-within))
 
 -- a reference that is accepted is accepted as a list of one
 pub one-accepted : (R : Recorder) (x : ℕ) → touchVerdict R x ≡ Accepted → touchAllVerdict R (x ∷ []) ≡ Accepted
 unfolding rest-verdict refsVerdict
-one-accepted R x e = verdict-step (min (R .head .segs) mostSegs) (R .refs) x [] Accepted e
+one-accepted R x e = verdict-step (min (R .head .segs) mostSegs) (R .steps) x [] Accepted e

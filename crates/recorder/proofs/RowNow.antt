@@ -5,7 +5,7 @@ use mathlib.Core.List.{List}
 use native.Mathlib.Omega.{arith}
 use native.Mathlib.Numerals.{add-one}
 use lib.ListN.{length, getD, take}
-use Rattle.model.specs.Sheets.{SheetValue, Valid, traceOf, mostSegs, mostRows, mostRefs}
+use Rattle.model.specs.Sheets.{SheetValue, Valid, traceOf, mostSegs, mostRows, mostSteps}
 use Rattle.model.specs.declared.Kind.{Kind}
 use Rattle.model.specs.declared.PriceRow.{PriceRow}
 use Rattle.model.specs.declared.RowFigures.{RowFigures}
@@ -40,20 +40,20 @@ summable-of fits =
 -- the end intervals are those of the sheet's tally
 ends-of : (v : SheetValue) → Valid v → (rows segs steps : ℕ) (qs : List ℕ) (b : List Bucket)
     → rows ≡ min (recorderOf v .head .rows) mostRows → segs ≡ min (recorderOf v .head .segs) mostSegs
-    → steps ≡ min (recorderOf v .refs) mostRefs
+    → steps ≡ min (recorderOf v .steps) mostSteps
     → Quoted (unitsFor (recorderOf v .head .a)) (take rows (recorderOf v .head .prices)) qs
     → EndedAt (recorderOf v .head .kind) (recorderOf v .head .a) (take segs (recorderOf v .head .sizes)) rows qs steps
     (recorderOf v .last) b
     → b ≡ tallyOf (v .head .rows) (traceOf v) .ends
 unfolding recorderOf headOf
 ends-of v valid rows segs steps qs b rows-are segs-are steps-are quoted ended =
-    let all : length (v .refs) ≡ steps = omega (arith, valid .run .refs-within) in
+    let all : length (v .refs) ≡ steps = omega (arith, valid .run .steps-within) in
     let sizes = front (v .head .sizes) (zeros mostSegs) segs mostSegs (valid .run .segs-within) segs-are in
     (rw sizes at ended) (v .head .rows) (head-rows (v .head) (valid .rows) rows rows-are qs quoted) (v .refs) all (valid .run)
     (ap (lastTable (traceOf v)) all)
 
 pub ends-stand : (R : Recorder) (rows segs steps : ℕ) (qs : List ℕ) (b : List Bucket)
-    → rows ≡ min (R .head .rows) mostRows → segs ≡ min (R .head .segs) mostSegs → steps ≡ min (R .refs) mostRefs
+    → rows ≡ min (R .head .rows) mostRows → segs ≡ min (R .head .segs) mostSegs → steps ≡ min (R .steps) mostSteps
     → Quoted (unitsFor (R .head .a)) (take rows (R .head .prices)) qs
     → EndedAt (R .head .kind) (R .head .a) (take segs (R .head .sizes)) rows qs steps (R .last) b
     → (v : SheetValue) → Valid v → R ≡ recorderOf v → b ≡ tallyOf (v .head .rows) (traceOf v) .ends
@@ -67,12 +67,12 @@ pub record Swept (R : Recorder) (row : ℕ) (f : RowFigures) : Type 0 where
   pub kept : Bucket
   pub ends : Bucket
   pub ended-are : (v : SheetValue) → Valid v → R ≡ recorderOf v → ended ≡ tallyOf (v .head .rows) (traceOf v) .ends
-  pub all-is : ((m : ℕ) → m ≤ bucketCount → Holds mostRefs (summed (R .buckets) m)) → all ≡ summed (R .buckets) bucketCount
-  pub kept-is : ((m : ℕ) → m ≤ row + 1 → Holds mostRefs (summed (R .buckets) m)) → kept ≡ summed (R .buckets) (row + 1)
-  pub ends-is : ((m : ℕ) → m ≤ row + 1 → Holds mostRefs (summed ended m)) → ends ≡ summed ended (row + 1)
-  pub figures-are : RowFits (R .head .kind) (getD (R .head .prices) row (record { h = 0; d = 0 })) (R .refs) (R .cost)
+  pub all-is : ((m : ℕ) → m ≤ bucketCount → Holds mostSteps (summed (R .buckets) m)) → all ≡ summed (R .buckets) bucketCount
+  pub kept-is : ((m : ℕ) → m ≤ row + 1 → Holds mostSteps (summed (R .buckets) m)) → kept ≡ summed (R .buckets) (row + 1)
+  pub ends-is : ((m : ℕ) → m ≤ row + 1 → Holds mostSteps (summed ended m)) → ends ≡ summed ended (row + 1)
+  pub figures-are : RowFits (R .head .kind) (getD (R .head .prices) row (record { h = 0; d = 0 })) (R .steps) (R .cost)
       (R .volume) all kept ends
-      → f ≡ rowFrom (R .head .kind) (R .head .a) (getD (R .head .prices) row (record { h = 0; d = 0 })) (R .refs) (R .cost)
+      → f ≡ rowFrom (R .head .kind) (R .head .a) (getD (R .head .prices) row (record { h = 0; d = 0 })) (R .steps) (R .cost)
       (R .volume) all kept ends
 
 module _ (v : SheetValue) (valid : Valid v) (row : ℕ) (lt : row < length (v .head .rows)) (f : RowFigures)

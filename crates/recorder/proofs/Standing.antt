@@ -1,8 +1,9 @@
--- What a recorder that stands for a sheet holds is what the pass has after the sheet's references, and there is room in it; a sheet with
--- more references is within the limits. Assumes nothing.
-use Prim.Native.Nat.{ℕ, _+_, _-_, _^_, _≤_, _<_, min}
-use mathlib.Core.Path.{_≡_, refl, ap}
-use mathlib.Core.Bool.{Bool, true, false}
+-- What a recorder that stands for a sheet holds is what the pass has after the sheet's steps, and there is room in it; a sheet with
+-- more steps is within the limits. Assumes nothing.
+use Prim.Native.Nat.{ℕ, _+_, _-_, _^_, _≤_, _<_, min, max}
+use mathlib.Core.Path.{_≡_, refl, sym, ap, _∙_}
+use mathlib.Core.Bool.{Bool, true, false, cond}
+use mathlib.Core.Logic.{_⊎_, inl, inr}
 use mathlib.Core.List.{List, [], _∷_, _++_}
 use native.Mathlib.Omega.{arith}
 use lib.Dec.{ltb}
@@ -10,15 +11,17 @@ use lib.ListN.{length, getD, take, drop, length-append, List·getD-append}
 use lib.Seq.{getD-append-add, take-append-seam}
 use borrow.Author.Tests.{ltb-true, ltb-false}
 use Rattle.model.specs.Figures.{refCost, refVolume}
-use Rattle.model.specs.Sheets.{HeadValue, SheetValue, RowsWithin, Valid, traceOf, mostRows, mostRefs}
+use Rattle.model.specs.Sheets.{HeadValue, SheetValue, RowsWithin, Valid, traceOf, idle, newestForm, mostRows, mostSteps}
 use Rattle.model.specs.Values.{padded, zeroRows, headOf}
+use Rattle.model.specs.declared.Refusal.the-variants.{RecorderFull}
+use Rattle.model.specs.declared.Verdict.the-variants.{Accepted, Refused}
 use Rattle.model.proofs.Lists.{getD-any}
 use Rattle.figures.specs.inner.Pass.{Roomy, RowsOf, passedAfter, passedOf}
 use Rattle.search.specs.inner.Quotients.{unitsFor, Quoted}
 use Rattle.figures.specs.declared.Bucket.{Bucket}
 use Rattle.figures.specs.declared.pass.Passed.{Passed}
 use Rattle.figures.proofs.Limits.{buckets-roomy}
-use Rattle.recorder.specs.Recorders.{recorderOf, started, appended, taken}
+use Rattle.recorder.specs.Recorders.{recorderOf, started, appended, taken, rested, stepVerdict, idleVerdict}
 use Rattle.recorder.specs.declared.Recorder.{Recorder}
 
 -- the front of a list at the front of blanks
@@ -43,7 +46,7 @@ head-rows v up n is qs quoted =
       counted = omega (arith, up .rows-within);
     }
 
--- a recorder that stands for a sheet holds what the pass has after its references
+-- a recorder that stands for a sheet holds what the pass has after its steps
 pub standing : (v : SheetValue)
     → record { buckets = recorderOf v .buckets; last = recorderOf v .last } ≡ passedOf (v .head .rows) (traceOf v)
 unfolding recorderOf passedAfter
@@ -57,21 +60,43 @@ standing-roomy v valid = buckets-roomy (traceOf v) (valid .run) (v .head .rows)
 pub stands-roomy : (R : Recorder) (v : SheetValue) → Valid v → R ≡ recorderOf v → Roomy (R .buckets) (2 ^ 60)
 stands-roomy R v valid e = rw e (standing-roomy v valid)
 
--- a recorder that holds a sheet's head and what the pass has after its references stands for the sheet
+-- a recorder that holds a sheet's head and what the pass has after its steps stands for the sheet
 pub recorder-passed : (v : SheetValue) (n : ℕ) → n ≡ length (v .refs) → (buckets : List Bucket) (last : List ℕ) (cost volume : ℕ)
     → record { buckets = buckets; last = last } ≡ passedOf (v .head .rows) (traceOf v) → cost ≡ refCost (traceOf v)
     → volume ≡ refVolume (traceOf v)
-    → record { head = headOf (v .head); refs = n; last = last; buckets = buckets; cost = cost; volume = volume } ≡ recorderOf v
+    → record { head = headOf (v .head); steps = n; last = last; buckets = buckets; cost = cost; volume = volume } ≡ recorderOf v
 unfolding recorderOf passedAfter
 recorder-passed v n all buckets last cost volume passed cost-is volume-is =
     rw (ap (λ (p : Passed). p .buckets) passed, ap (λ (p : Passed). p .last) passed, cost-is, volume-is, all) refl
 
--- other references, to segments and not too many, leave a sheet within the limits
-refs-valid : (v : SheetValue) → Valid v → (refs : List ℕ) → length refs ≤ mostRefs
-    → ((t : ℕ) → t < length refs → getD refs t (length (v .head .sizes)) < length (v .head .sizes))
-    → Valid (record { head = v .head; refs = refs })
-refs-valid v valid refs few segments =
+-- what holds of each entry of two lists holds of each entry of both
+appended-each : (P : ℕ → Type 0) (xs ys : List ℕ) (d e : ℕ) → ((t : ℕ) → t < length xs → P (getD xs t d))
+    → ((t : ℕ) → t < length ys → P (getD ys t e)) → (t : ℕ) → t < length (xs ++ ys) → P (getD (xs ++ ys) t d)
+appended-each P xs ys d e first second t l = at (ltb t (length xs)) refl
+  where
+    at : (b : Bool) → ltb t (length xs) ≡ b → P (getD (xs ++ ys) t d)
+    at true e =
+        let below = ltb-true t (length xs) e in
+        rw (List·getD-append xs ys d t below) (first t below)
+    at false f =
+        let j = t - length xs in
+        let same : t ≡ length xs + j = omega (arith, ltb-false t (length xs) f) in
+        let lt : j < length ys = omega (arith, length-append xs ys) in
+        rw (same, getD-append-add xs ys j d, getD-any ys j d e lt) (second j lt)
+
+-- an entry of a step: a segment, or idle
+abbrev Entry : SheetValue → ℕ → Type 0
+Entry v x = (x < length (v .head .sizes)) ⊎ (x ≡ idle)
+
+-- other steps, not too many, leave a sheet within the limits; in form 1 each has a touch
+steps-valid : (v : SheetValue) → Valid v → (form : ℕ) → 1 ≤ form → form ≤ newestForm → (refs : List ℕ) → length refs ≤ mostSteps
+    → ((t : ℕ) → t < length refs → Entry v (getD refs t (length (v .head .sizes))))
+    → (form ≡ 1 → (t : ℕ) → t < length refs → getD refs t (length (v .head .sizes)) < length (v .head .sizes))
+    → Valid (record { form = form; head = v .head; refs = refs })
+steps-valid v valid form some known refs few entries segments =
     record {
+      some-form = some;
+      form-within = known;
       rows = valid .rows;
       run =
           record {
@@ -80,37 +105,58 @@ refs-valid v valid refs few segments =
             segs-within = valid .run .segs-within;
             some-size = valid .run .some-size;
             size-within = valid .run .size-within;
-            refs-within = few;
-            ref-within = segments;
+            steps-within = few;
+            entry-within = entries;
           };
+      whole = segments;
     }
 
 -- more references
 pub appended-valid : (v : SheetValue) → Valid v → (xs : List ℕ) → ((t : ℕ) → t < length xs → getD xs t 0 < length (v .head .sizes))
-    → length (v .refs) + length xs ≤ mostRefs → Valid (appended v xs)
+    → length (v .refs) + length xs ≤ mostSteps → Valid (appended v xs)
 appended-valid v valid xs segments room =
-    refs-valid v valid (v .refs ++ xs) (omega (arith, length-append (v .refs) xs)) (λ t l. at t l (ltb t (length (v .refs))) refl)
-  where
-    segs : ℕ
-    segs = length (v .head .sizes)
-
-    at : (t : ℕ) → t < length (v .refs ++ xs) → (b : Bool) → ltb t (length (v .refs)) ≡ b → getD (v .refs ++ xs) t segs < segs
-    at t l true e =
-        let below = ltb-true t (length (v .refs)) e in
-        rw (List·getD-append (v .refs) xs segs t below) (valid .run .ref-within t below)
-    at t l false e =
-        let j = t - length (v .refs) in
-        let same : t ≡ length (v .refs) + j = omega (arith, ltb-false t (length (v .refs)) e) in
-        let lt : j < length xs = omega (arith, length-append (v .refs) xs) in
-        rw (same, getD-append-add (v .refs) xs j segs, getD-any xs j segs 0 lt) (segments j lt)
+    let segs = length (v .head .sizes) in
+    steps-valid v valid (v .form) (valid .some-form) (valid .form-within) (v .refs ++ xs) (omega (arith, length-append (v .refs) xs))
+    (appended-each (Entry v) (v .refs) xs segs 0 (valid .run .entry-within) (λ t lt. inl (segments t lt)))
+    (λ first. appended-each (λ x. x < segs) (v .refs) xs segs 0 (valid .whole first) segments)
 
 -- one reference more
-pub taken-valid : (v : SheetValue) → Valid v → (x : ℕ) → x < length (v .head .sizes) → length (v .refs) < mostRefs → Valid (taken v x)
+pub taken-valid : (v : SheetValue) → Valid v → (x : ℕ) → x < length (v .head .sizes) → length (v .refs) < mostSteps → Valid (taken v x)
 taken-valid v valid x lt room = appended-valid v valid (x ∷ []) (λ t l. one t (omega arith)) (omega arith)
   where
     one : (t : ℕ) → t ≡ 0 → getD (x ∷ []) t 0 < length (v .head .sizes)
     one t e = rw e lt
 
--- no references
+-- one idle step more
+pub rested-valid : (v : SheetValue) → Valid v → length (v .refs) < mostSteps → Valid (rested v)
+rested-valid v valid room =
+    steps-valid v valid (max 2 (v .form)) (omega arith) (omega (arith, valid .form-within)) (v .refs ++ (idle ∷ []))
+    (omega (arith, length-append (v .refs) (idle ∷ [])))
+    (appended-each (Entry v) (v .refs) (idle ∷ []) (length (v .head .sizes)) 0 (valid .run .entry-within)
+    (λ t l. inr (one t (omega arith))))
+    (λ first. absurd (omega (arith, first)))
+  where
+    one : (t : ℕ) → t ≡ 0 → getD (idle ∷ []) t 0 ≡ idle
+    one t e = rw e refl
+
+-- the same steps in a form from 2 on
+pub later-valid : (v : SheetValue) → Valid v → Valid (record { form = max 2 (v .form); head = v .head; refs = v .refs })
+later-valid v valid =
+    steps-valid v valid (max 2 (v .form)) (omega arith) (omega (arith, valid .form-within)) (v .refs) (valid .run .steps-within)
+    (valid .run .entry-within) (λ first. absurd (omega (arith, first)))
+
+-- a recorder that takes an idle step has room for it
+pub idle-room : (R : Recorder) (v : SheetValue) → R ≡ recorderOf v → idleVerdict R ≡ Accepted → length (v .refs) < mostSteps
+unfolding recorderOf
+idle-room R v e a =
+    go (ltb (length (v .refs)) mostSteps) refl (ap (λ (Q : Recorder). stepVerdict (Q .steps)) (sym e) ∙ a)
+  where
+    go : (b : Bool) → ltb (length (v .refs)) mostSteps ≡ b → cond b Accepted (Refused RecorderFull) ≡ Accepted → length (v .refs) < mostSteps
+    go true l w = ltb-true (length (v .refs)) mostSteps l
+    go false l w = let z : _≡_ {A = ℕ} 0 1 = cc in omega arith
+
+-- no steps
 pub started-valid : (v : SheetValue) → Valid v → Valid (started v)
-started-valid v valid = refs-valid v valid [] (omega arith) (λ t l. absurd (omega arith))
+started-valid v valid =
+    steps-valid v valid (v .form) (valid .some-form) (valid .form-within) [] (omega arith) (λ t l. absurd (omega arith))
+    (λ first t l. absurd (omega arith))

@@ -1,15 +1,16 @@
--- More references, as the code takes them: a recorder that stands for a sheet then stands for the sheet with those references.
+-- More steps, as the code takes them: a recorder that stands for a sheet then stands for the sheet with those references, or with one
+-- idle step.
 -- Assumes nothing.
 use Prim.Native.Nat.{ℕ, _-_, _+_, _^_, _≤_, _<_, min}
 use mathlib.Core.Path.{_≡_, refl, sym, ap, _∙_}
 use mathlib.Core.List.{List, [], _∷_, _++_}
 use native.Mathlib.Omega.{arith}
 use lib.ListN.{length, getD, take, set, length-append, List·getD-append}
-use borrow.Author.Tests.{lt-ltb}
+use borrow.Author.Tests.{lt-ltb, le-ltb}
 use Rattle.model.specs.Costs.{unitCost}
-use Rattle.model.specs.Figures.{refCost}
+use Rattle.model.specs.Figures.{refCost, refVolume}
 use Rattle.model.specs.Traces.{segs, steps}
-use Rattle.model.specs.Sheets.{SheetValue, RowsWithin, Valid, traceOf, mostSegs, mostRows, mostRefs}
+use Rattle.model.specs.Sheets.{SheetValue, RowsWithin, Valid, traceOf, idle, mostSegs, mostRows, mostSteps}
 use Rattle.model.proofs.Growth.{withRefs, grown, grown-agree, grown-sums, steps-grown, entry-grown}
 use Rattle.model.specs.Values.{zeros, zeroRows, headOf}
 use Rattle.model.specs.declared.Head.{Head}
@@ -24,9 +25,9 @@ use Rattle.figures.specs.declared.Bucket.{Bucket}
 use Rattle.figures.specs.declared.pass.Touch.{Touch}
 use Rattle.figures.specs.declared.pass.Passed.{Passed}
 use Rattle.figures.proofs.Limits.{cost-within, volume-within}
-use Rattle.figures.proofs.Passing.{pass-step, passed-agree}
+use Rattle.figures.proofs.Passing.{pass-step, pass-idle, passed-agree}
 use Rattle.recorder.specs.inner.Passes.{Continued}
-use Rattle.recorder.specs.Recorders.{recorderOf, appended, taken}
+use Rattle.recorder.specs.Recorders.{recorderOf, appended, taken, rested, withStep}
 use Rattle.recorder.specs.declared.Recorder.{Recorder}
 use Rattle.recorder.proofs.Standing.{front, padded-at, head-rows, standing, standing-roomy, taken-valid, recorder-passed}
 
@@ -42,7 +43,7 @@ pub record Stepped (R : Recorder) (x : ℕ) (N : Recorder) : Type 0 where
   pub limited : Limited touch
   pub touch-is : RowsWithin (take count (R .head .prices))
       → touch ≡ touchOf (R .head .kind) (R .head .a) (take count (R .head .prices)) (getD (R .head .sizes) x 0)
-      (timeSince (R .refs) (getD (R .last) x 0))
+      (timeSince (R .steps) (getD (R .last) x 0))
   pub bucket-is : Within (getD (R .buckets) (touch .bucket) noBucket) (2 ^ 60)
       → bucket ≡ withTouch (getD (R .buckets) (touch .bucket) noBucket) touch
   pub unit-is : unit ≡ unitCost (R .head .kind) (getD (R .head .sizes) x 0)
@@ -50,15 +51,15 @@ pub record Stepped (R : Recorder) (x : ℕ) (N : Recorder) : Type 0 where
   pub volume-is : R .volume ≤ 2 ^ 60 → getD (R .head .sizes) x 0 ≤ 2 ^ 60 → volume ≡ R .volume + getD (R .head .sizes) x 0
   pub next-is : N ≡ record {
     head = R .head;
-    refs = R .refs + 1;
-    last = set (R .last) x (R .refs + 1);
+    steps = R .steps + 1;
+    last = set (R .last) x (R .steps + 1);
     buckets = set (R .buckets) (touch .bucket) bucket;
     cost = cost;
     volume = volume;
   }
 
 -- a step of the code from the recorder of v
-stepped-of : (v : SheetValue) → Valid v → (x : ℕ) → x < length (v .head .sizes) → length (v .refs) < mostRefs
+stepped-of : (v : SheetValue) → Valid v → (x : ℕ) → x < length (v .head .sizes) → length (v .refs) < mostSteps
     → (N : Recorder) → Stepped (recorderOf v) x N → N ≡ recorderOf (taken v x)
 unfolding recorderOf headOf
 stepped-of v valid x lt room N s =
@@ -90,12 +91,34 @@ stepped-of v valid x lt room N s =
     (volume-is ∙ sym (rw (lt-ltb x (segs T) lt) at (sums .sizes)))
 
 -- from any recorder that stands for v
-pub stepped-stands : (R N : Recorder) (x : ℕ) → x < min (R .head .segs) mostSegs → R .refs < mostRefs → Stepped R x N
+pub stepped-stands : (R N : Recorder) (x : ℕ) → x < min (R .head .segs) mostSegs → R .steps < mostSteps → Stepped R x N
     → (v : SheetValue) → Valid v → R ≡ recorderOf v → N ≡ recorderOf (taken v x)
 unfolding recorderOf headOf
 stepped-stands R N x lt room s v valid e =
-    stepped-of v valid x (omega (arith, ap (λ (Q : Recorder). Q .head .segs) e)) (omega (arith, ap (λ (Q : Recorder). Q .refs) e)) N
+    stepped-of v valid x (omega (arith, ap (λ (Q : Recorder). Q .head .segs) e)) (omega (arith, ap (λ (Q : Recorder). Q .steps) e)) N
     (rw e at s)
+
+-- an idle step from the recorder of v: the table, the buckets, Q and V are what they were
+rested-of : (v : SheetValue) → Valid v → withStep (recorderOf v) ≡ recorderOf (rested v)
+unfolding recorderOf
+rested-of v valid =
+    let T = traceOf v in
+    let n = length (v .refs) in
+    let rows = v .head .rows in
+    let none : segs T ≤ idle = omega (arith, valid .run .segs-within) in
+    let sums = grown-sums T idle 0 0 in
+    let end : n + 1 ≡ steps (grown T idle) = omega (arith, steps-grown T idle) in
+    let all : passedAfter rows (grown T idle) (n + 1) ≡ passedOf rows (grown T idle) = ap (passedAfter rows (grown T idle)) end in
+    let passed =
+    pass-idle rows (grown T idle) n (recorderOf v .buckets) (recorderOf v .last)
+    (standing v ∙ passed-agree rows T (v .refs ++ (idle ∷ [])) n (grown-agree T idle)) (rw (entry-grown T idle) none) in
+    let cost : refCost T ≡ refCost (grown T idle) = omega (arith, rw (le-ltb idle (segs T) none) at (sums .cost)) in
+    let volume : refVolume T ≡ refVolume (grown T idle) = omega (arith, rw (le-ltb idle (segs T) none) at (sums .sizes)) in
+    recorder-passed (rested v) (n + 1) end (recorderOf v .buckets) (recorderOf v .last) (refCost T) (refVolume T) (passed ∙ all) cost volume
+
+-- from any recorder that stands for v
+pub rested-stands : (R : Recorder) (v : SheetValue) → Valid v → R ≡ recorderOf v → withStep R ≡ recorderOf (rested v)
+rested-stands R v valid e = rw e (rested-of v valid)
 
 -- the pass goes on from what it has after a sheet
 passed-of : (v : SheetValue) (rows segs : ℕ) (qs : List ℕ) (p : Passed) (n : ℕ) (xs : List ℕ) (r : Passed)
@@ -122,12 +145,12 @@ passed-on head rows segs qs p n xs r rows-are segs-are quoted on v valid e =
 
 -- several references, as the code takes them from the recorder of v: Q and V are sums of the buckets
 taken-of : (v : SheetValue) (xs : List ℕ) → Valid (appended v xs) → (p : Passed) (all : Bucket) (cost : ℕ)
-    → Continued (recorderOf v .head) (record { buckets = recorderOf v .buckets; last = recorderOf v .last }) (recorderOf v .refs) xs p
-    → (((m : ℕ) → m ≤ bucketCount → Holds mostRefs (summed (p .buckets) m)) → all ≡ summed (p .buckets) bucketCount)
+    → Continued (recorderOf v .head) (record { buckets = recorderOf v .buckets; last = recorderOf v .last }) (recorderOf v .steps) xs p
+    → (((m : ℕ) → m ≤ bucketCount → Holds mostSteps (summed (p .buckets) m)) → all ≡ summed (p .buckets) bucketCount)
     → cost ≡ byKind (recorderOf v .head .kind) (all .count) (all .volume)
     → record {
       head = recorderOf v .head;
-      refs = recorderOf v .refs + length xs;
+      steps = recorderOf v .steps + length xs;
       last = p .last;
       buckets = p .buckets;
       cost = cost;
@@ -147,13 +170,13 @@ taken-of v xs valid p all cost on all-is cost-is =
 
 -- from any recorder that stands for v
 pub taken-stands : (R : Recorder) (xs : List ℕ) (p : Passed) (all : Bucket) (cost : ℕ)
-    → Continued (R .head) (record { buckets = R .buckets; last = R .last }) (R .refs) xs p
-    → (((m : ℕ) → m ≤ bucketCount → Holds mostRefs (summed (p .buckets) m)) → all ≡ summed (p .buckets) bucketCount)
+    → Continued (R .head) (record { buckets = R .buckets; last = R .last }) (R .steps) xs p
+    → (((m : ℕ) → m ≤ bucketCount → Holds mostSteps (summed (p .buckets) m)) → all ≡ summed (p .buckets) bucketCount)
     → cost ≡ byKind (R .head .kind) (all .count) (all .volume)
     → (v : SheetValue) → Valid (appended v xs) → R ≡ recorderOf v
     → record {
       head = R .head;
-      refs = R .refs + length xs;
+      steps = R .steps + length xs;
       last = p .last;
       buckets = p .buckets;
       cost = cost;

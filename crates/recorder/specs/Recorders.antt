@@ -1,13 +1,14 @@
--- What a recorder stands for: the head of a sheet and the references taken so far. A recorder that a start and the calls after it
--- handed back stands for such a value; of any other, put together by hand, only the refusals are said. Assumes nothing.
-use Prim.Native.Nat.{ℕ, suc, min}
+-- What a recorder stands for: the head of a sheet and its steps so far, each with a touch or idle. A recorder that a start and the
+-- calls after it handed back stands for such a value; of any other, put together by hand, only the refusals are said, and that an idle step
+-- is one step more. Assumes nothing.
+use Prim.Native.Nat.{ℕ, suc, _+_, min, max}
 use mathlib.Core.Path.{_≡_}
 use mathlib.Core.Bool.{cond}
 use mathlib.Core.List.{List, [], _∷_, _++_}
 use lib.ListN.{length}
 use lib.Dec.{ltb}
 use Rattle.model.specs.Figures.{refCost, refVolume}
-use Rattle.model.specs.Sheets.{SheetValue, Valid, traceOf, mostSegs, mostRows, mostRefs}
+use Rattle.model.specs.Sheets.{SheetValue, Valid, traceOf, idle, mostSegs, mostRows, mostSteps}
 use Rattle.model.specs.declared.Refusal.{Refusal}
 use Rattle.model.specs.declared.Refusal.the-variants.{OutOfRange, NoSuchRow, RecorderFull}
 use Rattle.model.specs.declared.Verdict.{Verdict}
@@ -21,12 +22,12 @@ use Rattle.figures.specs.declared.FiguresAnswer.{FiguresAnswer}
 use Rattle.recorder.specs.declared.Recorder.{Recorder}
 use Rattle.recorder.specs.declared.TouchAnswer.{TouchAnswer}
 
--- the recorder that stands for a sheet's value: its head, and what the pass has after its references
+-- the recorder that stands for a sheet's value, whatever its form: its head, and what the pass has after its steps
 unfoldable pub recorderOf : SheetValue → Recorder
 recorderOf v =
     record {
       head = headOf (v .head);
-      refs = length (v .refs);
+      steps = length (v .refs);
       last = lastTable (traceOf v) (length (v .refs));
       buckets = tabulate bucketCount (bucketAfter (v .head .rows) (traceOf v) (length (v .refs)));
       cost = refCost (traceOf v);
@@ -35,23 +36,36 @@ recorderOf v =
 
 -- no segments and no rows: what a refused start hands back
 unfoldable pub emptyRecorder : Recorder
-emptyRecorder = record { head = emptyHead; refs = 0; last = allUntouched; buckets = allEmpty; cost = 0; volume = 0 }
+emptyRecorder = record { head = emptyHead; steps = 0; last = allUntouched; buckets = allEmpty; cost = 0; volume = 0 }
 
--- the head of a sheet, with no references
+-- the form and the head of a sheet, with no steps
 abbrev pub started : SheetValue → SheetValue
-started v = record { head = v .head; refs = [] }
+started v = record { form = v .form; head = v .head; refs = [] }
 
 -- a sheet's value with the references xs after its own
 abbrev pub appended : SheetValue → List ℕ → SheetValue
-appended v xs = record { head = v .head; refs = v .refs ++ xs }
+appended v xs = record { form = v .form; head = v .head; refs = v .refs ++ xs }
 
 -- one reference more
 abbrev pub taken : SheetValue → ℕ → SheetValue
 taken v x = appended v (x ∷ [])
 
--- the verdict on a reference x after `count` references: 4 for a segment not below segs, then 13 where there are 2,048
+-- one idle step more: form 1 has none, so the form is then 2 or more
+abbrev pub rested : SheetValue → SheetValue
+rested v = record { form = max 2 (v .form); head = v .head; refs = v .refs ++ (idle ∷ []) }
+
+-- a recorder with one step more, and all else as it was
+abbrev pub withStep : Recorder → Recorder
+withStep R =
+    record { head = R .head; steps = R .steps + 1; last = R .last; buckets = R .buckets; cost = R .cost; volume = R .volume }
+
+-- the verdict on an idle step after `count` steps: 13 where there are 2,048
+abbrev pub stepVerdict : ℕ → Verdict
+stepVerdict count = cond (ltb count mostSteps) Accepted (Refused RecorderFull)
+
+-- the verdict on a reference x after `count` steps: 4 for a segment not below segs, then 13 where there are 2,048
 abbrev pub refVerdict : ℕ → ℕ → ℕ → Verdict
-refVerdict segs count x = cond (ltb x segs) (cond (ltb count mostRefs) Accepted (Refused RecorderFull)) (Refused OutOfRange)
+refVerdict segs count x = cond (ltb x segs) (stepVerdict count) (Refused OutOfRange)
 
 -- the verdict of the first of the references xs that would be refused, each being asked after those before it
 unfoldable pub refsVerdict : ℕ → ℕ → List ℕ → Verdict
@@ -62,12 +76,15 @@ refsVerdict segs count (x ∷ xs) =
       | Refused why ↦ Refused why
     ]
 
--- the verdicts of a recorder on one reference and on several
+-- the verdicts of a recorder on one reference, on several, and on an idle step
 abbrev pub touchVerdict : Recorder → ℕ → Verdict
-touchVerdict R x = refVerdict (min (R .head .segs) mostSegs) (R .refs) x
+touchVerdict R x = refVerdict (min (R .head .segs) mostSegs) (R .steps) x
 
 abbrev pub touchAllVerdict : Recorder → List ℕ → Verdict
-touchAllVerdict R xs = refsVerdict (min (R .head .segs) mostSegs) (R .refs) xs
+touchAllVerdict R xs = refsVerdict (min (R .head .segs) mostSegs) (R .steps) xs
+
+abbrev pub idleVerdict : Recorder → Verdict
+idleVerdict R = stepVerdict (R .steps)
 
 -- what a touch answers
 pub record Touched (R : Recorder) (x : ℕ) (r : TouchAnswer) : Type 0 where
@@ -85,6 +102,16 @@ pub record TouchedAll (R : Recorder) (xs : List ℕ) (r : TouchAnswer) : Type 0 
   pub nothing : xs ≡ [] → r .recorder ≡ R
   -- a recorder that stands for a sheet stands for the sheet with all of them
   pub stands : (v : SheetValue) → Valid v → R ≡ recorderOf v → r .verdict ≡ Accepted → r .recorder ≡ recorderOf (appended v xs)
+
+-- what an idle step answers
+pub record Rested (R : Recorder) (r : TouchAnswer) : Type 0 where
+  pub verdict-is : r .verdict ≡ idleVerdict R
+  -- refused, the recorder comes back as it was
+  pub unchanged : (why : Refusal) → r .verdict ≡ Refused why → r .recorder ≡ R
+  -- accepted, it has one step more and all else as it was, also where it was put together by hand
+  pub counted : r .verdict ≡ Accepted → r .recorder ≡ withStep R
+  -- a recorder that stands for a sheet stands for one idle step more
+  pub stands : (v : SheetValue) → Valid v → R ≡ recorderOf v → r .verdict ≡ Accepted → r .recorder ≡ recorderOf (rested v)
 
 -- touching one by one a recorder that stands for a sheet: the answer of the first touch that is refused, or of the last
 unfoldable pub oneByOne : SheetValue → List ℕ → TouchAnswer

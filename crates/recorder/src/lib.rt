@@ -1,4 +1,4 @@
-// The recorder: a sheet's head that takes references one by one, and hands out the figures of a row at any moment.
+// The recorder: a sheet's head that takes references and idle steps one by one, and hands out the figures of a row at any moment.
 // What a recorder stands for is written in specs/Recorders.antt; nothing is assumed.
 pub mod reading;
 pub mod taking;
@@ -16,33 +16,34 @@ ghost use Rattle.model.specs.Sheets.{SheetValue, Valid};
 ghost use Rattle.model.specs.Values.{sheetOf};
 ghost use Rattle.model.specs.LastTouches.{allUntouched};
 ghost use Rattle.figures.specs.Buckets.{allEmpty};
-ghost use Rattle.recorder.specs.Recorders.{recorderOf, emptyRecorder, started, Touched, TouchedAll, Figured};
+ghost use Rattle.recorder.specs.Recorders.{recorderOf, emptyRecorder, started, Touched, TouchedAll, Rested, Figured};
 
-// A recorder by value: the head of its sheet, how many references were taken, the table of last touches, the buckets, Q and V.
+// A recorder by value: the head of its sheet, how many steps were taken, the table of last touches, the buckets, Q and V.
 pub struct Recorder {
     pub head: Head,
-    pub refs: usize,
+    pub steps: usize,
     pub last: [u16; Sheet::MAX_SEGS],
     pub buckets: [Bucket; Tally::BUCKETS],
     pub cost: u64,
     pub volume: u64,
 }
 
-// What a touch answers, of one reference or of several: the recorder with them taken, or the refusal and the recorder as it was.
+// What a touch answers, of one reference or of several, and an idle step: the recorder with them taken, or the refusal and the recorder
+// as it was.
 pub struct TouchAnswer {
     pub verdict: Verdict,
     pub recorder: Recorder,
 }
 
-// A head, and no reference taken yet.
+// A head, and no step taken yet.
 fn begin(head: Head) -> Recorder
-    ensures { λ r. ⌜ r ≡ record { head = head; refs = 0; last = allUntouched; buckets = allEmpty; cost = 0; volume = 0 } ⌝ }
+    ensures { λ r. ⌜ r ≡ record { head = head; steps = 0; last = allUntouched; buckets = allEmpty; cost = 0; volume = 0 } ⌝ }
 {
     let last = model::untouched();
     let buckets = figures::pass::empty_buckets();
     Recorder {
         head: head,
-        refs: 0,
+        steps: 0,
         last: last,
         buckets: buckets,
         cost: 0,
@@ -59,7 +60,7 @@ impl Recorder {
         begin(head)
     }
 
-    // From a sheet's head, with no references.
+    // From a sheet's head, with no steps.
     pub fn start(sheet: Sheet) -> Recorder
         ensures { λ r. ⌜ ((v : SheetValue) → Valid v → sheet ≡ sheetOf v → r ≡ recorderOf (started v)) ⌝ }
     {
@@ -67,7 +68,7 @@ impl Recorder {
         begin(head)
     }
 
-    // Takes one reference: 4 for a segment not below segs, then 13 where there are 2,048 references.
+    // Takes one reference: 4 for a segment not below segs, then 13 where there are 2,048 steps.
     pub fn touch(self, segment: usize) -> TouchAnswer
         ensures { λ r. ⌜ Touched self segment r ⌝ }
     {
@@ -79,7 +80,7 @@ impl Recorder {
                 recorder: self,
             };
         }
-        if Sheet::MAX_REFS <= self.refs {
+        if Sheet::MAX_STEPS <= self.steps {
             return TouchAnswer {
                 verdict: Verdict::Refused(Refusal::RecorderFull),
                 recorder: self,
@@ -97,7 +98,7 @@ impl Recorder {
     {
         let head = self.head;
         let segs = guards::least(head.segs, Sheet::MAX_SEGS);
-        let verdict = taking::acceptable(refs, segs, self.refs);
+        let verdict = taking::acceptable(refs, segs, self.steps);
         if let Verdict::Refused(why) = verdict {
             return TouchAnswer {
                 verdict: Verdict::Refused(why),
@@ -107,6 +108,25 @@ impl Recorder {
         TouchAnswer {
             verdict: Verdict::Accepted,
             recorder: taking::take_all(self, refs),
+        }
+    }
+
+    // Takes one step without a touch: 13 where there are 2,048 steps.
+    pub fn idle(mut self) -> TouchAnswer
+        ensures { λ r. ⌜ Rested self r ⌝ }
+    {
+        let t = self.steps;
+        let step = taking::idle_verdict(t);
+        if let Verdict::Refused(why) = step {
+            return TouchAnswer {
+                verdict: Verdict::Refused(why),
+                recorder: self,
+            };
+        }
+        self.steps = t + 1;
+        TouchAnswer {
+            verdict: Verdict::Accepted,
+            recorder: self,
         }
     }
 

@@ -46,10 +46,10 @@ fn summable(cost: u64, volume: u64, all: Bucket, kept: Bucket, ends: Bucket) -> 
     if guards::RETENTION < volume {
         return false;
     }
-    if !guards::holds(all, guards::REFS) {
+    if !guards::holds(all, guards::STEPS) {
         return false;
     }
-    if !guards::holds(kept, guards::REFS) {
+    if !guards::holds(kept, guards::STEPS) {
         return false;
     }
     if !guards::holds(ends, guards::SEGS) {
@@ -63,16 +63,16 @@ fn row_of(
     kind: Kind,
     a: u8,
     row: PriceRow,
-    refs: usize,
+    steps: usize,
     cost: u64,
     volume: u64,
     all: Bucket,
     kept: Bucket,
     ends: Bucket,
 ) -> RowFigures
-    ensures { λ r. ⌜ (RowFits kind row refs cost volume all kept ends → r ≡ rowFrom kind a row refs cost volume all kept ends) ⌝ }
+    ensures { λ r. ⌜ (RowFits kind row steps cost volume all kept ends → r ≡ rowFrom kind a row steps cost volume all kept ends) ⌝ }
 {
-    if Sheet::MAX_REFS < refs {
+    if Sheet::MAX_STEPS < steps {
         return RowFigures::zero();
     }
     if row.d == 0 {
@@ -84,7 +84,7 @@ fn row_of(
     if OCCUPANCY <= occupancy(kind, row, cost, volume, all, kept, ends) {
         return RowFigures::zero();
     }
-    figures::rows::row_figures(kind, a, row, refs, cost, volume, all, kept, ends)
+    figures::rows::row_figures(kind, a, row, steps, cost, volume, all, kept, ends)
 }
 
 // The buckets of the end intervals at this moment.
@@ -96,7 +96,7 @@ fn ends_now(recorder: Recorder) -> [Bucket; Tally::BUCKETS]
     let a = head.a;
     let rows = guards::least(head.rows, Sheet::MAX_ROWS);
     let segs = guards::least(head.segs, Sheet::MAX_SEGS);
-    let steps = guards::least(recorder.refs, Sheet::MAX_REFS) as u16;
+    let steps = guards::least(recorder.steps, Sheet::MAX_STEPS) as u16;
     let prices = head.prices;
     let all_sizes = head.sizes;
     let last = recorder.last;
@@ -123,7 +123,7 @@ pub fn row_now(recorder: Recorder, row: usize) -> RowFigures
         kind,
         head.a,
         prices[row],
-        recorder.refs,
+        recorder.steps,
         recorder.cost,
         recorder.volume,
         all,

@@ -1,4 +1,4 @@
-// Taking references: one, or several in one loop over local arrays.
+// Taking references: one, or several in one loop over local arrays; and the verdict on an idle step.
 // Nothing is assumed.
 use crate::Recorder;
 use figures::Tally;
@@ -11,15 +11,15 @@ ghost use mathlib.Core.Path.{_≡_};
 ghost use Prim.Native.Nat.{_<_, min};
 ghost use mathlib.Core.List.{[]};
 ghost use lib.ListN.{length};
-ghost use Rattle.model.specs.Sheets.{SheetValue, Valid, mostRefs, mostSegs};
+ghost use Rattle.model.specs.Sheets.{SheetValue, Valid, mostSteps, mostSegs};
 ghost use Rattle.model.specs.declared.Verdict.the-variants.{Accepted};
 ghost use Rattle.figures.specs.inner.Pass.{Passable};
 ghost use Rattle.recorder.specs.inner.Passes.{Continued};
-ghost use Rattle.recorder.specs.Recorders.{recorderOf, appended, taken, refsVerdict, touchAllVerdict};
+ghost use Rattle.recorder.specs.Recorders.{recorderOf, appended, taken, stepVerdict, refsVerdict, touchAllVerdict};
 
 // The recorder with one more reference.
 pub fn take_one(mut recorder: Recorder, segment: usize) -> Recorder
-    requires { ⌜ (segment < min (recorder .head .segs) mostSegs) × (recorder .refs < mostRefs) ⌝ }
+    requires { ⌜ (segment < min (recorder .head .segs) mostSegs) × (recorder .steps < mostSteps) ⌝ }
     ensures { λ r. ⌜ ((v : SheetValue) → Valid v → recorder ≡ recorderOf v → r ≡ recorderOf (taken v segment)) ⌝ }
 {
     let head = recorder.head;
@@ -28,20 +28,30 @@ pub fn take_one(mut recorder: Recorder, segment: usize) -> Recorder
     let prices = head.prices;
     let rows = guards::least(head.rows, Sheet::MAX_ROWS);
     let z = sizes[segment];
-    let t = recorder.refs;
+    let t = recorder.steps;
     let mut x = figures::pass::touch_of(kind, head.a, z, recorder.last[segment], t as u16);
     let k = search::bucket(prices, rows, x.reuse, x.retention, x.swap);
     x.bucket = k;
     let b = recorder.buckets[k];
     recorder.buckets[k] = guards::file(b, x);
     recorder.last[segment] = (t + 1) as u16;
-    recorder.refs = t + 1;
+    recorder.steps = t + 1;
     recorder.cost = guards::more(recorder.cost, model::unit_cost(kind, z));
     recorder.volume = guards::more(recorder.volume, guards::wide(z));
     recorder
 }
 
-// The verdict on references after `count` others: that of the first that would be refused.
+// The verdict on an idle step after so many steps: 13 where there are 2,048.
+pub fn idle_verdict(steps: usize) -> Verdict
+    ensures { λ r. ⌜ r ≡ stepVerdict steps ⌝ }
+{
+    if steps < Sheet::MAX_STEPS {
+        return Verdict::Accepted;
+    }
+    Verdict::Refused(Refusal::RecorderFull)
+}
+
+// The verdict on references after `count` steps: that of the first that would be refused.
 pub fn acceptable(refs: &[u16], segs: usize, count: usize) -> Verdict
     ensures { λ r. ⌜ r ≡ refsVerdict segs count (now (refs .entry)) ⌝ }
 {
@@ -50,7 +60,7 @@ pub fn acceptable(refs: &[u16], segs: usize, count: usize) -> Verdict
         if segs <= refs[n] as usize {
             return Verdict::Refused(Refusal::OutOfRange);
         }
-        if Sheet::MAX_REFS - n <= count {
+        if Sheet::MAX_STEPS - n <= count {
             return Verdict::Refused(Refusal::RecorderFull);
         }
         n += 1;
@@ -58,7 +68,7 @@ pub fn acceptable(refs: &[u16], segs: usize, count: usize) -> Verdict
     Verdict::Accepted
 }
 
-// What the pass has after these references, from what it has after `count` others.
+// What the pass has after these references, from what it has after `count` steps.
 fn pass_on(head: Head, from: Passed, count: usize, refs: &[u16]) -> Passed
     requires { ⌜ Passable from (min (head .segs) mostSegs) count (length (now refs)) ⌝ }
     ensures { λ r. ⌜ Continued head from count (now (refs .entry)) r ⌝ }
@@ -95,13 +105,13 @@ pub fn take_all(recorder: Recorder, refs: &[u16]) -> Recorder
         buckets: buckets,
         last: last,
     };
-    let passed = pass_on(head, from, recorder.refs, refs);
+    let passed = pass_on(head, from, recorder.steps, refs);
     let next = passed.buckets;
     let table = passed.last;
     let all = guards::sum_first(next, Tally::BUCKETS);
     Recorder {
         head: head,
-        refs: recorder.refs + refs.len(),
+        steps: recorder.steps + refs.len(),
         last: table,
         buckets: next,
         cost: figures::rows::by_kind(kind, all.count, all.volume),

@@ -9,7 +9,7 @@ use lib.Dec.{leb}
 use lib.ListN.{length, drop, getD}
 use borrow.Author.Tests.{leb-true}
 use Rattle.model.specs.Rows.{zeroFigures}
-use Rattle.model.specs.Sheets.{SheetValue, mostRows}
+use Rattle.model.specs.Sheets.{SheetValue, newestForm, mostRows}
 use Rattle.model.specs.declared.RowFigures.{RowFigures}
 use Rattle.sheet.specs.Reading.{Outcome, accepted, rejected, readSheet}
 use Rattle.sheet.proofs.Accepted.{accepted-valid}
@@ -55,7 +55,7 @@ module _ (v : SheetValue) (most : length (v .head .rows) ≤ mostRows) (list : L
 module _ (s : List ℕ) (list : List RowFigures) where
   counted-on : (o : Outcome) → readSheet s ≡ o → Counted (onSheet o noRecords (λ v. recordsFor v (length list))) list
   unfolding noRecords
-  counted-on (accepted v) e = sheet-counted v (accepted-valid s v e .rows .rows-within) list _ refl
+  counted-on (accepted v) e = sheet-counted v (accepted-valid 1 newestForm (omega arith) s v e .rows .rows-within) list _ refl
   counted-on (rejected q) e = record { within = omega arith; most = omega arith }
 
   pub found-counted : Counted (recordsFound s (length list)) list
@@ -64,7 +64,7 @@ module _ (s : List ℕ) (list : List RowFigures) where
 
   answer-on : (o : Outcome) → readSheet s ≡ o → onSheet o noRecords (λ v. recordsFor v (length list)) .answer ≡ listAnswer s list
   unfolding noRecords listAnswer
-  answer-on (accepted v) e = rw e (sheet-answer v (accepted-valid s v e .rows .rows-within) list _ refl)
+  answer-on (accepted v) e = rw e (sheet-answer v (accepted-valid 1 newestForm (omega arith) s v e .rows .rows-within) list _ refl)
   answer-on (rejected q) e = rw e
 
   -- what is answered
@@ -74,7 +74,7 @@ module _ (s : List ℕ) (list : List RowFigures) where
 
   after-on : (o : Outcome) → readSheet s ≡ o → written (onSheet o noRecords (λ v. recordsFor v (length list))) list ≡ listAfter s list
   unfolding noRecords listAfter
-  after-on (accepted v) e = rw e (sheet-after v (accepted-valid s v e .rows .rows-within) list _ refl)
+  after-on (accepted v) e = rw e (sheet-after v (accepted-valid 1 newestForm (omega arith) s v e .rows .rows-within) list _ refl)
   after-on (rejected q) e = rw e (sym (front-none _ list))
 
   -- the list afterwards

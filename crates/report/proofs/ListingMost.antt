@@ -1,10 +1,12 @@
--- The listing of an accepted sheet has at most 11,547 bytes: how many digits each figure can have. Assumes nothing.
-use Prim.Native.Nat.{ℕ, suc, _+_, _*_, _^_, _≤_, _<_}
+-- The listing of an accepted sheet has at most 11,558 bytes: how many digits each figure can have. Assumes nothing.
+use Prim.Native.Nat.{ℕ, zero, suc, _+_, _*_, _^_, _≤_, _<_}
 use mathlib.Core.Path.{_≡_}
-use mathlib.Core.List.{List}
+use mathlib.Core.Bool.{Bool, true, false, cond}
+use mathlib.Core.List.{List, []}
 use mathlib.Core.Option.{Option, none}
 use native.Mathlib.Omega.{arith}
 use lib.ListN.{length}
+use lib.Dec.{leb, ltb}
 use lib.Seq.{take-all}
 use Rattle.decimal.specs.Decimal.{written}
 use Rattle.decimal.proofs.Written.{written-length}
@@ -12,18 +14,20 @@ use Rattle.model.specs.Figures.{load, optmem, opttotal}
 use Rattle.model.specs.Refusals.{numberOf}
 use Rattle.model.specs.Rows.{rowFigures, zeroFigures}
 use Rattle.model.specs.Sheets.{SheetValue, Valid, traceOf, rowAt}
-use Rattle.model.specs.Traces.{steps}
+use Rattle.model.specs.Traces.{Trace, segs, steps, entry, refsBy, refsOf}
 use Rattle.model.specs.declared.Refusal.{Refusal}
 use Rattle.model.specs.declared.RowFigures.{RowFigures}
 use Rattle.model.proofs.Bounds.{product-within}
+use Rattle.model.proofs.References.{refs-none, refs-next}
 use Rattle.lines.specs.Texts.{numberText}
 use Rattle.lines.proofs.Lengths.{line-length}
 use Rattle.lines.proofs.Runs.{each-of, lines-length}
 use Rattle.model.specs.Sums.{tabulate}
 use Rattle.figures.specs.Rows.{figuresAt}
 use Rattle.model.proofs.Tables.{length-tabulate, getD-tabulate}
-use Rattle.report.specs.Listing.{hKey, dKey, missesKey, volumeKey, loadKey, optmemKey, opttotalKey, optoccKey, wsmemKey, wsoccKey, meanKey, refusedKey, refusedText, rowListing, mostListing, listingOf}
-use Rattle.lines.specs.Keys.{refsKey, segsKey, rowsKey}
+use Rattle.report.specs.Listing.{hKey, dKey, missesKey, volumeKey, loadKey, optmemKey, opttotalKey, optoccKey, wsmemKey, wsoccKey, meanKey}
+use Rattle.report.specs.Listing.{refusedKey, refusedText, rowListing, stepsListing, mostListing, listingOf}
+use Rattle.lines.specs.Keys.{refsKey, stepsKey, segsKey, rowsKey}
 use Rattle.bounds.proofs.FigureBounds.{
   allSizes,
   optmem-within,
@@ -35,7 +39,7 @@ use Rattle.bounds.proofs.FigureBounds.{
   volume-within,
   sizes-within,
 }
-use Rattle.report.proofs.ListingParts.{three-length, row-length, rows-listing, listing-length}
+use Rattle.report.proofs.ListingParts.{three-length, row-length, rows-listing, counts-length, head-length, listing-length}
 
 -- the digits that the figures of a row can have
 pub record Digits (f : RowFigures) : Type 0 where
@@ -55,10 +59,28 @@ pub record Digits (f : RowFigures) : Type 0 where
 line-most : (key : List ℕ) (k n : ℕ) → n < 10 ^ suc k → length (numberText key n) ≤ length key + (suc k + 1)
 line-most key k n h = rw (line-length key (written n)) (omega (arith, written-length k n h))
 
+-- steps= of at most 9,999 steps
+steps-most : (form n : ℕ) → n < 10 ^ 4 → length (stepsListing form n) ≤ 11
+unfolding stepsListing
+steps-most form n h = go (leb 2 form)
+  where
+    go : (b : Bool) → length (cond b (numberText stepsKey n) []) ≤ 11
+    go true = omega (arith, line-most stepsKey 3 n h)
+    go false = omega arith
+
+-- there are no more references than steps
+refs-most : (T : Trace) (t : ℕ) → refsBy T t ≤ t
+refs-most T zero = omega (arith, refs-none T)
+refs-most T (suc t) = omega (arith, refs-most T t, refs-next T t, one (ltb (entry T t) (segs T)))
+  where
+    one : (b : Bool) → cond {A = ℕ} b 1 0 ≤ 1
+    one true = omega arith
+    one false = omega arith
+
 -- the line of a refusal with one digit has fewer than a listing
-pub refused-most : (q : Refusal) → numberOf q < 10 → length (refusedText q) ≤ mostListing
+pub refused-most : (q : Refusal) → numberOf q < 100 → length (refusedText q) ≤ mostListing
 unfolding refusedText
-refused-most q h = omega (arith, line-most refusedKey 0 (numberOf q) h)
+refused-most q h = omega (arith, line-most refusedKey 1 (numberOf q) h)
 
 -- a row has at most 180 bytes
 row-most : (f : RowFigures) → Digits f → length (rowListing f) ≤ 180
@@ -91,25 +113,25 @@ module _ (v : SheetValue) (c : Valid v) where
       let h = rowAt v r .h in
       let d = rowAt v r .d in
       let S = sizes-within T (c .run) h d in
-      let held : steps T * (1 * allSizes T) ≤ 2048 * 1048320 = product-within (steps T) (1 * allSizes T) 2048 1048320 (c .run .refs-within) (omega arith) in
+      let held : steps T * (1 * allSizes T) ≤ 2048 * 1048320 = product-within (steps T) (1 * allSizes T) 2048 1048320 (c .run .steps-within) (omega arith) in
       let dS = product-within d (allSizes T) 65535 1048320 (c .rows .d-within r lt) (omega arith) in
       let priced : steps T * (d * allSizes T) ≤ 2048 * (65535 * 1048320) =
-      product-within (steps T) (d * allSizes T) 2048 (65535 * 1048320) (c .run .refs-within) dS in
+      product-within (steps T) (d * allSizes T) 2048 (65535 * 1048320) (c .run .steps-within) dS in
       let m = misses-within T (c .run) h d in
       let l = product-within (v .head .a) _ 255 (2048 * 4095) (c .run .a-within) (volume-within T (c .run) h d) in
       let M = optmem-within T (c .run) h d in
       record {
         h-digits = omega (arith, c .rows .h-within r lt);
         d-digits = omega (arith, c .rows .d-within r lt);
-        misses-digits = omega (arith, c .run .refs-within);
+        misses-digits = omega (arith, c .run .steps-within);
         volume-digits = omega (arith, volume-within T (c .run) h d);
-        load-digits = omega (arith, c .run .refs-within);
+        load-digits = omega (arith, c .run .steps-within);
         optmem-digits = omega arith;
         opttotal-digits =
             omega (
               arith,
               product-within d (optmem T h d) 65535 2146959360 (c .rows .d-within r lt) (omega arith),
-              product-within h (load T h d) 65535 2138574848 (c .rows .h-within r lt) (omega (arith, c .run .refs-within)),
+              product-within h (load T h d) 65535 2138574848 (c .rows .h-within r lt) (omega (arith, c .run .steps-within)),
             );
         optocc-digits = omega (arith, optocc-within T (c .run) h d);
         wsmem-digits = omega (arith, wsmem-within T (c .run) h d);
@@ -122,6 +144,8 @@ module _ (v : SheetValue) (c : Valid v) where
   unfolding listingOf
   listing-most =
       let fs = tabulate (length (v .head .rows)) (figuresAt v) in
+      let refs = refsOf (traceOf v) in
+      let segs = length (v .head .sizes) in
       let n : length fs ≡ length (v .head .rows) = length-tabulate (length (v .head .rows)) (figuresAt v) in
       let rows =
       lines-length rowListing Fits 0 180 (λ prev f w. (omega arith, row-most f w)) none fs
@@ -130,11 +154,14 @@ module _ (v : SheetValue) (c : Valid v) where
         arith,
         rows,
         c .rows .rows-within,
-        line-most refsKey 3 (length (v .refs)) (omega (arith, c .run .refs-within)),
-        line-most segsKey 2 (length (v .head .sizes)) (omega (arith, c .run .segs-within)),
+        line-most refsKey 3 refs (omega (arith, refs-most (traceOf v) (length (v .refs)), c .run .steps-within)),
+        steps-most (v .form) (length (v .refs)) (omega (arith, c .run .steps-within)),
+        line-most segsKey 2 segs (omega (arith, c .run .segs-within)),
         line-most rowsKey 1 (length fs) (omega (arith, c .rows .rows-within)),
-        three-length refsKey (length (v .refs)) segsKey (length (v .head .sizes)) rowsKey (length fs),
-        rw (take-all (length fs) fs (omega arith), rows-listing fs) at (listing-length (length (v .refs)) (length (v .head .sizes)) (length fs) fs (omega arith)),
+        counts-length (v .form) refs (length (v .refs)),
+        head-length (v .form) refs (length (v .refs)) segs (length fs),
+        rw (take-all (length fs) fs (omega arith), rows-listing fs)
+            at (listing-length (v .form) refs (length (v .refs)) segs (length fs) fs (omega arith)),
       )
     where
       Fits : Option RowFigures → RowFigures → Type 0

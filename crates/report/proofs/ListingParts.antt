@@ -1,24 +1,27 @@
 -- The listing in the parts in which it is written, and the lengths of the parts. Assumes nothing.
 use Prim.Native.Nat.{ℕ, _+_, _≤_}
-use mathlib.Core.Path.{_≡_, refl}
-use mathlib.Core.List.{List, [], _∷_, _++_, append-assoc}
+use mathlib.Core.Path.{_≡_, refl, ap, _∙_}
+use mathlib.Core.Bool.{true, false}
+use mathlib.Core.List.{List, [], _∷_, _++_, append-assoc, append-nil}
 use lib.ListN.{length, take, length-append}
+use lib.Dec.{leb}
 use lib.Seq.{length-take-le}
 use Rattle.model.specs.declared.RowFigures.{RowFigures}
 use Rattle.lines.specs.Texts.{numberText}
 use Rattle.lines.specs.Texts.{linesText}
-use Rattle.report.specs.Listing.{hKey, dKey, missesKey, volumeKey, loadKey, optmemKey, opttotalKey, optoccKey, wsmemKey, wsoccKey, meanKey, rowListing, rowsListing, listing}
-use Rattle.lines.specs.Keys.{refsKey, segsKey, rowsKey}
-use Rattle.report.specs.inner.Parts.{threeText}
+use Rattle.report.specs.Listing.{hKey, dKey, missesKey, volumeKey, loadKey, optmemKey, opttotalKey, optoccKey, wsmemKey, wsoccKey, meanKey, rowListing, rowsListing, stepsListing, listing}
+use Rattle.lines.specs.Keys.{refsKey, stepsKey, segsKey, rowsKey}
+use Rattle.report.specs.inner.Parts.{threeText, countsText, headText}
+
+-- three texts one after another
+three-texts : (a b c : List ℕ) → length (a ++ (b ++ c)) ≡ length a + (length b + length c)
+three-texts a b c = simp length-append
 
 -- three lines
 pub three-length : (k : List ℕ) (x : ℕ) (l : List ℕ) (y : ℕ) (m : List ℕ) (z : ℕ) → length (threeText k x l y m z)
     ≡ length (numberText k x) + (length (numberText l y) + length (numberText m z))
 unfolding threeText
-three-length k x l y m z = three (numberText k x) (numberText l y) (numberText m z)
-  where
-    three : (a b c : List ℕ) → length (a ++ (b ++ c)) ≡ length a + (length b + length c)
-    three a b c = simp length-append
+three-length k x l y m z = three-texts (numberText k x) (numberText l y) (numberText m z)
 
 -- misses=, volume= and load=
 abbrev pub faultsText : RowFigures → List ℕ
@@ -54,21 +57,45 @@ unfolding rowsListing linesText
 rows-listing [] = refl
 rows-listing (f ∷ fs) = rw (rows-listing fs)
 
--- refs=, segs= and rows=
-abbrev pub headText : ℕ → ℕ → ℕ → List ℕ
-headText refs segs rows = threeText refsKey refs segsKey segs rowsKey rows
+module _ (form refs steps : ℕ) where
+  -- refs= and steps= for form 2 on, and refs= alone for form 1
+  pub counts-with : leb 2 form ≡ true → countsText form refs steps ≡ numberText refsKey refs ++ numberText stepsKey steps
+  unfolding countsText stepsListing
+  counts-with e = rw e
 
--- the listing of the first n rows
-pub listing-parts : (refs segs n : ℕ) (fs : List RowFigures) → n ≤ length fs
-    → headText refs segs n ++ rowsListing (take n fs) ≡ listing refs segs (take n fs)
-unfolding listing threeText
-listing-parts refs segs n fs h =
-    rw (length-take-le n fs h) (four (numberText refsKey refs) (numberText segsKey segs) (numberText rowsKey n) (rowsListing (take n fs)))
-  where
-    four : (a b c d : List ℕ) → (a ++ (b ++ c)) ++ d ≡ a ++ (b ++ (c ++ d))
-    four a b c d = simp append-assoc
+  pub counts-with-length : leb 2 form ≡ true
+      → length (countsText form refs steps) ≡ length (numberText refsKey refs) + length (numberText stepsKey steps)
+  counts-with-length e = ap length (counts-with e) ∙ length-append (numberText refsKey refs) (numberText stepsKey steps)
 
--- and its length
-pub listing-length : (refs segs n : ℕ) (fs : List RowFigures) → n ≤ length fs
-    → length (listing refs segs (take n fs)) ≡ length (headText refs segs n) + length (rowsListing (take n fs))
-listing-length refs segs n fs h = rw (← listing-parts refs segs n fs h) (length-append (headText refs segs n) (rowsListing (take n fs)))
+  pub counts-without : leb 2 form ≡ false → countsText form refs steps ≡ numberText refsKey refs
+  unfolding countsText stepsListing
+  counts-without e = rw e (append-nil (numberText refsKey refs))
+
+  -- and the length for any form
+  pub counts-length : length (countsText form refs steps) ≡ length (numberText refsKey refs) + length (stepsListing form steps)
+  unfolding countsText
+  counts-length = length-append (numberText refsKey refs) (stepsListing form steps)
+
+  module _ (segs : ℕ) where
+    -- the head
+    pub head-length : (rows : ℕ) → length (headText form refs steps segs rows)
+        ≡ length (countsText form refs steps) + (length (numberText segsKey segs) + length (numberText rowsKey rows))
+    unfolding headText
+    head-length rows = three-texts (countsText form refs steps) (numberText segsKey segs) (numberText rowsKey rows)
+
+    module _ (n : ℕ) (fs : List RowFigures) (h : n ≤ length fs) where
+      -- the listing of the first n rows
+      pub listing-parts : headText form refs steps segs n ++ rowsListing (take n fs) ≡ listing form refs steps segs (take n fs)
+      unfolding listing headText countsText
+      listing-parts =
+          rw (length-take-le n fs h)
+          (five (numberText refsKey refs) (stepsListing form steps) (numberText segsKey segs) (numberText rowsKey n)
+          (rowsListing (take n fs)))
+        where
+          five : (a b c d e : List ℕ) → ((a ++ b) ++ (c ++ d)) ++ e ≡ a ++ (b ++ (c ++ (d ++ e)))
+          five a b c d e = simp append-assoc
+
+      -- and its length
+      pub listing-length : length (listing form refs steps segs (take n fs))
+          ≡ length (headText form refs steps segs n) + length (rowsListing (take n fs))
+      listing-length = rw (← listing-parts) (length-append (headText form refs steps segs n) (rowsListing (take n fs)))

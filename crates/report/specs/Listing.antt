@@ -1,12 +1,15 @@
--- The listing as text: one item a line, key=number and a line feed, in document 01's order. Assumes nothing.
+-- The listing as text: one item a line, key=number and a line feed, in document 01's order, with steps= of request F-3. Assumes nothing.
 use Prim.Native.Nat.{ℕ}
+use mathlib.Core.Bool.{cond}
 use mathlib.Core.List.{List, [], _∷_, _++_}
 use lib.ListN.{length}
+use lib.Dec.{leb}
 use Rattle.model.specs.Refusals.{numberOf}
-use Rattle.model.specs.Sheets.{SheetValue}
+use Rattle.model.specs.Sheets.{SheetValue, traceOf}
+use Rattle.model.specs.Traces.{refsOf}
 use Rattle.model.specs.declared.Refusal.{Refusal}
 use Rattle.model.specs.declared.RowFigures.{RowFigures}
-use Rattle.lines.specs.Keys.{refsKey, segsKey, rowsKey}
+use Rattle.lines.specs.Keys.{refsKey, stepsKey, segsKey, rowsKey}
 use Rattle.lines.specs.Texts.{numberText}
 use Rattle.model.specs.Sums.{tabulate}
 use Rattle.figures.specs.Rows.{figuresAt}
@@ -79,18 +82,24 @@ unfoldable pub rowsListing : List RowFigures → List ℕ
 rowsListing [] = []
 rowsListing (f ∷ fs) = rowListing f ++ rowsListing fs
 
--- the listing: refs=, segs=, rows=, then the lines of every row
-unfoldable pub listing : ℕ → ℕ → List RowFigures → List ℕ
-listing refs segs fs =
-    numberText refsKey refs ++ (numberText segsKey segs ++ (numberText rowsKey (length fs) ++ rowsListing fs))
+-- steps=, for form 2 on
+unfoldable pub stepsListing : ℕ → ℕ → List ℕ
+stepsListing form steps = cond (leb 2 form) (numberText stepsKey steps) []
 
--- the listing of a sheet
+-- the listing: refs=, for form 2 on steps= after it, segs=, rows=, then the lines of every row
+unfoldable pub listing : ℕ → ℕ → ℕ → ℕ → List RowFigures → List ℕ
+listing form refs steps segs fs =
+    numberText refsKey refs
+    ++ (stepsListing form steps ++ (numberText segsKey segs ++ (numberText rowsKey (length fs) ++ rowsListing fs)))
+
+-- the listing of a sheet: refs= is the number of its references, steps= that of its steps
 unfoldable pub listingOf : SheetValue → List ℕ
-listingOf v = listing (length (v .refs)) (length (v .head .sizes)) (tabulate (length (v .head .rows)) (figuresAt v))
+listingOf v =
+    listing (v .form) (refsOf (traceOf v)) (length (v .refs)) (length (v .head .sizes)) (tabulate (length (v .head .rows)) (figuresAt v))
 
--- no listing of an accepted sheet has more bytes: 64 rows, each figure with as many digits as it can have
+-- no listing of an accepted sheet has more bytes: form 2, 64 rows, each figure with as many digits as it can have
 abbrev pub mostListing : ℕ
-mostListing = 11547
+mostListing = 11558
 
 -- what is printed for a refusal
 unfoldable pub refusedText : Refusal → List ℕ

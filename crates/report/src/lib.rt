@@ -11,16 +11,16 @@ use model::Sheet;
 use model::Verdict;
 ghost use mathlib.Core.Path.{_≡_};
 ghost use Prim.Native.Nat.{_+_, _≤_};
-ghost use lib.Dec.{ltb};
+ghost use lib.Dec.{leb, ltb};
 ghost use lib.ListN.{length, take};
 ghost use Rattle.model.specs.Sheets.{mostRows};
 ghost use Rattle.model.specs.Places.{gives, PlaceLeft};
 ghost use Rattle.lines.specs.Puts.{Put};
 ghost use Rattle.report.specs.Listing.{rowListing, rowsListing, listing, mostListing, refusedText};
-ghost use Rattle.report.specs.inner.Parts.{threeText};
+ghost use Rattle.report.specs.inner.Parts.{threeText, countsText, headText};
 
 // The most bytes of the listing of a sheet.
-pub const MAX_BYTES: usize = 11547;
+pub const MAX_BYTES: usize = 11558;
 
 // ---- lengths
 
@@ -72,28 +72,50 @@ fn rows_length(figures: [RowFigures; Sheet::MAX_ROWS], n: usize) -> usize
     sum
 }
 
+// Whether the listing of a sheet of this form has steps=: from form 2 on.
+fn has_steps(form: u8) -> bool
+    ensures { λ r. ⌜ r ≡ leb 2 form ⌝ }
+{
+    2 <= form
+}
+
+// The length of refs= and, where the form has it, steps=.
+fn counts_length(form: u8, refs: usize, steps: usize) -> usize
+    ensures { λ r. ⌜ (r ≡ length (countsText form refs steps)) × (r ≤ 60) ⌝ }
+{
+    let first = number_length(b"refs=", refs as u64);
+    if has_steps(form) {
+        return first + number_length(b"steps=", steps as u64);
+    }
+    first
+}
+
+// The length of the lines before those of the rows.
+fn head_length(form: u8, refs: usize, steps: usize, segs: usize, rows: usize) -> usize
+    ensures { λ r. ⌜ (r ≡ length (headText form refs steps segs rows)) × (r ≤ 120) ⌝ }
+{
+    counts_length(form, refs, steps)
+        + number_length(b"segs=", segs as u64)
+        + number_length(b"rows=", rows as u64)
+}
+
 // Whether a place of `size` bytes is shorter than the listing. Its length is worked out only for a place that is shorter than the longest.
 fn too_short(
+    form: u8,
     refs: usize,
+    steps: usize,
     segs: usize,
     figures: [RowFigures; Sheet::MAX_ROWS],
     rows: usize,
     size: usize,
 ) -> bool
-    requires { ⌜ (rows ≤ mostRows) × (length (listing refs segs (take rows figures)) ≤ mostListing) ⌝ }
-    ensures { λ r. ⌜ r ≡ ltb size (length (listing refs segs (take rows figures))) ⌝ }
+    requires { ⌜ (rows ≤ mostRows) × (length (listing form refs steps segs (take rows figures)) ≤ mostListing) ⌝ }
+    ensures { λ r. ⌜ r ≡ ltb size (length (listing form refs steps segs (take rows figures))) ⌝ }
 {
     if MAX_BYTES <= size {
         return false;
     }
-    let head = three_length(
-        b"refs=",
-        refs as u64,
-        b"segs=",
-        segs as u64,
-        b"rows=",
-        rows as u64,
-    );
+    let head = head_length(form, refs, steps, segs, rows);
     size < head + rows_length(figures, rows)
 }
 
@@ -117,6 +139,28 @@ fn put_three(
     let second = put_number(k, x, out, at);
     let third = put_number(l, y, out, second);
     put_number(m, z, out, third)
+}
+
+// Writes refs= and, where the form has it, steps=, and gives the index after them.
+fn put_counts(form: u8, refs: usize, steps: usize, out: &mut [u8], at: usize) -> usize
+    requires { ⌜ at + length (countsText form refs steps) ≤ length (now out) ⌝ }
+    ensures { λ r. ⌜ Put (countsText form refs steps) at (now (out .entry)) r (now (out .exit)) ⌝ }
+{
+    let second = put_number(b"refs=", refs as u64, out, at);
+    if has_steps(form) {
+        return put_number(b"steps=", steps as u64, out, second);
+    }
+    second
+}
+
+// Writes the lines before those of the rows at the front of `out`, and gives the index after them.
+fn put_head(form: u8, refs: usize, steps: usize, segs: usize, rows: usize, out: &mut [u8]) -> usize
+    requires { ⌜ length (headText form refs steps segs rows) ≤ length (now out) ⌝ }
+    ensures { λ r. ⌜ Put (headText form refs steps segs rows) 0 (now (out .entry)) r (now (out .exit)) ⌝ }
+{
+    let third = put_counts(form, refs, steps, out, 0);
+    let fourth = put_number(b"segs=", segs as u64, out, third);
+    put_number(b"rows=", rows as u64, out, fourth)
 }
 
 // Writes the eleven lines of a row, and gives the index after them.
@@ -175,31 +219,24 @@ fn put_rows(figures: [RowFigures; Sheet::MAX_ROWS], n: usize, out: &mut [u8], at
 
 // ---- the listing
 
-// The listing of so many references, segments and rows into a lent place, then its old contents; refusal 11 and no change where the
-// place is shorter. It has no more bytes than that of an accepted sheet can have.
+// The listing of a form and so many references, steps, segments and rows into a lent place, then its old contents; refusal 11 and no
+// change where the place is shorter. It has no more bytes than that of an accepted sheet can have.
 pub fn write(
+    form: u8,
     refs: usize,
+    steps: usize,
     segs: usize,
     figures: [RowFigures; Sheet::MAX_ROWS],
     rows: usize,
     out: &mut [u8],
 ) -> PlaceAnswer
-    requires { ⌜ (rows ≤ mostRows) × (length (listing refs segs (take rows figures)) ≤ mostListing) ⌝ }
-    ensures { λ r. ⌜ PlaceLeft (gives (listing refs segs (take rows figures))) (now (out .entry)) (now (out .exit)) r ⌝ }
+    requires { ⌜ (rows ≤ mostRows) × (length (listing form refs steps segs (take rows figures)) ≤ mostListing) ⌝ }
+    ensures { λ r. ⌜ PlaceLeft (gives (listing form refs steps segs (take rows figures))) (now (out .entry)) (now (out .exit)) r ⌝ }
 {
-    if too_short(refs, segs, figures, rows, out.len()) {
+    if too_short(form, refs, steps, segs, figures, rows, out.len()) {
         return PlaceAnswer::refused(Refusal::PlaceTooShort);
     }
-    let first = put_three(
-        b"refs=",
-        refs as u64,
-        b"segs=",
-        segs as u64,
-        b"rows=",
-        rows as u64,
-        out,
-        0,
-    );
+    let first = put_head(form, refs, steps, segs, rows, out);
     let length = put_rows(figures, rows, out, first);
     PlaceAnswer {
         verdict: Verdict::Accepted,

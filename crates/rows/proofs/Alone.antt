@@ -4,14 +4,14 @@ use mathlib.Core.Path.{_≡_}
 use mathlib.Core.List.{List, [], _∷_}
 use native.Mathlib.Omega.{arith}
 use lib.ListN.{length, getD}
-use Rattle.model.specs.Sheets.{SheetValue, Valid, RowsWithin, rowIn, rowAt, largestPrice}
+use Rattle.model.specs.Sheets.{SheetValue, RowsWithin, rowIn, rowAt, largestPrice}
 use Rattle.model.specs.declared.PriceRow.{PriceRow}
 use Rattle.model.specs.declared.RowFigures.{RowFigures}
 use Rattle.figures.specs.Rows.{figuresAt, allFigures}
 use Rattle.rows.proofs.RowFigures.{figures-at}
 
 -- one of the rows alone is within the limits
-row-alone-within : (rows : List PriceRow) → RowsWithin rows → (r : ℕ) → r < length rows → RowsWithin (rowIn rows r ∷ [])
+pub row-alone-within : (rows : List PriceRow) → RowsWithin rows → (r : ℕ) → r < length rows → RowsWithin (rowIn rows r ∷ [])
 row-alone-within rows within r lt =
     record {
       some-rows = omega arith;
@@ -36,14 +36,12 @@ row-alone-within rows within r lt =
 
 -- a sheet with a row q alone
 abbrev pub withRow : SheetValue → PriceRow → SheetValue
-withRow v q = record { head = record { kind = v .head .kind; a = v .head .a; sizes = v .head .sizes; rows = q ∷ [] }; refs = v .refs }
+withRow v q =
+    record { form = v .form; head = record { kind = v .head .kind; a = v .head .a; sizes = v .head .sizes; rows = q ∷ [] }; refs = v .refs }
 
 -- with row r alone
 abbrev pub alone : SheetValue → ℕ → SheetValue
 alone v r = withRow v (rowAt v r)
-
-pub alone-valid : (v : SheetValue) → Valid v → (r : ℕ) → r < length (v .head .rows) → Valid (alone v r)
-alone-valid v valid r lt = record { rows = row-alone-within (v .head .rows) (valid .rows) r lt; run = valid .run }
 
 pub alone-figures : (v : SheetValue) (r : ℕ) (d : RowFigures) → getD (allFigures (alone v r)) 0 d ≡ figuresAt v r
 alone-figures v r d = figures-at (alone v r) 0 d (omega arith) (omega arith)

@@ -21,9 +21,9 @@ pub fn all_figures(s: Sheet) -> [RowFigures; Sheet::MAX_ROWS]
     ensures { λ r. ⌜ r ≡ allFigures (valueOf s) ⌝ }
 {
     let head = s.head;
-    let refs = s.refs;
+    let steps = s.steps;
     let touches = s.touches;
-    figures::figures(head, &touches[..refs])
+    figures::figures(head, &touches[..steps])
 }
 
 // No figures, and why.
@@ -54,9 +54,9 @@ pub fn row_alone(s: Sheet, row: usize) -> RowFigures
         rows: 1,
         prices: [price; Sheet::MAX_ROWS],
     };
-    let refs = s.refs;
+    let steps = s.steps;
     let touches = s.touches;
-    let only = figures::figures(alone, &touches[..refs]);
+    let only = figures::figures(alone, &touches[..steps]);
     only[0]
 }
 

@@ -24,10 +24,10 @@ pub const NO_SEGMENT: usize = Sheet::MAX_SEGS;
 const MASK_BYTES: usize = Schedule::STEP_BYTES * (Sheet::MAX_SEGS + 1);
 
 // No touch is kept.
-fn no_marks() -> [bool; Sheet::MAX_REFS]
+fn no_marks() -> [bool; Sheet::MAX_STEPS]
     ensures { λ r. ⌜ r ≡ noMarks ⌝ }
 {
-    [false; Sheet::MAX_REFS]
+    [false; Sheet::MAX_STEPS]
 }
 
 // The bytes of a step that holds no segment.
@@ -63,7 +63,7 @@ fn kept_marks(
     row: PriceRow,
     sizes: &[u16],
     refs: &[u16],
-) -> [bool; Sheet::MAX_REFS]
+) -> [bool; Sheet::MAX_STEPS]
     requires { ⌜ RunWithin (runOf kind a (now sizes) (now refs)) ⌝ }
     ensures { λ r. ⌜ KeptMarks (runOf kind a (now (sizes .entry)) (now (refs .entry))) row r ⌝ }
 {

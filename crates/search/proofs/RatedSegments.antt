@@ -12,7 +12,7 @@ use lib.ListN.{length, getD, set, replicate, length-set, length-replicate, getD-
 use lib.Seq.{getD-set-same, getD-set-other}
 use borrow.Author.Tests.{leb-true, leb-false, eqb-true, eqb-false, ne-eqb}
 use Rattle.model.specs.Costs.{unitCost, retention, swapCost}
-use Rattle.model.specs.Sheets.{mostSegs, mostRefs, largestA, largestSize}
+use Rattle.model.specs.Sheets.{mostSegs, mostSteps, largestA, largestSize}
 use Rattle.model.specs.declared.PriceRow.{PriceRow}
 use Rattle.model.specs.declared.Kind.{Kind}
 use Rattle.model.specs.declared.Kind.the-variants.{Time, Space}
@@ -37,13 +37,13 @@ units-within zero = omega (arith, units-none)
 units-within (suc a) = omega (arith, units-some (suc a) (omega arith))
 
 -- they are fine enough for every reuse of a sheet
-fine-units : (a z t : ℕ) → a ≤ largestA → z ≤ largestSize → t ≤ mostRefs → t * (swapCost a z * (2 ^ 16 - 1)) ≤ unitsFor a
+fine-units : (a z t : ℕ) → a ≤ largestA → z ≤ largestSize → t ≤ mostSteps → t * (swapCost a z * (2 ^ 16 - 1)) ≤ unitsFor a
 fine-units zero z t la lz lt = omega (arith, units-none)
 fine-units (suc a) z t la lz lt =
     omega (
       arith,
       units-some (suc a) (omega arith),
-      product-within t (swapCost (suc a) z) mostRefs (1 + largestA * largestSize) lt
+      product-within t (swapCost (suc a) z) mostSteps (1 + largestA * largestSize) lt
           (omega (arith, product-within (suc a) z largestA largestSize la lz)),
     )
 
@@ -72,7 +72,7 @@ rate-within Space (suc a) z lz = rw (units-some (suc a) (omega arith)) (go (leb 
 
 -- the bucket that the quotient of a touch or an end interval tells is that of the first row that keeps a reuse
 module _ (kind : Kind) (a : ℕ) (rows : List PriceRow) (qs : List ℕ) (quoted : Quoted (unitsFor a) rows qs) where
-  pub place-bucket : (z rate mark n k : ℕ) → a ≤ largestA → z ≤ largestSize → n ≤ mostRefs → rate ≡ rateOf kind a z
+  pub place-bucket : (z rate mark n k : ℕ) → a ≤ largestA → z ≤ largestSize → n ≤ mostSteps → rate ≡ rateOf kind a z
       → IsPlace qs (length rows) rate mark n k
       → IsBucket rows (isReuse (timeSince n mark)) (ofTime (retention kind z) (timeSince n mark)) (swapCost a z) k
   unfolding rateOf

@@ -1,25 +1,27 @@
 -- What is accepted is valid: the lines of a sheet ask of its value what the limits ask, and no more. Assumes nothing.
 use Prim.Native.Nat.{ℕ, zero, suc, _-_, _≤_, _<_}
-use mathlib.Core.Path.{_≡_, refl}
-use mathlib.Core.Bool.{true, _&&_}
+use mathlib.Core.Path.{_≡_, refl, sym, ap}
+use mathlib.Core.Logic.{_⊎_, inl}
+use mathlib.Core.Bool.{Bool, true, false, _&&_, false≢true}
 use mathlib.Core.List.{List, [], _∷_}
 use mathlib.Core.Option.{none}
 use native.Mathlib.Omega.{arith}
-use borrow.Author.Tests.{le-leb, leb-true, lt-ltb, ltb-true, ltb-false}
+use borrow.Author.Tests.{le-leb, leb-true, leb-false, lt-ltb, ltb-true, ltb-false}
 use lib.Dec.{leb, ltb}
-use lib.ListN.{length}
+use lib.ListN.{length, getD}
 use Rattle.decimal.proofs.Digits.{both}
-use Rattle.model.specs.Sheets.{SheetValue, Valid, rowAt, largestSize, largestPrice, mostBytes}
+use Rattle.model.specs.Sheets.{SheetValue, Valid, rowAt, idle, newestForm, formBytes, mostSteps, largestSize, largestPrice}
 use Rattle.model.specs.declared.PriceRow.{PriceRow}
 use Rattle.model.specs.declared.Refusal.{Refusal}
 use Rattle.model.specs.declared.Refusal.the-variants.{SheetTooLong}
 use Rattle.sheet.specs.Lines.{Parsed, read, refused}
 use Rattle.sheet.specs.Values.{above, inPrices}
-use Rattle.sheet.specs.Reading.{sheetLines, Outcome, accepted, rejected, atEnd, readSheet}
+use Rattle.sheet.specs.Reading.{sheetLines, namedForm, Outcome, accepted, rejected, atEnd, readForms}
 use Rattle.sheet.proofs.Parsing.{by-test}
 use Rattle.lines.proofs.Runs.{before, each-at, each-of}
 use Rattle.sheet.proofs.Words.{RowFits}
-use Rattle.sheet.proofs.SheetLines.{From, Readable, sheet-reads}
+use Rattle.sheet.proofs.SheetLines.{From, EntriesFit, Readable, sheet-reads}
+use Rattle.sheet.proofs.Touches.{EntryFits}
 
 -- ---- the prices of a row
 
@@ -40,16 +42,37 @@ within-prices h d a l u = rw (le-leb h largestPrice a, le-leb 1 d l, le-leb d la
 zeroRow : PriceRow
 zeroRow = record { h = 0; d = 0 }
 
+-- entries that fit are segments or idle
+entries-within : (later : Bool) (segs : ℕ) (xs : List ℕ) → 1 ≤ segs → EntriesFit later segs xs
+    → (length xs ≤ mostSteps) × ((t : ℕ) → t < length xs → (getD xs t segs < segs) ⊎ (getD xs t segs ≡ idle))
+entries-within true segs xs some (l, c) = (l, λ t lt. each-at (EntryFits segs) segs none xs c t lt)
+entries-within false segs xs some (l, c) = (l, λ t lt. inl (omega (arith, each-at (From 0 (segs - 1)) segs none xs c t lt .1)))
+
+-- those of form 1 are segments
+entries-whole : (later : Bool) (segs : ℕ) (xs : List ℕ) → later ≡ false → 1 ≤ segs → EntriesFit later segs xs
+    → (t : ℕ) → t < length xs → getD xs t segs < segs
+entries-whole true segs xs e some c t lt = absurd (false≢true (sym e))
+entries-whole false segs xs e some c t lt = omega (arith, each-at (From 0 (segs - 1)) segs none xs (c .1) t lt .1)
+
+-- and back
+within-entries : (later : Bool) (segs : ℕ) (xs : List ℕ) → length xs ≤ mostSteps
+    → ((t : ℕ) → t < length xs → (getD xs t segs < segs) ⊎ (getD xs t segs ≡ idle))
+    → (later ≡ false → (t : ℕ) → t < length xs → getD xs t segs < segs) → EntriesFit later segs xs
+within-entries true segs xs l f g = (l, each-of (EntryFits segs) segs none xs f)
+within-entries false segs xs l f g = (l, each-of (From 0 (segs - 1)) segs none xs (λ t lt. omega (arith, g refl t lt)))
+
 -- what the lines ask is all that the limits ask
-pub readable-valid : (v : SheetValue) → Readable v → Valid v
+pub readable-valid : (lo hi : ℕ) → hi ≤ newestForm → (v : SheetValue) → Readable lo hi v → Valid v
 unfolding zeroRow
-readable-valid v c =
+readable-valid lo hi new v c =
     let size = each-at (From 1 largestSize) 0 none (v .head .sizes) (c .sizes-fit) in
-    let touch = each-at (From 0 (length (v .head .sizes) - 1)) (length (v .head .sizes)) none (v .refs) (c .touches-fit) in
+    let (steps, entry) = entries-within (leb 2 (v .form)) (length (v .head .sizes)) (v .refs) (c .segs-fit .0) (c .entries-fit) in
     let row = each-at RowFits zeroRow none (v .head .rows) (c .prices-fit) in
     let price : (r : ℕ) → r < length (v .head .rows) → (rowAt v r .h ≤ largestPrice) × (1 ≤ rowAt v r .d) × (rowAt v r .d ≤ largestPrice) =
     λ r l. prices-within (rowAt v r .h) (rowAt v r .d) (row r l .0) in
     record {
+      some-form = c .some-form;
+      form-within = form;
       rows =
           record {
             some-rows = c .rows-fit .0;
@@ -66,24 +89,35 @@ readable-valid v c =
             segs-within = c .segs-fit .1;
             some-size = λ i l. size i l .0;
             size-within = λ i l. size i l .1;
-            refs-within = c .refs-fit .1;
-            ref-within = λ t l. omega (arith, touch t l .1, c .segs-fit .0);
+            steps-within = steps;
+            entry-within = entry;
           };
+      whole = λ e. entries-whole (leb 2 (v .form)) (length (v .head .sizes)) (v .refs) (ap (λ k. leb 2 k) e) (c .segs-fit .0) (c .entries-fit);
     }
+  where
+    form : v .form ≤ newestForm
+    form = go (leb 2 (v .form)) refl
+      where
+        go : (b : Bool) → leb 2 (v .form) ≡ b → v .form ≤ newestForm
+        go true e = omega (arith, c .form-known (leb-true 2 (v .form) e))
+        go false e = omega (arith, leb-false 2 (v .form) e)
 
 -- and the limits ask all that the lines do
-pub valid-readable : (v : SheetValue) → Valid v → Readable v
+pub valid-readable : (lo hi : ℕ) (v : SheetValue) → lo ≤ v .form → v .form ≤ hi → Valid v → Readable lo hi v
 unfolding zeroRow
-valid-readable v c =
+valid-readable lo hi v l h c =
     record {
+      some-form = c .some-form;
+      form-taken = l;
+      form-known = λ _. h;
       a-fits = omega (arith, c .run .a-within);
       segs-fit = (c .run .some-segs, c .run .segs-within);
       sizes-fit = each-of (From 1 largestSize) 0 none (v .head .sizes) (λ i l. (c .run .some-size i l, c .run .size-within i l));
       rows-fit = (c .rows .some-rows, c .rows .rows-within);
       prices-fit = each-of RowFits zeroRow none (v .head .rows)
           (λ r l. (within-prices _ _ (c .rows .h-within r l) (c .rows .some-d r l) (c .rows .d-within r l), ascends r l));
-      refs-fit = omega (arith, c .run .refs-within);
-      touches-fit = each-of (From 0 (length (v .head .sizes) - 1)) (length (v .head .sizes)) none (v .refs) (λ t l. omega (arith, c .run .ref-within t l));
+      entries-fit = within-entries (leb 2 (v .form)) (length (v .head .sizes)) (v .refs) (c .run .steps-within) (c .run .entry-within)
+          (λ e. c .whole (omega (arith, c .some-form, leb-false 2 (v .form) e)));
     }
   where
     ascends : (r : ℕ) → r < length (v .head .rows) → above (before zeroRow none (v .head .rows) r) (rowAt v r) ≡ true
@@ -93,12 +127,13 @@ valid-readable v c =
 -- ---- what is accepted
 
 -- it is not too long, and its lines are read with nothing after them
-pub accepted-read : (s : List ℕ) (v : SheetValue) → readSheet s ≡ accepted v → (length s ≤ mostBytes) × (sheetLines s ≡ read v [])
-unfolding readSheet
-accepted-read s v e =
-    by-test (ltb mostBytes (length s)) (rejected SheetTooLong) (atEnd (sheetLines s)) (accepted v) e
+pub accepted-read : (lo hi : ℕ) (s : List ℕ) (v : SheetValue) → readForms lo hi s ≡ accepted v
+    → (length s ≤ formBytes (namedForm s)) × (sheetLines lo hi s ≡ read v [])
+unfolding readForms
+accepted-read lo hi s v e =
+    by-test (ltb (formBytes (namedForm s)) (length s)) (rejected SheetTooLong) (atEnd (sheetLines lo hi s)) (accepted v) e
     (λ h f. absurd (never f))
-    (λ h f. (ltb-false mostBytes (length s) h, ended (sheetLines s) f))
+    (λ h f. (ltb-false (formBytes (namedForm s)) (length s) h, ended (sheetLines lo hi s) f))
   where
     never : {r : Refusal} → _≡_ {A = Outcome} (rejected r) (accepted v) → ⊥
     never f = let z : _≡_ {A = ℕ} 0 1 = cc in omega arith
@@ -108,6 +143,10 @@ accepted-read s v e =
     ended (read w (b ∷ rest)) f = absurd (never f)
     ended (refused r) f = absurd (never f)
 
+-- it is readable by the call
+pub accepted-readable : (lo hi : ℕ) (s : List ℕ) (v : SheetValue) → readForms lo hi s ≡ accepted v → Readable lo hi v
+accepted-readable lo hi s v e = sheet-reads lo hi .back s v [] (accepted-read lo hi s v e .1) .1
+
 -- and it is valid
-pub accepted-valid : (s : List ℕ) (v : SheetValue) → readSheet s ≡ accepted v → Valid v
-accepted-valid s v e = readable-valid v (sheet-reads .back s v [] (accepted-read s v e .1) .1)
+pub accepted-valid : (lo hi : ℕ) → hi ≤ newestForm → (s : List ℕ) (v : SheetValue) → readForms lo hi s ≡ accepted v → Valid v
+accepted-valid lo hi new s v e = readable-valid lo hi new v (accepted-readable lo hi s v e)

@@ -1,20 +1,20 @@
 -- A sheet that was read stands for a valid value, and a call goes on from that value. Assumes nothing.
-use Prim.Native.Nat.{ℕ}
+use Prim.Native.Nat.{ℕ, _≤_}
 use mathlib.Core.Path.{_≡_, refl, sym, ap, _∙_}
 use mathlib.Core.List.{List}
 use native.Mathlib.Omega.{arith}
 use Rattle.model.specs.Places.{nothingPlaced, Result, gives, refuses, PlaceLeft}
-use Rattle.model.specs.Sheets.{SheetValue, Valid, mostSegs, mostRows, mostRefs}
+use Rattle.model.specs.Sheets.{SheetValue, Valid, newestForm, mostSegs, mostRows, mostSteps}
 use Rattle.model.specs.Standing.{Standing}
-use Rattle.model.specs.Values.{zeros, zeroRows, headOf, sheetOf, valueOf}
+use Rattle.model.specs.Values.{zeros, idles, zeroRows, headOf, sheetOf, valueOf}
 use Rattle.model.specs.declared.PlaceAnswer.{PlaceAnswer}
 use Rattle.model.specs.declared.Refusal.{Refusal}
 use Rattle.model.specs.declared.Verdict.the-variants.{Accepted, Refused}
 use Rattle.model.proofs.Places.{refusal-left}
-use Rattle.model.proofs.Values.{zeros-length, zero-rows-length, padded-length}
+use Rattle.model.proofs.Values.{zeros-length, idles-length, zero-rows-length, padded-length}
 use Rattle.sheet.specs.Accepting.{onSheet}
 use Rattle.sheet.specs.Answers.{answerOf}
-use Rattle.sheet.specs.Reading.{Outcome, accepted, rejected, readSheet}
+use Rattle.sheet.specs.Reading.{Outcome, accepted, rejected, readForms, readSheet}
 use Rattle.sheet.specs.declared.SheetAnswer.{SheetAnswer}
 use Rattle.sheet.proofs.Accepted.{accepted-valid}
 use Rattle.sheet.proofs.Held.{held}
@@ -44,16 +44,16 @@ held-stands v c =
       valid = rw (held v) c;
       segs-within = c .run .segs-within;
       rows-within = c .rows .rows-within;
-      refs-within = c .run .refs-within;
+      steps-within = c .run .steps-within;
       sizes-whole = padded-length (v .head .sizes) (zeros mostSegs) (omega (arith, zeros-length mostSegs)) ∙ zeros-length mostSegs;
       prices-whole = padded-length (v .head .rows) (zeroRows mostRows) (omega (arith, zero-rows-length mostRows)) ∙ zero-rows-length mostRows;
-      touches-whole = padded-length (v .refs) (zeros mostRefs) (omega (arith, zeros-length mostRefs)) ∙ zeros-length mostRefs;
+      touches-whole = padded-length (v .refs) (idles mostSteps) (omega (arith, idles-length mostSteps)) ∙ idles-length mostSteps;
     }
 
-read-stands : (s : List ℕ) (A : SheetAnswer) (o : Outcome) → readSheet s ≡ o → A ≡ answerOf o → A .verdict ≡ Accepted → Standing (A .sheet)
+read-stands : (lo hi : ℕ) → hi ≤ newestForm → (s : List ℕ) (A : SheetAnswer) (o : Outcome) → readForms lo hi s ≡ o → A ≡ answerOf o → A .verdict ≡ Accepted → Standing (A .sheet)
 unfolding answerOf
-read-stands s A (accepted v) r e a = rw (ap (λ B. B .sheet) e) (held-stands v (accepted-valid s v r))
-read-stands s A (rejected p) r e a =
+read-stands lo hi new s A (accepted v) r e a = rw (ap (λ B. B .sheet) e) (held-stands v (accepted-valid lo hi new s v r))
+read-stands lo hi new s A (rejected p) r e a =
     let b : A .verdict ≡ Refused p = ap (λ B. B .verdict) e in
     let z : _≡_ {A = ℕ} 0 1 = cc in
     absurd (omega arith)
@@ -63,35 +63,41 @@ unfolding answerOf
 read-held A (accepted v) e a = let s : A .sheet ≡ sheetOf v = ap (λ B. B .sheet) e in s ∙ ap sheetOf (sym (ap valueOf s ∙ held v))
 read-held A (rejected p) e a = let b : A .verdict ≡ Refused p = ap (λ B. B .verdict) e in cc
 
--- what a call that reads bytes goes by
-module _ (s : List ℕ) (A : SheetAnswer) (e : A ≡ answerOf (readSheet s)) where
+-- what a call goes by, from what reading the bytes came to
+module _ (o : Outcome) (A : SheetAnswer) (e : A ≡ answerOf o) where
   pub on-refused : {X : Type 0} (q : Refusal) → A .verdict ≡ Refused q → (f : Refusal → X) (g : SheetValue → X)
-      → onSheet (readSheet s) f g ≡ f q
-  on-refused q r f g = refused-on (readSheet s) A q e r f g
+      → onSheet o f g ≡ f q
+  on-refused q r f g = refused-on o A q e r f g
 
   pub on-accepted : {X : Type 0} → A .verdict ≡ Accepted → (f : Refusal → X) (g : SheetValue → X)
-      → onSheet (readSheet s) f g ≡ g (valueOf (A .sheet))
-  on-accepted r f g = accepted-on (readSheet s) A e r f g
+      → onSheet o f g ≡ g (valueOf (A .sheet))
+  on-accepted r f g = accepted-on o A e r f g
 
   -- a call with a lent place: refused with the sheet it answers so, and leaves the place as it was
   pub result-refused : {q : Refusal} {answer : PlaceAnswer} (place : List ℕ) (g : SheetValue → Result) → answer ≡ nothingPlaced q
-      → A .verdict ≡ Refused q → PlaceLeft (onSheet (readSheet s) refuses g) place place answer
+      → A .verdict ≡ Refused q → PlaceLeft (onSheet o refuses g) place place answer
   result-refused {q} place g n r = rw (on-refused q r refuses g, n) (refusal-left q place)
 
   -- accepted, it leaves what it has for the sheet
   pub result-accepted : {answer : PlaceAnswer} {place place' : List ℕ} (g : SheetValue → Result)
       → PlaceLeft (g (valueOf (A .sheet))) place place' answer → A .verdict ≡ Accepted
-      → PlaceLeft (onSheet (readSheet s) refuses g) place place' answer
+      → PlaceLeft (onSheet o refuses g) place place' answer
   result-accepted g left r = rw (on-accepted r refuses g) left
 
   -- a call that has a text also for a refusal
   pub text-refused : {q : Refusal} {answer : PlaceAnswer} {place place' : List ℕ} (f : Refusal → List ℕ) (g : SheetValue → List ℕ)
       → PlaceLeft (gives (f q)) place place' answer → A .verdict ≡ Refused q
-      → PlaceLeft (gives (onSheet (readSheet s) f g)) place place' answer
+      → PlaceLeft (gives (onSheet o f g)) place place' answer
   text-refused {q} f g left r = rw (on-refused q r f g) left
 
   pub sheet-is : A .verdict ≡ Accepted → A .sheet ≡ sheetOf (valueOf (A .sheet))
-  sheet-is r = read-held A (readSheet s) e r
+  sheet-is r = read-held A o e r
 
-  pub stands : A .verdict ≡ Accepted → Standing (A .sheet)
-  stands r = read-stands s A (readSheet s) refl e r
+-- the sheet stands, where the call takes known forms alone
+pub forms-stand : (lo hi : ℕ) (s : List ℕ) (A : SheetAnswer) → A ≡ answerOf (readForms lo hi s) → hi ≤ newestForm → A .verdict ≡ Accepted
+    → Standing (A .sheet)
+forms-stand lo hi s A e new r = read-stands lo hi new s A (readForms lo hi s) refl e r
+
+-- and where it takes every form
+pub stands : (s : List ℕ) (A : SheetAnswer) → A ≡ answerOf (readSheet s) → A .verdict ≡ Accepted → Standing (A .sheet)
+stands s A e r = forms-stand 1 newestForm s A e (omega arith) r

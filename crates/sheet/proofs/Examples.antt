@@ -12,10 +12,10 @@ use Rattle.model.specs.declared.PriceRow.{PriceRow}
 use Rattle.decimal.specs.Decimal.{allDigits, valueFrom, isNumber, written, writtenIn}
 use Rattle.sheet.specs.Lines.{splitAt, afterKey, valueLine, numberLine, sameBytes, numberLines}
 use Rattle.lines.specs.Keys.{kindKey, aKey, segsKey, sizeKey, rowsKey, rowKey, refsKey, kindWord}
-use Rattle.sheet.specs.Reading.{Outcome, accepted, rejected, readSheet}
+use Rattle.sheet.specs.Reading.{Outcome, accepted, rejected, namedForm, readForms, readSheet}
 use Rattle.sheet.specs.Values.{kindLine, rowLine, rowLines}
 use Rattle.lines.specs.Texts.{lineText, numberText, linesText}
-use Rattle.sheet.specs.Order.{sizesPart, pricesPart, tablesPart, headPart, refsPart, runPart, sheetPart}
+use Rattle.sheet.specs.Order.{sizesPart, pricesPart, tablesPart, headPart, refsPart, stepsPart, runPart, bodyPart, sheetPart}
 use Rattle.sheet.specs.Writing.{sheetText}
 
 -- the bytes of the sheet
@@ -27,6 +27,7 @@ listing =
 value-of-listing : SheetValue
 value-of-listing =
     record {
+      form = 1;
       head =
           record {
             kind = Space;
@@ -38,11 +39,11 @@ value-of-listing =
     }
 
 listing-read : readSheet listing ≡ accepted value-of-listing
-unfolding listing value-of-listing readSheet sheetPart headPart tablesPart runPart sizesPart pricesPart refsPart kindLine numberLines rowLine rowLines splitAt afterKey valueLine numberLine sameBytes allDigits valueFrom isNumber
+unfolding listing value-of-listing readForms namedForm sheetPart bodyPart headPart tablesPart runPart sizesPart pricesPart refsPart kindLine numberLines rowLine rowLines splitAt afterKey valueLine numberLine sameBytes allDigits valueFrom isNumber
 listing-read = refl
 
 listing-written : sheetText value-of-listing ≡ listing
-unfolding listing value-of-listing sheetText sheetPart headPart tablesPart runPart sizesPart pricesPart refsPart linesText written writtenIn
+unfolding listing value-of-listing sheetText sheetPart bodyPart headPart tablesPart runPart sizesPart pricesPart refsPart linesText written writtenIn
 listing-written = refl
 
 -- ---- the limits
@@ -72,7 +73,7 @@ price h d = record { h = h; d = d }
 
 -- the text of a sheet of kind time with a, the sizes, the rows and the references
 textOf : ℕ → List ℕ → List PriceRow → List ℕ → List ℕ
-textOf a sizes rows refs = sheetText (record { head = record { kind = Time; a = a; sizes = sizes; rows = rows }; refs = refs })
+textOf a sizes rows refs = sheetText (record { form = 1; head = record { kind = Time; a = a; sizes = sizes; rows = rows }; refs = refs })
 
 -- the lines of such a sheet up to segs=, up to rows= and up to refs= with these numbers, and nothing after them. Where the number is
 -- within its range the refusal is 2, of the missing next line
@@ -114,5 +115,5 @@ limits =
     ∷ []
 
 pub limits-hold : allRead limits ≡ true
-unfolding outcomeNumber _reads_ allRead price textOf toSegs toRows toRefs limits readSheet sheetPart headPart tablesPart runPart sizesPart pricesPart refsPart kindLine numberLines rowLine rowLines splitAt afterKey valueLine numberLine sameBytes allDigits valueFrom isNumber sheetText linesText written writtenIn
+unfolding outcomeNumber _reads_ allRead price textOf toSegs toRows toRefs limits readForms namedForm sheetPart bodyPart headPart tablesPart runPart sizesPart pricesPart refsPart kindLine numberLines rowLine rowLines splitAt afterKey valueLine numberLine sameBytes allDigits valueFrom isNumber sheetText linesText written writtenIn
 limits-hold = refl

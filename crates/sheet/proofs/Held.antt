@@ -4,9 +4,9 @@ use mathlib.Core.Path.{_≡_, ap, _∙_}
 use mathlib.Core.List.{List}
 use lib.ListN.{length, take, drop}
 use lib.Seq.{take-append-seam}
-use Rattle.model.specs.Sheets.{SheetValue, mostSegs, mostRows, mostRefs}
-use Rattle.sheet.specs.Reading.{accepted, readSheet}
-use Rattle.model.specs.Values.{zeros, zeroRows, padded, headOf, headValueOf, sheetOf, valueOf}
+use Rattle.model.specs.Sheets.{SheetValue, mostSegs, mostRows, mostSteps}
+use Rattle.sheet.specs.Reading.{accepted, readForms}
+use Rattle.model.specs.Values.{zeros, idles, zeroRows, padded, headOf, headValueOf, sheetOf, valueOf}
 use Rattle.sheet.specs.Writing.{sheetText}
 use Rattle.sheet.proofs.RoundTrip.{read-then-written}
 
@@ -18,8 +18,8 @@ front xs blank = take-append-seam xs (drop (length xs) blank)
 -- so is each list of the sheet, and the value is the same
 pub held : (v : SheetValue) → valueOf (sheetOf v) ≡ v
 unfolding valueOf headValueOf sheetOf headOf
-held v = rw (front (v .head .sizes) (zeros mostSegs), front (v .head .rows) (zeroRows mostRows), front (v .refs) (zeros mostRefs))
+held v = rw (front (v .head .sizes) (zeros mostSegs), front (v .head .rows) (zeroRows mostRows), front (v .refs) (idles mostSteps))
 
 -- the text of an accepted sheet, as it is held, is the bytes that were read
-pub held-text : (s : List ℕ) (v : SheetValue) → readSheet s ≡ accepted v → sheetText (valueOf (sheetOf v)) ≡ s
-held-text s v e = ap sheetText (held v) ∙ read-then-written s v e
+pub held-text : (lo hi : ℕ) (s : List ℕ) (v : SheetValue) → readForms lo hi s ≡ accepted v → sheetText (valueOf (sheetOf v)) ≡ s
+held-text lo hi s v e = ap sheetText (held v) ∙ read-then-written lo hi s v e

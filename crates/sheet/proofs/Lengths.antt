@@ -1,65 +1,92 @@
--- The text of a valid value has at most 20,012 bytes, and that of one valid value has as many. Assumes nothing.
+-- The text of a valid value has at most 20,012 bytes, in form 2 at most 29,163, and that of one valid value of each form has as many.
+-- Assumes nothing.
 use Prim.Native.Nat.{ℕ, zero, suc, _+_, _-_, _*_, _^_, _≤_, _<_}
-use mathlib.Core.Path.{_≡_, refl, ap, _∙_}
-use mathlib.Core.Bool.{true}
-use mathlib.Core.List.{List, [], _∷_, _++_}
+use mathlib.Core.Path.{_≡_, refl, ap, subst, _∙_}
+use mathlib.Core.Logic.{inl}
+use mathlib.Core.Bool.{Bool, true, false}
+use mathlib.Core.List.{List, [], _∷_, _++_, append-nil}
 use mathlib.Core.Option.{Option, none, some}
 use native.Mathlib.Omega.{arith}
-use borrow.Author.Tests.{lt-ltb}
+use borrow.Author.Tests.{lt-ltb, leb-true, leb-false}
+use lib.Dec.{leb}
 use lib.ListN.{length, length-append, replicate, length-replicate}
 use Rattle.decimal.specs.Decimal.{written, writtenIn}
 use Rattle.decimal.proofs.Written.{written-length, written-longer}
-use Rattle.model.specs.Sheets.{SheetValue, Valid, largestA, mostSegs, largestSize, mostRows, mostRefs, mostBytes}
+use Rattle.model.specs.Sheets.{HeadValue, SheetValue, Valid, formBytes, newestForm, largestA, mostSegs, largestSize, mostRows, mostSteps}
 use Rattle.model.specs.declared.Kind.{Kind}
 use Rattle.model.specs.declared.Kind.the-variants.{Time, Space}
 use Rattle.model.specs.declared.PriceRow.{PriceRow}
-use Rattle.lines.specs.Keys.{kindKey, aKey, segsKey, sizeKey, rowsKey, refsKey, refKey, kindWord}
-use Rattle.sheet.specs.Values.{above, inPrices, rowText}
+use Rattle.lines.specs.Keys.{formKey, kindKey, aKey, segsKey, sizeKey, rowsKey, stepsKey, refsKey, refKey, kindWord}
 use Rattle.lines.specs.Texts.{lineText, numberText, linesText}
-use Rattle.sheet.proofs.PartTexts.{sizes-text, prices-text, refs-text, head-text, sheet-text}
-use Rattle.sheet.specs.Writing.{sheetText}
 use Rattle.lines.proofs.Lengths.{number-within}
 use Rattle.lines.proofs.Runs.{Each, each-map, lines-length}
-use Rattle.sheet.proofs.Words.{RowFits}
-use Rattle.sheet.proofs.SheetLines.{From, Readable}
+use Rattle.sheet.specs.Order.{headPart, formLines}
+use Rattle.sheet.specs.Parts.{textOf}
+use Rattle.sheet.specs.Touches.{Touch, touchText, touchesText, touchesFrom, touchesOf}
+use Rattle.sheet.specs.Values.{above, inPrices, rowText}
+use Rattle.sheet.specs.Writing.{sheetText}
 use Rattle.sheet.proofs.Accepted.{readable-valid, valid-readable, prices-within, within-prices}
+use Rattle.sheet.proofs.PartTexts.{sizes-text, prices-text, refs-text, steps-text, head-text, entriesText, sheet-text}
+use Rattle.sheet.proofs.SheetLines.{From, EntriesFit, Readable}
+use Rattle.sheet.proofs.TouchLengths.{digitsTo, digits-next, digits-rise, touch-length, touches-within}
+use Rattle.sheet.proofs.Touches.{EntryFits, touches-fit}
+use Rattle.sheet.proofs.Words.{RowFits}
 
 -- ---- the length of a text is that of its lines
 
--- eight texts, in the parts of a sheet
-eight : (a b c d e f g h : List ℕ) → length ((a ++ (b ++ ((c ++ d) ++ (e ++ f)))) ++ (g ++ h))
-    ≡ length a + (length b + (length c + (length d + (length e + (length f + (length g + length h))))))
-eight a b c d e f g h = simp length-append (omega arith)
+-- six texts, in the parts of a head
+six : (a b c d e f : List ℕ) → length (a ++ (b ++ ((c ++ d) ++ (e ++ f))))
+    ≡ length a + (length b + (length c + (length d + (length e + length f))))
+six a b c d e f = simp length-append (omega arith)
 
--- a sheet: its eight texts
-text-length : (v : SheetValue) → length (sheetText v)
-    ≡ length (lineText kindKey (kindWord (v .head .kind)))
-    + (length (numberText aKey (v .head .a))
-    + (length (numberText segsKey (length (v .head .sizes)))
-    + (length (linesText (numberText sizeKey) (v .head .sizes))
-    + (length (numberText rowsKey (length (v .head .rows)))
-    + (length (linesText rowText (v .head .rows))
-    + (length (numberText refsKey (length (v .refs)))
-    + length (linesText (numberText refKey) (v .refs))))))))
-text-length v =
-    rw (
-      sheet-text v,
-      head-text (v .head),
-      sizes-text (v .head .sizes),
-      prices-text (v .head .rows),
-      refs-text (length (v .head .sizes)) (v .refs),
-    )
-    (eight
-    (lineText kindKey (kindWord (v .head .kind)))
-    (numberText aKey (v .head .a))
-    (numberText segsKey (length (v .head .sizes)))
-    (linesText (numberText sizeKey) (v .head .sizes))
-    (numberText rowsKey (length (v .head .rows)))
-    (linesText rowText (v .head .rows))
-    (numberText refsKey (length (v .refs)))
-    (linesText (numberText refKey) (v .refs)))
+-- a head: its six texts
+head-length : (h : HeadValue) → length (textOf (headPart true .lines h))
+    ≡ length (lineText kindKey (kindWord (h .kind)))
+    + (length (numberText aKey (h .a))
+    + (length (numberText segsKey (length (h .sizes)))
+    + (length (linesText (numberText sizeKey) (h .sizes))
+    + (length (numberText rowsKey (length (h .rows)))
+    + length (linesText rowText (h .rows))))))
+head-length h =
+    rw (head-text true h, sizes-text (h .sizes), prices-text (h .rows))
+    (six
+    (lineText kindKey (kindWord (h .kind)))
+    (numberText aKey (h .a))
+    (numberText segsKey (length (h .sizes)))
+    (linesText (numberText sizeKey) (h .sizes))
+    (numberText rowsKey (length (h .rows)))
+    (linesText rowText (h .rows)))
 
--- ---- at most 20,012 bytes
+-- a sheet of form 1: its head and its references
+first-length : (v : SheetValue) → v .form ≡ 1 → length (sheetText v)
+    ≡ length (textOf (headPart true .lines (v .head)))
+    + (length (numberText refsKey (length (v .refs))) + length (linesText (numberText refKey) (v .refs)))
+unfolding entriesText linesText
+first-length v e =
+    ap length (sheet-text v)
+    ∙ rw (e, refs-text (length (v .head .sizes)) (v .refs)) (simp length-append)
+
+-- the form line of form 2
+form-text : textOf (formLines 2) ≡ numberText formKey 2
+unfolding linesText
+form-text = append-nil (numberText formKey 2)
+
+-- a sheet of form 2: its form line, its head and its touches
+second-length : (v : SheetValue) → v .form ≡ 2 → length (sheetText v)
+    ≡ length (numberText formKey 2) + (length (textOf (headPart true .lines (v .head)))
+    + (length (numberText stepsKey (length (v .refs)))
+    + (length (numberText refsKey (length (touchesOf (v .refs)))) + length (touchesText (touchesOf (v .refs))))))
+unfolding entriesText
+second-length v e =
+    ap length (sheet-text v)
+    ∙ rw (e, form-text, steps-text (length (v .head .sizes)) (v .refs))
+    (five (numberText formKey 2) (textOf (headPart true .lines (v .head))) (numberText stepsKey (length (v .refs)))
+    (numberText refsKey (length (touchesOf (v .refs)))) (touchesText (touchesOf (v .refs))))
+  where
+    five : (a b c d e : List ℕ) → length (a ++ (b ++ (c ++ (d ++ e)))) ≡ length a + (length b + (length c + (length d + length e)))
+    five a b c d e = simp length-append
+
+-- ---- at most 20,012 bytes, and 29,163 in form 2
 
 -- the lines of numbers below 10 ^ suc k
 numbers-within : (key : List ℕ) (lo hi k : ℕ) → hi < 10 ^ suc k → (xs : List ℕ) → Each (From lo hi) none xs
@@ -87,11 +114,11 @@ kind-within : (k : Kind) → length (lineText kindKey (kindWord k)) ≤ 11
 kind-within Time = omega arith
 kind-within Space = omega arith
 
--- no valid sheet is longer than a sheet may be
-pub text-within : (v : SheetValue) → Valid v → length (sheetText v) ≤ mostBytes
-text-within v c =
-    let r = valid-readable v c in
-    rw (text-length v)
+-- a head has at most 3,618
+head-within : (v : SheetValue) → Valid v → length (textOf (headPart true .lines (v .head))) ≤ 3618
+head-within v c =
+    let r = valid-readable 1 newestForm v (c .some-form) (c .form-within) c in
+    rw (head-length (v .head))
     (omega (
       arith,
       kind-within (v .head .kind),
@@ -100,9 +127,42 @@ text-within v c =
       numbers-within sizeKey 1 largestSize 3 (omega arith) (v .head .sizes) (r .sizes-fit),
       number-within rowsKey 1 (length (v .head .rows)) (omega (arith, c .rows .rows-within)),
       rows-within (v .head .rows) (r .prices-fit),
-      number-within refsKey 3 (length (v .refs)) (omega (arith, c .run .refs-within)),
-      numbers-within refKey 0 (length (v .head .sizes) - 1) 2 (omega (arith, c .run .segs-within)) (v .refs) (r .touches-fit),
     ))
+
+-- the references of form 1
+first-within : (segs : ℕ) (xs : List ℕ) → segs ≤ mostSegs → EntriesFit false segs xs
+    → length (numberText refsKey (length xs)) + length (linesText (numberText refKey) xs) ≤ 16394
+first-within segs xs h (l, c) =
+    omega (arith, number-within refsKey 3 (length xs) (omega arith), numbers-within refKey 0 (segs - 1) 2 (omega arith) xs c)
+
+-- the touches of form 2
+second-within : (segs : ℕ) (xs : List ℕ) → segs ≤ mostSegs → EntriesFit true segs xs
+    → length (numberText stepsKey (length xs)) + (length (numberText refsKey (length (touchesOf xs))) + length (touchesText (touchesOf xs))) ≤ 25538
+second-within segs xs h (l, c) =
+    let (n, m) =
+    touches-within segs (length xs) (omega arith) (omega arith) (touchesOf xs) none (omega arith)
+    (touches-fit segs (length xs) xs none none 0 (omega arith) (omega arith) c) in
+    let d = digits-rise (length xs) mostSteps l in
+    omega (arith, m, d, number-within stepsKey 3 (length xs) (omega arith), number-within refsKey 3 (length (touchesOf xs)) (omega (arith, n)))
+
+-- no valid sheet is longer than a sheet of its form may be
+pub text-within : (v : SheetValue) → Valid v → length (sheetText v) ≤ formBytes (v .form)
+text-within v c = go (leb 2 (v .form)) refl
+  where
+    r : Readable 1 newestForm v
+    r = valid-readable 1 newestForm v (c .some-form) (c .form-within) c
+
+    go : (b : Bool) → leb 2 (v .form) ≡ b → length (sheetText v) ≤ formBytes (v .form)
+    go true e =
+        let two : v .form ≡ 2 = omega (arith, leb-true 2 (v .form) e, c .form-within) in
+        let f = subst (λ b. EntriesFit b (length (v .head .sizes)) (v .refs)) e (r .entries-fit) in
+        rw (second-length v two, two)
+        (omega (arith, head-within v c, second-within (length (v .head .sizes)) (v .refs) (c .run .segs-within) f, number-within formKey 0 2 (omega arith)))
+    go false e =
+        let one : v .form ≡ 1 = omega (arith, leb-false 2 (v .form) e, c .some-form) in
+        let f = subst (λ b. EntriesFit b (length (v .head .sizes)) (v .refs)) e (r .entries-fit) in
+        rw (first-length v one, one)
+        (omega (arith, head-within v c, first-within (length (v .head .sizes)) (v .refs) (c .run .segs-within) f))
 
 -- ---- and one valid value with as many
 
@@ -115,17 +175,18 @@ wideRows : ℕ → ℕ → List PriceRow
 wideRows k zero = []
 wideRows k (suc n) = wideRow k ∷ wideRows (suc k) n
 
--- n sizes 4095, m rows from 10000/10000 on and k references 255
-filled : ℕ → ℕ → ℕ → SheetValue
-filled n m k =
+-- a sheet of a form with n sizes 4095, m rows from 10000/10000 on and k references 255
+filled : ℕ → ℕ → ℕ → ℕ → SheetValue
+filled form n m k =
     record {
+      form = form;
       head = record { kind = Space; a = largestA; sizes = replicate n largestSize; rows = wideRows 0 m };
       refs = replicate k 255;
     }
 
--- the largest sheet: 256 sizes, 64 rows and 2,048 references
-pub largest : SheetValue
-largest = filled mostSegs mostRows mostRefs
+-- the largest sheet of a form: 256 sizes, 64 rows and a reference in each of 2,048 steps
+pub largest : ℕ → SheetValue
+largest form = filled form mostSegs mostRows mostSteps
 
 -- the same element again and again, where it fits after any
 each-same : {A : Type 0} (F : Option A → A → Type 0) (x : A) → ((prev : Option A) → F prev x)
@@ -158,26 +219,40 @@ wide-each k (suc n) prev h e = (((prices, e), long), wide-each (suc k) n (some (
     next : above (some (wideRow k)) (wideRow (suc k)) ≡ true
     next = lt-ltb ((10000 + k) * 10000) ((10000 + suc k) * 10000) (omega arith)
 
+-- its entries fit in each form
+filled-entries : (later : Bool) (n k : ℕ) → 256 ≤ n → k ≤ mostSteps → EntriesFit later (length (replicate n largestSize)) (replicate k 255)
+filled-entries true n k n₁ k₂ = (
+  rw length-replicate (omega arith),
+  each-same (EntryFits (length (replicate n largestSize))) 255 (λ prev. inl (rw length-replicate (omega arith))) k none,
+)
+filled-entries false n k n₁ k₂ = (
+  rw length-replicate (omega arith),
+  each-same (From 0 (length (replicate n largestSize) - 1)) 255 (λ prev. rw length-replicate (omega arith)) k none,
+)
+
 -- such a value meets what the lines ask, where its counts do
-filled-readable : (n m k : ℕ) → 256 ≤ n → n ≤ mostSegs → 1 ≤ m → m ≤ mostRows → k ≤ mostRefs → Readable (filled n m k)
+filled-readable : (form n m k : ℕ) → 1 ≤ form → form ≤ newestForm → 256 ≤ n → n ≤ mostSegs → 1 ≤ m → m ≤ mostRows → k ≤ mostSteps
+    → Readable 1 newestForm (filled form n m k)
 unfolding filled
-filled-readable n m k n₁ n₂ m₁ m₂ k₂ =
+filled-readable form n m k f₁ f₂ n₁ n₂ m₁ m₂ k₂ =
     record {
+      some-form = f₁;
+      form-taken = f₁;
+      form-known = λ _. f₂;
       a-fits = omega arith;
       segs-fit = rw length-replicate (omega arith);
       sizes-fit = each-same (From 1 largestSize) largestSize (λ prev. omega arith) n none;
       rows-fit = rw wide-length (omega arith);
       prices-fit = each-map WideFits RowFits (λ prev q f. f .0) none (wideRows 0 m) (wide-each 0 m none (omega arith) refl);
-      refs-fit = rw length-replicate (omega arith);
-      touches-fit = each-same (From 0 (length (replicate n largestSize) - 1)) 255 (λ prev. rw length-replicate (omega arith)) k none;
+      entries-fit = filled-entries (leb 2 form) n k n₁ k₂;
     }
 
--- the largest sheet is valid
-pub largest-valid : Valid largest
+-- the largest sheets are valid
+pub largest-valid : (form : ℕ) → 1 ≤ form → form ≤ newestForm → Valid (largest form)
 unfolding largest
-largest-valid =
-    readable-valid _
-    (filled-readable mostSegs mostRows mostRefs (omega arith) (omega arith) (omega arith) (omega arith) (omega arith))
+largest-valid form f₁ f₂ =
+    readable-valid 1 newestForm (omega arith) _
+    (filled-readable form mostSegs mostRows mostSteps f₁ f₂ (omega arith) (omega arith) (omega arith) (omega arith) (omega arith))
 
 -- n lines of one number, each of w bytes
 same-lines : (key : List ℕ) (x w n : ℕ) → length (numberText key x) ≡ w → length (linesText (numberText key) (replicate n x)) ≡ n * w
@@ -206,28 +281,78 @@ unfolding written writtenIn
 size-length = refl
 
 -- the line of the last segment of 256
-touch-length : length (numberText refKey 255) ≡ 8
+reference-length : length (numberText refKey 255) ≡ 8
 unfolding written writtenIn
-touch-length = refl
+reference-length = refl
 
--- the length of such a value's text, by its counts
-filled-length : (n m k : ℕ) → m ≤ mostRows → length (sheetText (filled n m k))
-    ≡ 11 + (6 + (length (numberText segsKey n) + (n * 10
-    + (length (numberText rowsKey m) + (m * 16 + (length (numberText refsKey k) + k * 8))))))
+-- the length of such a value's head, by its counts
+filled-head : (form n m k : ℕ) → m ≤ mostRows → length (textOf (headPart true .lines (filled form n m k .head)))
+    ≡ 11 + (6 + (length (numberText segsKey n) + (n * 10 + (length (numberText rowsKey m) + m * 16))))
 unfolding filled
-filled-length n m k h =
-    text-length (filled n m k)
+filled-head form n m k h =
+    head-length (filled form n m k .head)
     ∙ rw (
       length-replicate {A = ℕ} n largestSize,
-      length-replicate {A = ℕ} k 255,
       wide-length 0 m,
       a-length,
       wide-lines m h,
       same-lines sizeKey largestSize 10 n size-length,
-      same-lines refKey 255 8 k touch-length,
     )
 
--- the largest sheet has 20,012 bytes
-pub largest-length : length (sheetText largest) ≡ mostBytes
+-- a touch in every step: as many as steps, each line with 9 bytes and its step's digits
+touches-each : (k before : ℕ) → length (touchesFrom before (replicate k 255)) ≡ k
+unfolding touchesFrom
+touches-each zero before = refl
+touches-each (suc k) before = ap suc (touches-each k (suc before))
+
+digits-of-255 : length (written 255) ≡ 3
+unfolding written writtenIn
+digits-of-255 = refl
+
+touches-long : (k before : ℕ) → before + k < 10000
+    → length (touchesText (touchesFrom before (replicate k 255))) + digitsTo before ≡ 9 * k + digitsTo (before + k)
+unfolding touchesFrom linesText
+touches-long zero before h = let e : before + 0 ≡ before = omega arith in rw e
+touches-long (suc k) before h =
+    let e : before + suc k ≡ suc before + k = omega arith in
+    let x : Touch = record { segment = 255; step = suc before } in
+    let i = touches-long k (suc before) (omega arith) in
+    let d = digits-next before (omega arith) in
+    rw (length-append (touchText x) (touchesText (touchesFrom (suc before) (replicate k 255))), touch-length x, digits-of-255, e)
+    (together (length (written (suc before))) (length (touchesText (touchesFrom (suc before) (replicate k 255)))) (digitsTo before) (digitsTo (suc before)) (digitsTo (suc before + k)) k i d)
+  where
+    together : (w t b c e k : ℕ) → t + c ≡ 9 * k + e → b + w ≡ c → 6 + (3 + w) + t + b ≡ 9 * suc k + e
+    together w t b c e k i d = omega arith
+
+-- the length of such a value's text, by its counts, in form 1 and in form 2
+filled-first : (n m k : ℕ) → m ≤ mostRows → length (sheetText (filled 1 n m k))
+    ≡ 11 + (6 + (length (numberText segsKey n) + (n * 10 + (length (numberText rowsKey m) + m * 16)))) + (length (numberText refsKey k) + k * 8)
+unfolding filled
+filled-first n m k h =
+    first-length (filled 1 n m k) refl
+    ∙ (ap (λ x. x + (length (numberText refsKey (length {A = ℕ} (replicate k 255))) + length (linesText (numberText refKey) (replicate k 255))))
+    (filled-head 1 n m k h)
+    ∙ rw (length-replicate {A = ℕ} k 255, same-lines refKey 255 8 k reference-length))
+
+filled-second : (n m k : ℕ) → m ≤ mostRows → k < 10000 → length (sheetText (filled 2 n m k))
+    ≡ length (numberText formKey 2)
+    + (11 + (6 + (length (numberText segsKey n) + (n * 10 + (length (numberText rowsKey m) + m * 16))))
+    + (length (numberText stepsKey k) + (length (numberText refsKey k) + (9 * k + digitsTo k))))
+unfolding filled
+filled-second n m k h l =
+    let e : 0 + k ≡ k = omega arith in
+    let t : length (touchesText (touchesOf (replicate k 255))) ≡ 9 * k + digitsTo k = omega (arith, rw e at (touches-long k 0 (omega arith))) in
+    second-length (filled 2 n m k) refl
+    ∙ (ap (λ x. length (numberText formKey 2) + (x + (length (numberText stepsKey (length {A = ℕ} (replicate k 255)))
+    + (length (numberText refsKey (length (touchesOf (replicate k 255)))) + length (touchesText (touchesOf (replicate k 255)))))))
+    (filled-head 2 n m k h)
+    ∙ rw (length-replicate {A = ℕ} k 255, touches-each k 0, t))
+
+-- the largest sheet of form 1 has 20,012 bytes, and that of form 2 has 29,163
+pub largest-first : length (sheetText (largest 1)) ≡ formBytes 1
 unfolding largest written writtenIn
-largest-length = filled-length mostSegs mostRows mostRefs (omega arith)
+largest-first = filled-first mostSegs mostRows mostSteps (omega arith)
+
+pub largest-second : length (sheetText (largest 2)) ≡ formBytes 2
+unfolding largest written writtenIn
+largest-second = filled-second mostSegs mostRows mostSteps (omega arith) (omega arith)

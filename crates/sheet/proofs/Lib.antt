@@ -10,4 +10,6 @@ pub mod Refusals
 pub mod RoundTrip
 pub mod Runs
 pub mod SheetLines
+pub mod TouchLengths
+pub mod Touches
 pub mod Words

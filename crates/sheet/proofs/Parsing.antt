@@ -1,14 +1,14 @@
 -- Laws of reading from the head of a run of bytes: of two steps one after the other, of the split at a byte, and of a line by its value.
 -- Assumes nothing.
-use Prim.Native.Nat.{ℕ, _<_}
-use mathlib.Core.Path.{_≡_, refl, ap, _∙_}
-use mathlib.Core.Bool.{Bool, true, false, cond, not, _&&_}
+use Prim.Native.Nat.{ℕ}
+use mathlib.Core.Path.{_≡_, refl, sym, ap, _∙_}
+use mathlib.Core.Bool.{Bool, true, false, cond, not, _&&_, false≢true}
 use mathlib.Core.List.{List, [], _∷_, _++_, append-assoc}
 use native.Mathlib.Omega.{arith}
 use borrow.Author.Tests.{eqb-true, eq-eqb, ne-eqb, not-true}
 use lib.Dec.{eqb}
 use Rattle.decimal.specs.Decimal.{isDigit, allDigits}
-use Rattle.decimal.proofs.Digits.{both, digit-bounds}
+use Rattle.decimal.proofs.Digits.{both}
 use Rattle.model.specs.declared.Refusal.{Refusal}
 use Rattle.lines.specs.Keys.{lineFeed}
 use Rattle.sheet.specs.Lines.{Parsed, read, refused, andThen, Split, parts, none, andBefore, splitAt, afterKey, ofLine, valueLine}
@@ -54,14 +54,13 @@ pub lacks-append : (c : ℕ) (s t : List ℕ) → lacks c s ≡ true → lacks c
 lacks-append c [] t e f = f
 lacks-append c (b ∷ s) t e f = let (n, r) = both (not (eqb b c)) (lacks c s) e in rw (n, lacks-append c s t r f)
 
--- digits lack each byte below 48
-pub lacks-digits : (c : ℕ) (s : List ℕ) → c < 48 → allDigits s ≡ true → lacks c s ≡ true
+-- digits lack each byte that is no digit
+pub lacks-digits : (c : ℕ) (s : List ℕ) → isDigit c ≡ false → allDigits s ≡ true → lacks c s ≡ true
 unfolding allDigits
 lacks-digits c [] h e = refl
 lacks-digits c (b ∷ s) h e =
     let (d, r) = both (isDigit b) (allDigits s) e in
-    let (l, u) = digit-bounds b d in
-    rw (ne-eqb b c (λ p. omega arith), lacks-digits c s h r)
+    rw (ne-eqb b c (λ p. false≢true (sym h ∙ (ap isDigit (sym p) ∙ d))), lacks-digits c s h r)
 
 -- a run of bytes is split at its first c
 pub split-forth : (c : ℕ) (x y : List ℕ) → lacks c x ≡ true → splitAt c (x ++ (c ∷ y)) ≡ parts x y

@@ -1,16 +1,19 @@
 -- The text of a sheet part after part. Assumes nothing.
 use Prim.Native.Nat.{ℕ}
-use mathlib.Core.Path.{_≡_}
+use mathlib.Core.Path.{_≡_, ap, _∙_}
+use mathlib.Core.Bool.{Bool, true}
 use mathlib.Core.List.{List, [], _∷_, _++_, append-nil, map}
+use lib.Dec.{leb}
 use lib.ListN.{length}
 use Rattle.decimal.specs.Decimal.{written}
-use Rattle.lines.specs.Keys.{kindKey, aKey, segsKey, sizeKey, rowsKey, rowKey, refsKey, refKey, kindWord}
+use Rattle.lines.specs.Keys.{kindKey, aKey, segsKey, sizeKey, rowsKey, rowKey, stepsKey, refsKey, refKey, kindWord}
 use Rattle.lines.specs.Texts.{lineText, numberText, linesText}
 use Rattle.lines.proofs.Runs.{lines-append, lines-map}
 use Rattle.model.specs.Sheets.{HeadValue, SheetValue}
 use Rattle.model.specs.declared.PriceRow.{PriceRow}
-use Rattle.sheet.specs.Order.{sizesPart, pricesPart, tablesPart, headPart, refsPart, runPart, sheetPart}
+use Rattle.sheet.specs.Order.{sizesPart, pricesPart, tablesPart, headPart, refsPart, stepsPart, entriesPart, runPart, bodyPart, formLines, sheetPart}
 use Rattle.sheet.specs.Parts.{Line, textOf}
+use Rattle.sheet.specs.Touches.{touchWord, touchesText, touchesOf}
 use Rattle.sheet.specs.Values.{rowWord, rowText}
 use Rattle.sheet.specs.Writing.{sheetText}
 
@@ -47,18 +50,30 @@ pub refs-text : (segs : ℕ) (xs : List ℕ)
 unfolding refsPart
 refs-text segs xs = counted-text refsKey refKey written xs
 
+-- steps=, refs= and the touches of form 2
+pub steps-text : (segs : ℕ) (xs : List ℕ) → textOf (stepsPart segs .lines xs)
+    ≡ numberText stepsKey (length xs) ++ (numberText refsKey (length (touchesOf xs)) ++ touchesText (touchesOf xs))
+unfolding stepsPart linesText
+steps-text segs xs = rw (lines-map lineOf (λ x. (refKey, touchWord x)) (touchesOf xs))
+
 -- the head
-pub head-text : (h : HeadValue) → textOf (headPart .lines h)
+pub head-text : (taken : Bool) (h : HeadValue) → textOf (headPart taken .lines h)
     ≡ lineText kindKey (kindWord (h .kind))
     ++ (numberText aKey (h .a) ++ (textOf (sizesPart .lines (h .sizes)) ++ textOf (pricesPart .lines (h .rows))))
 unfolding headPart tablesPart
-head-text h =
+head-text taken h =
     lines-parts kindKey (kindWord (h .kind)) aKey (written (h .a)) (sizesPart .lines (h .sizes)) (pricesPart .lines (h .rows))
+
+-- the text of the entries of a form
+unfoldable pub entriesText : ℕ → HeadValue → List ℕ → List ℕ
+entriesText form head refs = textOf (entriesPart (leb 2 form) (length (head .sizes)) .lines refs)
 
 -- the whole
 pub sheet-text : (v : SheetValue)
-    → sheetText v ≡ textOf (headPart .lines (v .head)) ++ textOf (refsPart (length (v .head .sizes)) .lines (v .refs))
-unfolding sheetText sheetPart runPart
+    → sheetText v ≡ textOf (formLines (v .form)) ++ (textOf (headPart true .lines (v .head)) ++ entriesText (v .form) (v .head) (v .refs))
+unfolding sheetText sheetPart bodyPart runPart headPart entriesText
 sheet-text v =
-    rw (append-nil (refsPart (length (v .head .sizes)) .lines (v .refs)))
-    (lines-append lineOf (headPart .lines (v .head)) (refsPart (length (v .head .sizes)) .lines (v .refs)))
+    lines-append lineOf (formLines (v .form)) _
+    ∙ ap (λ t. textOf (formLines (v .form)) ++ t)
+    (rw (append-nil (entriesPart (leb 2 (v .form)) (length (v .head .sizes)) .lines (v .refs)))
+    (lines-append lineOf (headPart true .lines (v .head)) (entriesPart (leb 2 (v .form)) (length (v .head .sizes)) .lines (v .refs))))

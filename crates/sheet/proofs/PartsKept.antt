@@ -52,7 +52,7 @@ whole-kept v = record { both = record { forth = λ w rest e. ap (λ x. read x re
 
 -- a part and what follows it, where the whole gives the part its value
 pub then-kept : {A B : Type 0} {p : Part A} {of : B → A} {more : A → Part B} {F : A → Type 0} {G : A → B → Type 0}
-    → Kept p F → ((a : A) → Kept (more a) (G a)) → ((a : A) (v : B) → F a → G a v → of v ≡ a)
+    → Kept p F → ((a : A) → F a → Kept (more a) (G a)) → ((a : A) (v : B) → F a → G a v → of v ≡ a)
     → Kept (then p of more) (λ v. F (of v) × G (of v) v)
 then-kept {A} {B} {p} {of} {more} {F} {G} k l m = record {
   both =
@@ -65,11 +65,11 @@ then-kept {A} {B} {p} {of} {more} {F} {G} k l m = record {
               append-assoc x y rest,
               k .both .forth (of v) (y ++ rest) (h .0),
             )
-            (l (of v) .both .forth v rest (h .1));
+            (l (of v) (h .0) .both .forth v rest (h .1));
         back = λ s v rest e.
             then-read (p .reads s) _ v rest e λ a mid e₁ e₂.
             let (t, f) = k .both .back s a mid e₁ in
-            let (u, g) = l a .both .back mid v rest e₂ in
+            let (u, g) = l a f .both .back mid v rest e₂ in
             rw (
               m a v f g,
               lines-append (λ (n : Line). lineText (n .0) (n .1)) (p .lines a) (more a .lines v),

@@ -1,6 +1,6 @@
--- Which refusals reading gives: 1 exactly where the sheet is too long, 2 to 5 for a line, 6 after the lines, and no other.
+-- Which refusals reading gives: 1 exactly where the sheet is too long, 2 to 5 or 16 for a line, 6 after the lines, and no other.
 -- Assumes nothing.
-use Prim.Native.Nat.{ℕ, zero, suc, _-_, _≤_, _<_}
+use Prim.Native.Nat.{ℕ, zero, suc, _-_, _≤_, _<_, max}
 use mathlib.Core.Path.{_≡_, refl, ap}
 use mathlib.Core.Bool.{Bool, true, false, cond, _&&_}
 use mathlib.Core.List.{List, [], _∷_}
@@ -8,201 +8,249 @@ use mathlib.Core.Logic.{_⊎_, inl, inr, ⊎-elim}
 use mathlib.Core.Option.{Option, none, some}
 use native.Mathlib.Omega.{arith}
 use borrow.Author.Tests.{ltb-true, ltb-false, lt-ltb}
-use lib.Dec.{eqb, ltb}
-use lib.ListN.{length}
+use lib.Dec.{eqb, leb, ltb}
+use lib.ListN.{length, take}
 use Rattle.decimal.specs.Decimal.{isNumber, value, readingOf}
 use Rattle.decimal.specs.declared.Reading.{Reading}
 use Rattle.decimal.specs.declared.Reading.the-variants.{NotNumber, OutOfRange as Beyond, Number}
+use Rattle.lines.specs.Keys.{lineFeed, slash, atSign, formKey, kindKey, aKey, segsKey, sizeKey, rowsKey, rowKey, stepsKey, refsKey, refKey, kindWord}
 use Rattle.model.specs.Refusals.{numberOf}
-use Rattle.model.specs.Sheets.{SheetValue, Valid, largestA, mostSegs, largestSize, mostRows, mostRefs, mostBytes}
+use Rattle.model.specs.Sheets.{SheetValue, Valid, formBytes, newestForm, largestA, mostSegs, largestSize, mostRows, mostSteps}
 use Rattle.model.specs.declared.Kind.the-variants.{Time, Space}
 use Rattle.model.specs.declared.PriceRow.{PriceRow}
 use Rattle.model.specs.declared.Refusal.{Refusal}
-use Rattle.model.specs.declared.Refusal.the-variants.{SheetTooLong, LineMalformed, ValueMalformed, OutOfRange, ThresholdNotAbove, BytesAfterEnd}
-use Rattle.lines.specs.Keys.{lineFeed, slash, kindKey, aKey, segsKey, sizeKey, rowsKey, rowKey, refsKey, refKey, kindWord}
-use Rattle.sheet.specs.Lines.{Parsed, read, refused, andThen, Split, parts, none as unsplit, splitAt, sameBytes, afterKey, ofLine, valueLine, inRange, numberLine}
+use Rattle.model.specs.declared.Refusal.the-variants.{SheetTooLong, LineMalformed, ValueMalformed, OutOfRange, ThresholdNotAbove, BytesAfterEnd, StepNotAbove}
+use Rattle.sheet.specs.Lines.{Parsed, read, refused, andThen, Split, parts, none as unsplit, splitAt, sameBytes, afterKey, ofLine}
+use Rattle.sheet.specs.Lines.{valueLine, inRange, numberLine, numberLines}
+use Rattle.sheet.specs.Order.{sizesPart, pricesPart, tablesPart, headPart, refsPart, stepsPart, entriesPart, runPart, bodyPart, sheetPart}
+use Rattle.sheet.specs.Reading.{sheetLines, namedForm, Outcome, accepted, rejected, atEnd, readForms, readSheet}
+use Rattle.sheet.specs.Touches.{Touch, touchParts, touchLine, touchLines, entriesFrom, entryLines}
 use Rattle.sheet.specs.Values.{kindOf, kindLine, above, inPrices, rowParts, rowLine, rowLines}
-use Rattle.sheet.specs.Lines.{numberLines}
-use Rattle.sheet.specs.Order.{sizesPart, pricesPart, tablesPart, headPart, refsPart, runPart, sheetPart}
-use Rattle.sheet.specs.Reading.{sheetLines, Outcome, accepted, rejected, atEnd, readSheet}
+use Rattle.sheet.proofs.Accepted.{accepted-valid}
 use Rattle.sheet.proofs.Parsing.{by-test}
 use Rattle.sheet.proofs.Runs.{lines, number-lines, row-lines}
-use Rattle.sheet.proofs.Accepted.{accepted-valid}
+use Rattle.sheet.proofs.Touches.{stepOf, touch-lines}
 
--- if this refuses, then with a number from 2 to m
-abbrev pub Refuses : {A : Type 0} → ℕ → Parsed A → Type 0
-Refuses m p = (r : Refusal) → p ≡ refused r → (2 ≤ numberOf r) × (numberOf r ≤ m)
+-- the refusals of a line: 2 to 5, and 16
+abbrev pub OfLine : Refusal → Type 0
+OfLine r = ((2 ≤ numberOf r) × (numberOf r ≤ 5)) ⊎ (numberOf r ≡ 16)
+
+-- if this refuses, then as a line does
+abbrev pub Refuses : {A : Type 0} → Parsed A → Type 0
+Refuses p = (r : Refusal) → p ≡ refused r → OfLine r
 
 -- ---- a value, a refusal, a test, and two steps
 
 -- a value is no refusal
-reading : {A : Type 0} (m : ℕ) (a : A) (s : List ℕ) → Refuses m (read a s)
-reading m a s r e = let z : _≡_ {A = ℕ} 0 1 = cc in absurd (omega arith)
+reading : {A : Type 0} (a : A) (s : List ℕ) → Refuses (read a s)
+reading a s r e = let z : _≡_ {A = ℕ} 0 1 = cc in absurd (omega arith)
 
--- a refusal by its number
-refusing : {A : Type 0} (m : ℕ) (x : Refusal) → 2 ≤ numberOf x → numberOf x ≤ m → Refuses {A = A} m (refused x)
-refusing m x l u r e = let q : x ≡ r = cc in rw (← q) (l, u)
+-- a refusal of a line
+refusing : {A : Type 0} (x : Refusal) → OfLine x → Refuses {A = A} (refused x)
+refusing x o r e = let q : x ≡ r = cc in rw (← q) o
 
 -- a test between two answers
-testing : {A : Type 0} (m : ℕ) (t : Bool) (x y : Parsed A) → Refuses m x → Refuses m y → Refuses m (cond t x y)
-testing m true x y f g = f
-testing m false x y f g = g
+testing : {A : Type 0} (t : Bool) (x y : Parsed A) → Refuses x → Refuses y → Refuses (cond t x y)
+testing true x y f g = f
+testing false x y f g = g
 
 -- two steps, the second from what the first reads
-stepping : {A B : Type 0} (m : ℕ) (p : Parsed A) (f : A → List ℕ → Parsed B) → Refuses m p
-    → ((a : A) (rest : List ℕ) → Refuses m (f a rest)) → Refuses m (andThen p f)
-stepping m (read a rest) f g h r e = h a rest r e
-stepping m (refused x) f g h r e = let q : x ≡ r = cc in g r (ap refused q)
+stepping : {A B : Type 0} (p : Parsed A) (f : A → List ℕ → Parsed B) → Refuses p
+    → ((a : A) (rest : List ℕ) → Refuses (f a rest)) → Refuses (andThen p f)
+stepping (read a rest) f g h r e = h a rest r e
+stepping (refused x) f g h r e = let q : x ≡ r = cc in g r (ap refused q)
 
--- ---- the lines: 2 for the key, 3 for a kind, 4 for a number, 5 for a row
+-- ---- the lines: 2 for the key, 3 for a kind, 4 for a number, 5 for a row, 16 for a touch
 
-module _ (m : ℕ) where
-  -- the key of a line
-  key-refuses : 2 ≤ m → (key line rest : List ℕ) → Refuses m (afterKey key line rest)
-  unfolding afterKey
-  key-refuses h [] line rest = reading m line rest
-  key-refuses h (k ∷ key) [] rest = refusing m LineMalformed (omega arith) h
-  key-refuses h (k ∷ key) (b ∷ line) rest =
-      testing m (eqb b k) _ _ (key-refuses h key line rest) (refusing m LineMalformed (omega arith) h)
+malformed : {A : Type 0} → Refuses {A = A} (refused LineMalformed)
+malformed = refusing LineMalformed (inl (omega arith, omega arith))
 
-  -- the value of a line
-  line-refuses : 2 ≤ m → (key s : List ℕ) → Refuses m (valueLine key s)
-  unfolding valueLine
-  line-refuses h key s = go (splitAt lineFeed s)
-    where
-      go : (p : Split) → Refuses m (ofLine key p)
-      go (parts line rest) = key-refuses h key line rest
-      go unsplit = refusing m LineMalformed (omega arith) h
+no-value : {A : Type 0} → Refuses {A = A} (refused ValueMalformed)
+no-value = refusing ValueMalformed (inl (omega arith, omega arith))
 
-  -- the line kind=
-  kind-refuses : 3 ≤ m → (s : List ℕ) → Refuses m (kindLine s)
-  unfolding kindLine
-  kind-refuses h s =
-      stepping m (valueLine kindKey s) kindOf (line-refuses (omega arith) kindKey s) λ v rest.
-      testing m (sameBytes v (kindWord Time)) _ _ (reading m Time rest)
-      (testing m (sameBytes v (kindWord Space)) _ _ (reading m Space rest) (refusing m ValueMalformed (omega arith) h))
+beyond : {A : Type 0} → Refuses {A = A} (refused OutOfRange)
+beyond = refusing OutOfRange (inl (omega arith, omega arith))
 
-  -- the line of a number
-  number-refuses : 4 ≤ m → (key : List ℕ) (lo hi : ℕ) (s : List ℕ) → Refuses m (numberLine key lo hi s)
-  unfolding numberLine
-  number-refuses h key lo hi s =
-      stepping m (valueLine key s) _ (line-refuses (omega arith) key s) λ v rest. go (readingOf lo hi v) rest
-    where
-      go : (x : Reading) (rest : List ℕ) → Refuses m (inRange x rest)
-      go NotNumber rest = refusing m ValueMalformed (omega arith) (omega arith)
-      go Beyond rest = refusing m OutOfRange (omega arith) h
-      go (Number n) rest = reading m n rest
+-- the key of a line
+key-refuses : (key line rest : List ℕ) → Refuses (afterKey key line rest)
+unfolding afterKey
+key-refuses [] line rest = reading line rest
+key-refuses (k ∷ key) [] rest = malformed
+key-refuses (k ∷ key) (b ∷ line) rest = testing (eqb b k) _ _ (key-refuses key line rest) malformed
 
-  -- the line row=
-  row-refuses : 5 ≤ m → (prev : Option PriceRow) (s : List ℕ) → Refuses m (rowLine prev s)
-  unfolding rowLine
-  row-refuses h prev s =
-      stepping m (valueLine rowKey s) _ (line-refuses (omega arith) rowKey s) λ v rest. go (splitAt slash v) rest
-    where
-      go : (p : Split) (rest : List ℕ) → Refuses m (rowParts prev p rest)
-      go (parts x y) rest =
-          testing m (isNumber x && isNumber y) _ _
-          (testing m (inPrices (value x) (value y)) _ _
-          (testing m (above prev (record { h = value x; d = value y })) _ _
-          (reading m _ rest)
-          (refusing m ThresholdNotAbove (omega arith) h))
-          (refusing m OutOfRange (omega arith) (omega arith)))
-          (refusing m ValueMalformed (omega arith) (omega arith))
-      go unsplit rest = refusing m ValueMalformed (omega arith) (omega arith)
+-- the value of a line
+line-refuses : (key s : List ℕ) → Refuses (valueLine key s)
+unfolding valueLine
+line-refuses key s = go (splitAt lineFeed s)
+  where
+    go : (p : Split) → Refuses (ofLine key p)
+    go (parts line rest) = key-refuses key line rest
+    go unsplit = malformed
 
-  -- a run of lines refuses as its lines do
-  lines-refuse : {A : Type 0} (p : Option A → List ℕ → Parsed A) → ((prev : Option A) (s : List ℕ) → Refuses m (p prev s))
-      → (n : ℕ) (prev : Option A) (s : List ℕ) → Refuses m (lines p n prev s)
-  unfolding lines
-  lines-refuse p f zero prev s = reading m [] s
-  lines-refuse p f (suc n) prev s =
-      stepping m (p prev s) _ (f prev s) λ x rest.
-      stepping m (lines p n (some x) rest) _ (lines-refuse p f n (some x) rest) λ xs end.
-      reading m (x ∷ xs) end
+-- the line kind=
+kind-refuses : (s : List ℕ) → Refuses (kindLine s)
+unfolding kindLine
+kind-refuses s =
+    stepping (valueLine kindKey s) kindOf (line-refuses kindKey s) λ v rest.
+    testing (sameBytes v (kindWord Time)) _ _ (reading Time rest)
+    (testing (sameBytes v (kindWord Space)) _ _ (reading Space rest) no-value)
 
-  -- n lines of numbers
-  numbers-refuse : 4 ≤ m → (key : List ℕ) (lo hi n : ℕ) (s : List ℕ) → Refuses m (numberLines key lo hi n s)
-  numbers-refuse h key lo hi n s =
-      rw (number-lines key lo hi n none s) (lines-refuse (λ _. numberLine key lo hi) (λ _. number-refuses h key lo hi) n none s)
+-- the line of a number
+number-refuses : (key : List ℕ) (lo hi : ℕ) (s : List ℕ) → Refuses (numberLine key lo hi s)
+unfolding numberLine
+number-refuses key lo hi s = stepping (valueLine key s) _ (line-refuses key s) λ v rest. go (readingOf lo hi v) rest
+  where
+    go : (x : Reading) (rest : List ℕ) → Refuses (inRange x rest)
+    go NotNumber rest = no-value
+    go Beyond rest = beyond
+    go (Number n) rest = reading n rest
 
-  -- n lines of rows
-  rows-refuse : 5 ≤ m → (n : ℕ) (s : List ℕ) → Refuses m (rowLines n none s)
-  rows-refuse h n s = rw (row-lines n none s) (lines-refuse rowLine (row-refuses h) n none s)
+-- the line row=
+row-refuses : (prev : Option PriceRow) (s : List ℕ) → Refuses (rowLine prev s)
+unfolding rowLine
+row-refuses prev s = stepping (valueLine rowKey s) _ (line-refuses rowKey s) λ v rest. go (splitAt slash v) rest
+  where
+    go : (p : Split) (rest : List ℕ) → Refuses (rowParts prev p rest)
+    go (parts x y) rest =
+        testing (isNumber x && isNumber y) _ _
+        (testing (inPrices (value x) (value y)) _ _
+        (testing (above prev (record { h = value x; d = value y })) _ _
+        (reading _ rest)
+        (refusing ThresholdNotAbove (inl (omega arith, omega arith))))
+        beyond)
+        no-value
+    go unsplit rest = no-value
 
--- the head refuses with 2 to 5
-head-refuses : (s : List ℕ) → Refuses 5 (headPart .reads s)
+-- the line ref= of form 2
+touch-refuses : (segs steps before : ℕ) (s : List ℕ) → Refuses (touchLine segs steps before s)
+unfolding touchLine
+touch-refuses segs steps before s = stepping (valueLine refKey s) _ (line-refuses refKey s) λ v rest. go (splitAt atSign v) rest
+  where
+    go : (p : Split) (rest : List ℕ) → Refuses (touchParts segs steps before p rest)
+    go (parts x y) rest =
+        testing (isNumber x && isNumber y) _ _
+        (testing (ltb (value x) segs) _ _
+        (testing (ltb before (value y) && leb (value y) steps) _ _ (reading _ rest) (refusing StepNotAbove (inr refl)))
+        beyond)
+        no-value
+    go unsplit rest = no-value
+
+-- a run of lines refuses as its lines do
+lines-refuse : {A : Type 0} (p : Option A → List ℕ → Parsed A) → ((prev : Option A) (s : List ℕ) → Refuses (p prev s))
+    → (n : ℕ) (prev : Option A) (s : List ℕ) → Refuses (lines p n prev s)
+unfolding lines
+lines-refuse p f zero prev s = reading [] s
+lines-refuse p f (suc n) prev s =
+    stepping (p prev s) _ (f prev s) λ x rest.
+    stepping (lines p n (some x) rest) _ (lines-refuse p f n (some x) rest) λ xs end.
+    reading (x ∷ xs) end
+
+-- n lines of numbers, of rows, of touches
+numbers-refuse : (key : List ℕ) (lo hi n : ℕ) (s : List ℕ) → Refuses (numberLines key lo hi n s)
+numbers-refuse key lo hi n s =
+    rw (number-lines key lo hi n none s) (lines-refuse (λ _. numberLine key lo hi) (λ _. number-refuses key lo hi) n none s)
+
+rows-refuse : (n : ℕ) (s : List ℕ) → Refuses (rowLines n none s)
+rows-refuse n s = rw (row-lines n none s) (lines-refuse rowLine row-refuses n none s)
+
+touches-refuse : (segs steps n : ℕ) (s : List ℕ) → Refuses (entryLines segs steps n s)
+touches-refuse segs steps n s =
+    stepping (touchLines segs steps n 0 s) _
+    (rw (touch-lines segs steps n none s)
+    (lines-refuse (λ p. touchLine segs steps (stepOf p)) (λ p. touch-refuses segs steps (stepOf p)) n none s))
+    (λ xs rest. reading (entriesFrom 0 steps xs) rest)
+
+-- the head
+head-refuses : (taken : Bool) (s : List ℕ) → Refuses (headPart taken .reads s)
 unfolding headPart tablesPart sizesPart pricesPart
-head-refuses s =
-    stepping 5 (kindLine s) _ (kind-refuses 5 (omega arith) s) λ kind s₁.
-    stepping 5 (numberLine aKey 0 largestA s₁) _ (number-refuses 5 (omega arith) aKey 0 largestA s₁) λ a s₂.
-    stepping 5 (sizesPart .reads s₂) _
-    (stepping 5 (numberLine segsKey 1 mostSegs s₂) _ (number-refuses 5 (omega arith) segsKey 1 mostSegs s₂)
-    (numbers-refuse 5 (omega arith) sizeKey 1 largestSize)) λ sizes s₃.
-    stepping 5 (pricesPart .reads s₃) _
-    (stepping 5 (numberLine rowsKey 1 mostRows s₃) _ (number-refuses 5 (omega arith) rowsKey 1 mostRows s₃)
-    (rows-refuse 5 (omega arith))) λ rows s₄.
-    reading 5 _ s₄
+head-refuses taken s =
+    stepping _ _ (stepping (kindLine s) _ (kind-refuses s) (λ kind rest. testing taken _ _ (reading kind rest) beyond)) λ kind s₁.
+    stepping (numberLine aKey 0 largestA s₁) _ (number-refuses aKey 0 largestA s₁) λ a s₂.
+    stepping (sizesPart .reads s₂) _
+    (stepping (numberLine segsKey 1 mostSegs s₂) _ (number-refuses segsKey 1 mostSegs s₂) (numbers-refuse sizeKey 1 largestSize)) λ sizes s₃.
+    stepping (pricesPart .reads s₃) _
+    (stepping (numberLine rowsKey 1 mostRows s₃) _ (number-refuses rowsKey 1 mostRows s₃) rows-refuse) λ rows s₄.
+    reading _ s₄
 
--- so do the references
-refs-refuse : (segs : ℕ) (s : List ℕ) → Refuses 5 (refsPart segs .reads s)
-unfolding refsPart
-refs-refuse segs s =
-    stepping 5 (numberLine refsKey 0 mostRefs s) _ (number-refuses 5 (omega arith) refsKey 0 mostRefs s)
-    (numbers-refuse 5 (omega arith) refKey 0 (segs - 1))
+-- the entries
+entries-refuse : (later : Bool) (segs : ℕ) (s : List ℕ) → Refuses (entriesPart later segs .reads s)
+unfolding refsPart stepsPart
+entries-refuse true segs s =
+    stepping (numberLine stepsKey 0 mostSteps s) _ (number-refuses stepsKey 0 mostSteps s) λ steps s₁.
+    stepping (numberLine refsKey 0 steps s₁) _ (number-refuses refsKey 0 steps s₁) (touches-refuse segs steps)
+entries-refuse false segs s =
+    stepping (numberLine refsKey 0 mostSteps s) _ (number-refuses refsKey 0 mostSteps s) (numbers-refuse refKey 0 (segs - 1))
 
 -- and the lines of a sheet
-pub sheet-refuses : (s : List ℕ) → Refuses 5 (sheetLines s)
-unfolding sheetPart runPart
-sheet-refuses s =
-    stepping 5 (headPart .reads s) _ (head-refuses s) λ head s₁.
-    stepping 5 (refsPart (length (head .sizes)) .reads s₁) _ (refs-refuse (length (head .sizes)) s₁) λ refs s₂.
-    reading 5 _ s₂
+body-refuses : (lo form : ℕ) (s : List ℕ) → Refuses (bodyPart lo form .reads s)
+unfolding bodyPart runPart
+body-refuses lo form s =
+    stepping (headPart (leb lo form) .reads s) _ (head-refuses (leb lo form) s) λ head s₁.
+    stepping (entriesPart (leb 2 form) (length (head .sizes)) .reads s₁) _ (entries-refuse (leb 2 form) (length (head .sizes)) s₁) λ refs s₂.
+    reading _ s₂
+
+pub sheet-refuses : (lo hi : ℕ) (s : List ℕ) → Refuses (sheetLines lo hi s)
+unfolding sheetPart
+sheet-refuses lo hi s =
+    testing (sameBytes (take 5 s) formKey) _ _
+    (stepping (numberLine formKey (max 2 lo) hi s) _ (number-refuses formKey (max 2 lo) hi s) (body-refuses lo))
+    (body-refuses lo 1 s)
 
 -- ---- a sheet
 
--- what follows the last line is refused with 6
-end-refuses : (p : Parsed SheetValue) → Refuses 5 p → (r : Refusal) → atEnd p ≡ rejected r → (2 ≤ numberOf r) × (numberOf r ≤ 6)
-end-refuses (read v []) f r e = let z : _≡_ {A = ℕ} 0 1 = cc in absurd (omega arith)
-end-refuses (read v (b ∷ rest)) f r e = let q : BytesAfterEnd ≡ r = cc in rw (← q) (omega arith)
-end-refuses (refused x) f r e = let q : x ≡ r = cc in omega (arith, f r (ap refused q))
+-- the refusals of a sheet that is not too long: 2 to 6, and 16
+abbrev pub OfSheet : Refusal → Type 0
+OfSheet r = ((2 ≤ numberOf r) × (numberOf r ≤ 6)) ⊎ (numberOf r ≡ 16)
 
--- a refused sheet: it is too long and the refusal is 1, or it is not and the refusal is 2 to 6
-pub rejected-by : (s : List ℕ) (r : Refusal) → readSheet s ≡ rejected r
-    → ((mostBytes < length s) × (r ≡ SheetTooLong)) ⊎ ((length s ≤ mostBytes) × (2 ≤ numberOf r) × (numberOf r ≤ 6))
-unfolding readSheet
-rejected-by s r e =
-    by-test (ltb mostBytes (length s)) (rejected SheetTooLong) (atEnd (sheetLines s)) (rejected r) e
-    (λ h f. inl (ltb-true mostBytes (length s) h, (cc)))
-    (λ h f. let (l, u) = end-refuses (sheetLines s) (sheet-refuses s) r f in inr (ltb-false mostBytes (length s) h, l, u))
+-- what follows the last line is refused with 6
+end-refuses : (p : Parsed SheetValue) → Refuses p → (r : Refusal) → atEnd p ≡ rejected r → OfSheet r
+end-refuses (read v []) f r e = let z : _≡_ {A = ℕ} 0 1 = cc in absurd (omega arith)
+end-refuses (read v (b ∷ rest)) f r e = let q : BytesAfterEnd ≡ r = cc in rw (← q) (inl (omega arith, omega arith))
+end-refuses (refused x) f r e = let q : x ≡ r = cc in ⊎-elim (λ w. inl (omega (arith, w), omega (arith, w))) inr (f r (ap refused q))
+
+-- a refused sheet: it is longer than its form allows and the refusal is 1, or it is not and the refusal is 2 to 6 or 16
+pub rejected-by : (lo hi : ℕ) (s : List ℕ) (r : Refusal) → readForms lo hi s ≡ rejected r
+    → ((formBytes (namedForm s) < length s) × (r ≡ SheetTooLong)) ⊎ ((length s ≤ formBytes (namedForm s)) × OfSheet r)
+unfolding readForms
+rejected-by lo hi s r e =
+    by-test (ltb (formBytes (namedForm s)) (length s)) (rejected SheetTooLong) (atEnd (sheetLines lo hi s)) (rejected r) e
+    (λ h f. inl (ltb-true (formBytes (namedForm s)) (length s) h, (cc)))
+    (λ h f. inr (ltb-false (formBytes (namedForm s)) (length s) h, end-refuses (sheetLines lo hi s) (sheet-refuses lo hi s) r f))
 
 -- 1 is given exactly where the sheet is too long
-pub too-long : (s : List ℕ) → readSheet s ≡ rejected SheetTooLong → mostBytes < length s
-too-long s e = ⊎-elim (λ w. w .0) (λ w. absurd (omega (arith, w .1))) (rejected-by s SheetTooLong e)
+pub too-long : (lo hi : ℕ) (s : List ℕ) → readForms lo hi s ≡ rejected SheetTooLong → formBytes (namedForm s) < length s
+too-long lo hi s e =
+    ⊎-elim (λ w. w .0) (λ w. absurd (⊎-elim (λ o. omega (arith, o)) (λ o. omega (arith, o)) (w .1))) (rejected-by lo hi s SheetTooLong e)
 
 -- and it is given there
-pub long-refused : (s : List ℕ) → mostBytes < length s → readSheet s ≡ rejected SheetTooLong
-unfolding readSheet
-long-refused s h = rw (lt-ltb mostBytes (length s) h)
+pub long-refused : (lo hi : ℕ) (s : List ℕ) → formBytes (namedForm s) < length s → readForms lo hi s ≡ rejected SheetTooLong
+unfolding readForms
+long-refused lo hi s h = rw (lt-ltb (formBytes (namedForm s)) (length s) h)
 
--- every refusal is one of 1 to 6
-pub refusals-1-to-6 : (s : List ℕ) (r : Refusal) → readSheet s ≡ rejected r → (1 ≤ numberOf r) × (numberOf r ≤ 6)
-refusals-1-to-6 s r e = ⊎-elim (λ w. rw (w .1) (omega arith)) (λ w. omega (arith, w .1, w .2)) (rejected-by s r e)
+-- the refusals of a sheet: 1 to 6, and 16
+abbrev pub RefusesSheet : Refusal → Type 0
+RefusesSheet r = ((1 ≤ numberOf r) × (numberOf r ≤ 6)) ⊎ (numberOf r ≡ 16)
+
+-- every refusal is one of them
+pub sheet-refusals : (lo hi : ℕ) (s : List ℕ) (r : Refusal) → readForms lo hi s ≡ rejected r → RefusesSheet r
+sheet-refusals lo hi s r e =
+    ⊎-elim (λ w. rw (w .1) (inl (omega arith, omega arith))) (λ w. ⊎-elim (λ o. inl (omega (arith, o), omega (arith, o))) inr (w .1))
+    (rejected-by lo hi s r e)
 
 -- ---- exactly one answer
 
--- a run of bytes is accepted as a valid value, or refused with 1 to 6
+-- a run of bytes is accepted as a valid value, or refused with 1 to 6 or 16
 abbrev pub Answer : List ℕ → Type 0
 Answer s =
-    ((v : SheetValue) × (readSheet s ≡ accepted v) × Valid v)
-    ⊎ ((r : Refusal) × (readSheet s ≡ rejected r) × (1 ≤ numberOf r) × (numberOf r ≤ 6))
+    ((v : SheetValue) × (readSheet s ≡ accepted v) × Valid v) ⊎ ((r : Refusal) × (readSheet s ≡ rejected r) × RefusesSheet r)
 
 -- every run of bytes has such an answer
 pub answered : (s : List ℕ) → Answer s
 answered s = go (readSheet s) refl
   where
     go : (o : Outcome) → readSheet s ≡ o → Answer s
-    go (accepted v) e = inl (v, e, accepted-valid s v e)
-    go (rejected r) e = let (l, u) = refusals-1-to-6 s r e in inr (r, e, l, u)
+    go (accepted v) e = inl (v, e, accepted-valid 1 newestForm (omega arith) s v e)
+    go (rejected r) e = inr (r, e, sheet-refusals 1 newestForm s r e)
 
 -- an accepted one has one value
 pub one-value : (s : List ℕ) (v w : SheetValue) → readSheet s ≡ accepted v → readSheet s ≡ accepted w → v ≡ w

@@ -1,39 +1,57 @@
 -- The lines of a sheet one after another: which values they are read as, and that each such value is read from its own lines.
 -- Assumes nothing.
-use Prim.Native.Nat.{ℕ, _-_, _≤_}
-use mathlib.Core.Path.{_≡_, refl, sym, ap, _∙_}
-use mathlib.Core.Bool.{true}
-use mathlib.Core.List.{List}
+use Prim.Native.Nat.{ℕ, suc, _+_, _-_, _≤_, max}
+use mathlib.Core.Path.{_≡_, refl, sym, ap, subst, _∙_}
+use mathlib.Core.Bool.{Bool, true, false, cond}
+use mathlib.Core.List.{List, [], _∷_, _++_, append-assoc, append-nil, map}
 use mathlib.Core.Option.{Option, none}
-use lib.ListN.{length}
+use native.Mathlib.Nat.{sub-zero}
+use native.Mathlib.Omega.{arith}
+use borrow.Author.Tests.{le-leb, leb-true, leb-false}
+use lib.Dec.{eqb, leb}
+use lib.ListN.{length, take}
 use Rattle.decimal.specs.Decimal.{written}
-use Rattle.lines.specs.Keys.{lineFeed, kindKey, aKey, segsKey, sizeKey, rowsKey, rowKey, refsKey, refKey, kindWord}
-use Rattle.lines.specs.Texts.{numberText}
-use Rattle.lines.proofs.Runs.{Each}
-use Rattle.model.specs.Sheets.{HeadValue, SheetValue, largestA, mostSegs, largestSize, mostRows, mostRefs}
-use Rattle.sheet.specs.Lines.{read, numberLine}
-use Rattle.sheet.specs.Order.{numberPart, numbersPart, rowsPart, sizesPart, pricesPart, tablesPart, headPart, refsPart, runPart, sheetPart}
-use Rattle.sheet.specs.Reading.{sheetLines}
-use Rattle.sheet.specs.Values.{rowLine, rowWord, rowText}
+use Rattle.lines.specs.Keys.{lineFeed, formKey, kindKey, aKey, segsKey, sizeKey, rowsKey, rowKey, stepsKey, refsKey, refKey, kindWord}
+use Rattle.lines.specs.Texts.{lineText, numberText, linesText}
+use Rattle.lines.proofs.Runs.{Each, lines-map, lines-append}
+use Rattle.model.specs.Sheets.{HeadValue, SheetValue, idle, newestForm, largestA, mostSegs, largestSize, mostRows, mostSteps}
+use Rattle.model.specs.declared.Kind.{Kind}
+use Rattle.model.specs.declared.Kind.the-variants.{Time, Space}
+use Rattle.model.specs.declared.Refusal.the-variants.{LineMalformed, OutOfRange}
+use Rattle.sheet.specs.Lines.{read, refused, andThen, splitAt, sameBytes, afterKey, valueLine, numberLine}
+use Rattle.sheet.specs.Order.{kindFor, numberPart, numbersPart, rowsPart, sizesPart, pricesPart, tablesPart, headPart}
+use Rattle.sheet.specs.Order.{refsPart, touchesPart, stepsPart, entriesPart, runPart, bodyPart, formLines, sheetPart, linesOf}
+use Rattle.sheet.specs.Parts.{Line, textOf}
+use Rattle.sheet.specs.Reading.{sheetLines, formIn, namedForm}
+use Rattle.sheet.specs.Touches.{touchWord, touchesText, touchLines, touchesFrom, touchesOf, entriesFrom, entryLines}
+use Rattle.sheet.specs.Values.{kindLine, rowLine, rowWord, rowText}
 use Rattle.sheet.specs.Writing.{sheetText}
-use Rattle.sheet.proofs.Parsing.{Reads, lacks}
+use Rattle.sheet.proofs.Parsing.{by-test, passed, then-read, Reads, lacks}
 use Rattle.sheet.proofs.PartsKept.{Kept, reads-as, line-kept, lines-kept, whole-kept, then-kept}
 use Rattle.sheet.proofs.Runs.{lines-reads, number-lines, row-lines}
+use Rattle.sheet.proofs.Touches.{EntryFits, touches-reads, touches-back, entries-back, entries-length, entries-fit, touches-fit}
 use Rattle.sheet.proofs.Words.{number-reads, kind-reads, row-reads, RowFits}
 
 -- a number lo to hi, whatever stands before it
 abbrev pub From : ℕ → ℕ → Option ℕ → ℕ → Type 0
 From lo hi prev n = (lo ≤ n) × (n ≤ hi)
 
--- what the lines of a sheet ask of its value, line by line
-pub record Readable (v : SheetValue) : Type 0 where
+-- what the entries of a sheet are asked for: in form 1 segments, from form 2 on segments or idle
+abbrev pub EntriesFit : Bool → ℕ → List ℕ → Type 0
+EntriesFit true segs xs = (length xs ≤ mostSteps) × Each (EntryFits segs) none xs
+EntriesFit false segs xs = (length xs ≤ mostSteps) × Each (From 0 (segs - 1)) none xs
+
+-- what the lines of a sheet ask of its value, line by line, for a call that takes the forms lo to hi
+pub record Readable (lo hi : ℕ) (v : SheetValue) : Type 0 where
+  pub some-form : 1 ≤ v .form
+  pub form-taken : lo ≤ v .form
+  pub form-known : 2 ≤ v .form → v .form ≤ hi
   pub a-fits : (0 ≤ v .head .a) × (v .head .a ≤ largestA)
   pub segs-fit : (1 ≤ length (v .head .sizes)) × (length (v .head .sizes) ≤ mostSegs)
   pub sizes-fit : Each (From 1 largestSize) none (v .head .sizes)
   pub rows-fit : (1 ≤ length (v .head .rows)) × (length (v .head .rows) ≤ mostRows)
   pub prices-fit : Each RowFits none (v .head .rows)
-  pub refs-fit : (0 ≤ length (v .refs)) × (length (v .refs) ≤ mostRefs)
-  pub touches-fit : Each (From 0 (length (v .head .sizes) - 1)) none (v .refs)
+  pub entries-fit : EntriesFit (leb 2 (v .form)) (length (v .head .sizes)) (v .refs)
 
 -- ---- the parts
 
@@ -68,76 +86,263 @@ Counted lo hi F xs = ((lo ≤ length xs) × (length xs ≤ hi)) × ((length xs �
 
 sizes-kept : Kept sizesPart (Counted 1 mostSegs (From 1 largestSize))
 unfolding sizesPart
-sizes-kept = then-kept (number-kept segsKey 1 mostSegs refl) (λ n. numbers-kept sizeKey 1 largestSize n refl) (λ n xs f g. g .0)
+sizes-kept = then-kept (number-kept segsKey 1 mostSegs refl) (λ n _. numbers-kept sizeKey 1 largestSize n refl) (λ n xs f g. g .0)
 
 prices-kept : Kept pricesPart (Counted 1 mostRows RowFits)
 unfolding pricesPart
-prices-kept = then-kept (number-kept rowsKey 1 mostRows refl) rows-kept (λ n qs f g. g .0)
+prices-kept = then-kept (number-kept rowsKey 1 mostRows refl) (λ n _. rows-kept n) (λ n qs f g. g .0)
 
-refs-kept : (segs : ℕ) → Kept (refsPart segs) (Counted 0 mostRefs (From 0 (segs - 1)))
+refs-kept : (segs : ℕ) → Kept (refsPart segs) (Counted 0 mostSteps (From 0 (segs - 1)))
 unfolding refsPart
-refs-kept segs = then-kept (number-kept refsKey 0 mostRefs refl) (λ n. numbers-kept refKey 0 (segs - 1) n refl) (λ n xs f g. g .0)
+refs-kept segs = then-kept (number-kept refsKey 0 mostSteps refl) (λ n _. numbers-kept refKey 0 (segs - 1) n refl) (λ n xs f g. g .0)
+
+-- n lines of touches, where an idle entry is no segment
+touches-kept : (segs steps n : ℕ) → segs ≤ idle
+    → Kept (touchesPart segs steps n) (λ xs. (length xs ≡ steps) × ((length (touchesOf xs) ≡ n) × Each (EntryFits segs) none xs))
+touches-kept segs steps n h = record { both = record { forth = forth; back = back } }
+  where
+    text : (xs : List ℕ) → textOf (map (λ x. (refKey, touchWord x)) (touchesOf xs)) ≡ touchesText (touchesOf xs)
+    text xs = lines-map (λ (l : Line). lineText (l .0) (l .1)) (λ x. (refKey, touchWord x)) (touchesOf xs)
+
+    forth : (xs rest : List ℕ) → (length xs ≡ steps) × ((length (touchesOf xs) ≡ n) × Each (EntryFits segs) none xs)
+        → entryLines segs steps n (textOf (map (λ x. (refKey, touchWord x)) (touchesOf xs)) ++ rest) ≡ read xs rest
+    forth xs rest (l, (k, c)) =
+        let e : 0 + length xs ≡ steps = omega (arith, l) in
+        let f = touches-reads segs steps n .forth (touchesOf xs) rest
+        (k, touches-fit segs steps xs none none 0 (omega arith) (omega (arith, l)) c) in
+        rw (text xs, f) (ap (λ ys. read ys rest) (ap (λ m. entriesFrom 0 m (touchesOf xs)) (sym e) ∙ entries-back xs 0))
+
+    back : (s xs rest : List ℕ) → entryLines segs steps n s ≡ read xs rest
+        → (s ≡ textOf (map (λ x. (refKey, touchWord x)) (touchesOf xs)) ++ rest)
+        × ((length xs ≡ steps) × ((length (touchesOf xs) ≡ n) × Each (EntryFits segs) none xs))
+    back s xs rest e =
+        then-read (touchLines segs steps n 0 s) _ xs rest e λ ts mid e₁ e₂.
+        let (t, (k, c)) = touches-reads segs steps n .back s ts mid e₁ in
+        let q : entriesFrom 0 steps ts ≡ xs = cc in
+        let m : mid ≡ rest = cc in
+        let o : touchesOf xs ≡ ts = ap touchesOf (sym q) ∙ touches-back segs steps h ts none c in
+        let l = entries-length segs steps ts none (omega arith) c in
+        rw (text xs, o) (t ∙ rw m, (ap length (sym q) ∙ (l ∙ sub-zero steps), (k, rw q at (entries-fit segs steps ts none none c))))
+
+-- steps=, refs= and the touches
+steps-kept : (segs : ℕ) → segs ≤ idle → Kept (stepsPart segs)
+    (λ xs. ((0 ≤ length xs) × (length xs ≤ mostSteps)) × (((0 ≤ length (touchesOf xs)) × (length (touchesOf xs) ≤ length xs))
+    × ((length xs ≡ length xs) × ((length (touchesOf xs) ≡ length (touchesOf xs)) × Each (EntryFits segs) none xs))))
+unfolding stepsPart
+steps-kept segs h =
+    then-kept (number-kept stepsKey 0 mostSteps refl)
+    (λ steps _. then-kept (number-kept refsKey 0 steps refl)
+    (λ n _. touches-kept segs steps n h)
+    (λ n xs f g. g .1 .0))
+    (λ steps xs f g. g .1 .0)
+
+-- touches are no more than entries
+touches-few : (xs : List ℕ) (before : ℕ) → length (touchesFrom before xs) ≤ length xs
+unfolding touchesFrom
+touches-few [] before = omega arith
+touches-few (x ∷ xs) before = go (eqb x idle) (touches-few xs (suc before))
+  where
+    go : (b : Bool) → length (touchesFrom (suc before) xs) ≤ length xs
+        → length (cond b (touchesFrom (suc before) xs) (record { segment = x; step = suc before } ∷ touchesFrom (suc before) xs)) ≤ suc (length xs)
+    go true l = omega (arith, l)
+    go false l = omega (arith, l)
+
+-- the entries of a form
+entries-kept : (later : Bool) (segs : ℕ) → segs ≤ idle → Kept (entriesPart later segs) (EntriesFit later segs)
+entries-kept true segs h = record {
+  both = reads-as (steps-kept segs h .both) (λ xs f. (f .0 .1, f .1 .1 .1 .1))
+      (λ xs f. ((omega arith, f .0), ((omega arith, touches-few xs 0), (refl, (refl, f .1)))));
+}
+entries-kept false segs h = record {
+  both = reads-as (refs-kept segs .both) (λ xs f. (f .0 .1, f .1 .1)) (λ xs f. ((omega arith, f .0), (refl, f .1)));
+}
+
+-- kind= of a sheet whose form is taken
+kind-kept : (taken : Bool) → Kept (kindFor taken) (λ k. taken ≡ true)
+kind-kept taken = line-kept kindKey kindWord _ _ (record { forth = forth; back = back })
+  where
+    forth : (k : Kind) (rest : List ℕ) → taken ≡ true
+        → andThen (kindLine (lineText kindKey (kindWord k) ++ rest)) (λ kind end. cond taken (read kind end) (refused OutOfRange)) ≡ read k rest
+    forth k rest e = rw (kind-reads .forth k rest tt, e)
+
+    back : (s : List ℕ) (k : Kind) (rest : List ℕ)
+        → andThen (kindLine s) (λ kind end. cond taken (read kind end) (refused OutOfRange)) ≡ read k rest
+        → (s ≡ lineText kindKey (kindWord k) ++ rest) × (taken ≡ true)
+    back s k rest e =
+        then-read (kindLine s) _ k rest e λ kind mid e₁ e₂.
+        let (h, f) = passed taken _ _ k rest e₂ in
+        let q : kind ≡ k = cc in
+        let m : mid ≡ rest = cc in
+        (rw (← q, ← m) (kind-reads .back s kind mid e₁ .0), h)
 
 -- the head, and its parts one after another
-abbrev HeadFits : HeadValue → Type 0
-HeadFits h =
-    Unit {0} × (((0 ≤ h .a) × (h .a ≤ largestA)) × (Counted 1 mostSegs (From 1 largestSize) (h .sizes)
+abbrev HeadFits : Bool → HeadValue → Type 0
+HeadFits taken h =
+    (taken ≡ true) × (((0 ≤ h .a) × (h .a ≤ largestA)) × (Counted 1 mostSegs (From 1 largestSize) (h .sizes)
     × (Counted 1 mostRows RowFits (h .rows) × (h ≡ record { kind = h .kind; a = h .a; sizes = h .sizes; rows = h .rows }))))
 
-head-kept : Kept headPart HeadFits
+head-kept : (taken : Bool) → Kept (headPart taken) (HeadFits taken)
 unfolding headPart tablesPart
-head-kept =
-    then-kept (line-kept kindKey kindWord _ _ kind-reads)
-    (λ kind. then-kept (number-kept aKey 0 largestA refl)
-    (λ a. then-kept sizes-kept
-    (λ sizes. then-kept prices-kept
-    (λ rows. whole-kept (record { kind = kind; a = a; sizes = sizes; rows = rows }))
+head-kept taken =
+    then-kept (kind-kept taken)
+    (λ kind _. then-kept (number-kept aKey 0 largestA refl)
+    (λ a _. then-kept sizes-kept
+    (λ sizes _. then-kept prices-kept
+    (λ rows _. whole-kept (record { kind = kind; a = a; sizes = sizes; rows = rows }))
     (λ rows h f g. ap (λ (w : HeadValue). w .rows) g))
     (λ sizes h f g. ap (λ (w : HeadValue). w .sizes) (g .1)))
     (λ a h f g. ap (λ (w : HeadValue). w .a) (g .1 .1)))
     (λ kind h f g. ap (λ (w : HeadValue). w .kind) (g .1 .1 .1))
 
 -- a head that is read has a segment
-pub head-segs : (s : List ℕ) (h : HeadValue) (rest : List ℕ) → headPart .reads s ≡ read h rest → 1 ≤ length (h .sizes)
-head-segs s h rest e = head-kept .both .back s h rest e .1 .1 .1 .0 .0 .0
+pub head-segs : (taken : Bool) (s : List ℕ) (h : HeadValue) (rest : List ℕ) → headPart taken .reads s ≡ read h rest
+    → (1 ≤ length (h .sizes)) × (length (h .sizes) ≤ mostSegs)
+head-segs taken s h rest e = head-kept taken .both .back s h rest e .1 .1 .1 .0 .0
 
--- the head, and then the references
-abbrev SheetFits : SheetValue → Type 0
-SheetFits v =
-    HeadFits (v .head) × (Counted 0 mostRefs (From 0 (length (v .head .sizes) - 1)) (v .refs)
-    × (v ≡ record { head = v .head; refs = v .refs }))
+-- the head, and then the entries
+abbrev BodyFits : ℕ → ℕ → SheetValue → Type 0
+BodyFits lo form v =
+    HeadFits (leb lo form) (v .head) × (EntriesFit (leb 2 form) (length (v .head .sizes)) (v .refs)
+    × (v ≡ record { form = form; head = v .head; refs = v .refs }))
 
-sheet-kept : Kept sheetPart SheetFits
-unfolding sheetPart runPart
-sheet-kept =
-    then-kept head-kept
-    (λ head. then-kept (refs-kept (length (head .sizes)))
-    (λ refs. whole-kept (record { head = head; refs = refs }))
+body-kept : (lo form : ℕ) → Kept (bodyPart lo form) (BodyFits lo form)
+unfolding bodyPart runPart
+body-kept lo form =
+    then-kept (head-kept (leb lo form))
+    (λ head f. then-kept (entries-kept (leb 2 form) (length (head .sizes)) (omega (arith, f .1 .1 .0 .0 .1)))
+    (λ refs _. whole-kept (record { form = form; head = head; refs = refs }))
     (λ refs v f g. ap (λ (w : SheetValue). w .refs) g))
     (λ head v f g. ap (λ (w : SheetValue). w .head) (g .1))
 
 -- ---- the sheet
 
--- what is read is the text of a readable value, and the text of a readable value is read back
-pub sheet-reads : Reads sheetLines sheetText Readable
-unfolding sheetText
-sheet-reads = reads-as (sheet-kept .both) to from
-  where
-    to : (v : SheetValue) → SheetFits v → Readable v
-    to v (h, (r, e)) =
-        let (k, (a, (s, (q, i)))) = h in
-        record {
-          a-fits = a;
-          segs-fit = s .0;
-          sizes-fit = s .1 .1;
-          rows-fit = q .0;
-          prices-fit = q .1 .1;
-          refs-fit = r .0;
-          touches-fit = r .1 .1;
-        }
+-- the lines do not depend on the forms that a call takes
+pub lines-same : (lo hi : ℕ) (v : SheetValue) → sheetPart lo hi .lines v ≡ linesOf v
+unfolding sheetPart bodyPart headPart
+lines-same lo hi v = refl
 
-    from : (v : SheetValue) → Readable v → SheetFits v
-    from v c = (
-      (tt, (c .a-fits, ((c .segs-fit, (refl, c .sizes-fit)), ((c .rows-fit, (refl, c .prices-fit)), refl)))),
-      ((c .refs-fit, (refl, c .touches-fit)), refl),
-    )
+module _ (lo hi : ℕ) where
+  -- the fits of the parts are those of the record
+  to : (v : SheetValue) → 1 ≤ v .form → (2 ≤ v .form → v .form ≤ hi) → BodyFits lo (v .form) v → Readable lo hi v
+  to v some known (h, (r, e)) =
+      let (t, (a, (s, (q, i)))) = h in
+      record {
+        some-form = some;
+        form-taken = leb-true lo (v .form) t;
+        form-known = known;
+        a-fits = a;
+        segs-fit = s .0;
+        sizes-fit = s .1 .1;
+        rows-fit = q .0;
+        prices-fit = q .1 .1;
+        entries-fit = r;
+      }
+
+  from : (v : SheetValue) → Readable lo hi v → BodyFits lo (v .form) v
+  from v c = (
+    (
+      le-leb lo (v .form) (c .form-taken),
+      (c .a-fits, ((c .segs-fit, (refl, c .sizes-fit)), ((c .rows-fit, (refl, c .prices-fit)), refl))),
+    ),
+    (c .entries-fit, refl),
+  )
+
+  -- a body begins with its key and not with that of a form
+  body-first : (form : ℕ) (v : SheetValue) (rest : List ℕ) → sameBytes (take 5 (textOf (bodyPart lo form .lines v) ++ rest)) formKey ≡ false
+  unfolding bodyPart headPart linesText sameBytes
+  body-first form v rest = refl
+
+  -- the text with a form line, and without
+  later-text : (v : SheetValue) (rest : List ℕ) → leb 2 (v .form) ≡ true
+      → textOf (formLines (v .form) ++ bodyPart lo (v .form) .lines v) ++ rest
+      ≡ numberText formKey (v .form) ++ (textOf (bodyPart lo (v .form) .lines v) ++ rest)
+  unfolding linesText
+  later-text v rest e = rw e (append-assoc (numberText formKey (v .form)) (textOf (bodyPart lo (v .form) .lines v)) rest)
+
+  first-text : (v : SheetValue) → leb 2 (v .form) ≡ false
+      → textOf (formLines (v .form) ++ bodyPart lo (v .form) .lines v) ≡ textOf (bodyPart lo (v .form) .lines v)
+  first-text v e = rw e
+
+  -- reading with a form line, and without
+  later-reads : (form : ℕ) (rest : List ℕ) (v : SheetValue) (end : List ℕ) → 2 ≤ form → lo ≤ form → form ≤ hi
+      → bodyPart lo form .reads rest ≡ read v end → sheetPart lo hi .reads (numberText formKey form ++ rest) ≡ read v end
+  unfolding sheetPart sameBytes
+  later-reads form rest v end two l h e =
+      rw (number-reads formKey (max 2 lo) hi refl .forth form rest (omega arith, h)) e
+
+  first-reads : (s : List ℕ) → sameBytes (take 5 s) formKey ≡ false → sheetPart lo hi .reads s ≡ bodyPart lo 1 .reads s
+  unfolding sheetPart
+  first-reads s e = rw e
+
+  forth : (v : SheetValue) (rest : List ℕ) → Readable lo hi v → sheetPart lo hi .reads (textOf (sheetPart lo hi .lines v) ++ rest) ≡ read v rest
+  unfolding sheetPart
+  forth v rest c = go (leb 2 (v .form)) refl
+    where
+      body : bodyPart lo (v .form) .reads (textOf (bodyPart lo (v .form) .lines v) ++ rest) ≡ read v rest
+      body = body-kept lo (v .form) .both .forth v rest (from v c)
+
+      go : (b : Bool) → leb 2 (v .form) ≡ b → sheetPart lo hi .reads (textOf (sheetPart lo hi .lines v) ++ rest) ≡ read v rest
+      go true e =
+          let two = leb-true 2 (v .form) e in
+          ap (sheetPart lo hi .reads) (later-text v rest e)
+          ∙ later-reads (v .form) (textOf (bodyPart lo (v .form) .lines v) ++ rest) v rest two (c .form-taken) (c .form-known two) body
+      go false e =
+          let one : v .form ≡ 1 = omega (arith, c .some-form, leb-false 2 (v .form) e) in
+          ap (λ t. sheetPart lo hi .reads (t ++ rest)) (first-text v e)
+          ∙ (first-reads (textOf (bodyPart lo (v .form) .lines v) ++ rest) (body-first (v .form) v rest)
+          ∙ (ap (λ f. bodyPart lo f .reads (textOf (bodyPart lo (v .form) .lines v) ++ rest)) (sym one) ∙ body))
+
+  back : (s : List ℕ) (v : SheetValue) (rest : List ℕ) → sheetPart lo hi .reads s ≡ read v rest
+      → (s ≡ textOf (sheetPart lo hi .lines v) ++ rest) × Readable lo hi v
+  unfolding sheetPart
+  back s v rest e =
+      by-test (sameBytes (take 5 s) formKey) _ _ (read v rest) e
+      (λ _ f. then-read (numberLine formKey (max 2 lo) hi s) _ v rest f λ form mid e₁ e₂.
+      let (t, (l, u)) = number-reads formKey (max 2 lo) hi refl .back s form mid e₁ in
+      let (w, b) = body-kept lo form .both .back mid v rest e₂ in
+      let q : form ≡ v .form = sym (ap (λ (x : SheetValue). x .form) (b .1 .1)) in
+      let two : 2 ≤ v .form = omega (arith, q) in (
+        t ∙ (ap (λ m. numberText formKey form ++ m) w
+            ∙ (ap (λ (k : ℕ). numberText formKey k ++ (textOf (bodyPart lo k .lines v) ++ rest)) q ∙ sym (later-text v rest (le-leb 2 (v .form) two)))),
+        to v (omega arith) (λ _. omega (arith, q)) (subst (λ k. BodyFits lo k v) q b),
+      ))
+      (λ _ f.
+      let (w, b) = body-kept lo 1 .both .back s v rest f in
+      let q : 1 ≡ v .form = sym (ap (λ (x : SheetValue). x .form) (b .1 .1)) in
+      let one : leb 2 (v .form) ≡ false = ap (λ k. leb 2 k) (sym q) in (
+        w ∙ (ap (λ (k : ℕ). textOf (bodyPart lo k .lines v) ++ rest) q ∙ ap (λ t. t ++ rest) (sym (first-text v one))),
+        to v (omega (arith, q)) (λ two. absurd (omega (arith, q))) (subst (λ k. BodyFits lo k v) q b),
+      ))
+
+  -- what is read is the text of a readable value, and the text of a readable value is read back
+  pub sheet-reads : Reads (sheetLines lo hi) sheetText (Readable lo hi)
+  unfolding sheetText
+  sheet-reads =
+      record {
+        forth = λ v rest c. rw (← lines-same lo hi v) (forth v rest c);
+        back = λ s v rest e. rw (← lines-same lo hi v) (back s v rest e);
+      }
+
+-- ---- the form that the first line names
+
+-- a line kind= is no form line
+kind-no-form : (k : Kind) (rest : List ℕ) → numberLine formKey 2 newestForm (lineText kindKey (kindWord k) ++ rest) ≡ refused LineMalformed
+unfolding numberLine valueLine splitAt afterKey
+kind-no-form Time rest = refl
+kind-no-form Space rest = refl
+
+body-no-form : (form : ℕ) (v : SheetValue) → numberLine formKey 2 newestForm (textOf (bodyPart 1 form .lines v)) ≡ refused LineMalformed
+unfolding bodyPart headPart linesText
+body-no-form form v = kind-no-form (v .head .kind) _
+
+-- the form of a form line, and 1 where there is none
+pub named-later : (v : SheetValue) → leb 2 (v .form) ≡ true → v .form ≤ newestForm → namedForm (sheetText v) ≡ v .form
+unfolding namedForm sheetText sheetPart
+named-later v e h =
+    ap (λ s. formIn (numberLine formKey 2 newestForm s)) (sym (append-nil _) ∙ later-text 1 newestForm v [] e)
+    ∙ ap formIn (number-reads formKey 2 newestForm refl .forth (v .form) (textOf (bodyPart 1 (v .form) .lines v) ++ []) (leb-true 2 (v .form) e, h))
+
+pub named-first : (v : SheetValue) → leb 2 (v .form) ≡ false → namedForm (sheetText v) ≡ 1
+unfolding namedForm sheetText sheetPart
+named-first v e =
+    ap (λ s. formIn (numberLine formKey 2 newestForm s)) (first-text 1 newestForm v e) ∙ ap formIn (body-no-form (v .form) v)

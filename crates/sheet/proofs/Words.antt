@@ -7,7 +7,7 @@ use mathlib.Core.Option.{Option}
 use native.Mathlib.Omega.{arith}
 use borrow.Author.Tests.{eqb-true}
 use lib.Dec.{eqb}
-use Rattle.decimal.specs.Decimal.{isNumber, value, written, readingOf}
+use Rattle.decimal.specs.Decimal.{isDigit, isNumber, value, written, readingOf}
 use Rattle.decimal.specs.declared.Reading.{Reading}
 use Rattle.decimal.specs.declared.Reading.the-variants.{NotNumber, OutOfRange as Beyond, Number}
 use Rattle.decimal.proofs.Digits.{both}
@@ -24,15 +24,15 @@ use Rattle.sheet.proofs.Parsing.{by-test, refused-read, passed, lacks, 
 
 -- ---- a number
 
--- the digits of a number lack each byte below 48
-pub written-lacks : (c n : ℕ) → c ≤ 47 → lacks c (written n) ≡ true
-written-lacks c n h = lacks-digits c (written n) (omega arith) (written-digits n)
+-- the digits of a number lack each byte that is no digit
+pub written-lacks : (c n : ℕ) → isDigit c ≡ false → lacks c (written n) ≡ true
+written-lacks c n h = lacks-digits c (written n) h (written-digits n)
 
 -- how the value of a number line is read
 number-words : (lo hi : ℕ) → Words (λ v rest. inRange (readingOf lo hi v) rest) written (λ n. (lo ≤ n) × (n ≤ hi))
 number-words lo hi =
     record {
-      plain = λ n. written-lacks lineFeed n (omega arith);
+      plain = λ n. written-lacks lineFeed n refl;
       forth = λ n rest h. rw (reading-written lo hi n (h .0) (h .1));
       back = λ v rest n end e.
           let (r, m) = number-read (readingOf lo hi v) rest n end e in
@@ -113,11 +113,11 @@ module _ (prev : Option PriceRow) where
       record {
         plain = λ q.
             lacks-append lineFeed (written (q .h)) (slash ∷ written (q .d))
-            (written-lacks lineFeed (q .h) (omega arith))
-            (written-lacks lineFeed (q .d) (omega arith));
+            (written-lacks lineFeed (q .h) refl)
+            (written-lacks lineFeed (q .d) refl);
         forth = λ q rest f.
             rw (
-              split-forth slash (written (q .h)) (written (q .d)) (written-lacks slash (q .h) (omega arith)),
+              split-forth slash (written (q .h)) (written (q .d)) (written-lacks slash (q .h) refl),
               written-number (q .h),
               written-number (q .d),
               written-value (q .h),

@@ -4,5 +4,6 @@ pub mod Lines
 pub mod Order
 pub mod Parts
 pub mod Reading
+pub mod Touches
 pub mod Values
 pub mod Writing

@@ -1,23 +1,23 @@
 -- A sheet in parts: the order of its lines, once. Reading goes along it; the text of a sheet and what a reader shows are made from it.
 -- Assumes nothing.
-use Prim.Native.Nat.{ℕ, _-_}
-use mathlib.Core.List.{List, [], _∷_, map}
+use Prim.Native.Nat.{ℕ, _-_, max}
+use mathlib.Core.Bool.{Bool, cond}
+use mathlib.Core.List.{List, [], _∷_, _++_, map}
 use mathlib.Core.Option.{none}
-use lib.ListN.{length}
+use lib.Dec.{leb}
+use lib.ListN.{length, take}
 use Rattle.decimal.specs.Decimal.{written}
-use Rattle.lines.specs.Keys.{kindKey, aKey, segsKey, sizeKey, rowsKey, rowKey, refsKey, refKey, kindWord}
-use Rattle.model.specs.Sheets.{HeadValue, SheetValue, largestA, mostSegs, largestSize, mostRows, mostRefs}
+use Rattle.lines.specs.Keys.{formKey, kindKey, aKey, segsKey, sizeKey, rowsKey, rowKey, stepsKey, refsKey, refKey, kindWord}
+use Rattle.model.specs.Sheets.{HeadValue, SheetValue, largestA, mostSegs, largestSize, mostRows, mostSteps, newestForm}
 use Rattle.model.specs.declared.Kind.{Kind}
 use Rattle.model.specs.declared.PriceRow.{PriceRow}
-use Rattle.sheet.specs.Lines.{numberLine, numberLines}
+use Rattle.model.specs.declared.Refusal.the-variants.{OutOfRange}
+use Rattle.sheet.specs.Lines.{read, refused, andThen, sameBytes, numberLine, numberLines}
 use Rattle.sheet.specs.Parts.{Line, Part, whole, then, counted}
+use Rattle.sheet.specs.Touches.{touchWord, touchesOf, entryLines}
 use Rattle.sheet.specs.Values.{kindLine, rowLines, rowWord}
 
 -- ---- lines
-
--- the line kind=
-abbrev pub kindPart : Part Kind
-kindPart = record { lines = λ k. (kindKey, kindWord k) ∷ []; reads = kindLine }
 
 -- a line with a number lo to hi
 abbrev pub numberPart : List ℕ → ℕ → ℕ → Part ℕ
@@ -48,25 +48,65 @@ tablesPart kind a =
     then pricesPart (λ h. h .rows) λ rows.
     whole (record { kind = kind; a = a; sizes = sizes; rows = rows })
 
+-- the line kind= of a sheet whose form a call takes or does not: refusal 4 where it does not
+abbrev pub kindFor : Bool → Part Kind
+kindFor taken =
+    record {
+      lines = λ k. (kindKey, kindWord k) ∷ [];
+      reads = λ s. andThen (kindLine s) (λ kind rest. cond taken (read kind rest) (refused OutOfRange));
+    }
+
 -- the head: kind=, a=, the sizes and the rows
-unfoldable pub headPart : Part HeadValue
-headPart =
-    then kindPart (λ h. h .kind) λ kind.
+unfoldable pub headPart : Bool → Part HeadValue
+headPart taken =
+    then (kindFor taken) (λ h. h .kind) λ kind.
     then (numberPart aKey 0 largestA) (λ h. h .a) λ a.
     tablesPart kind a
 
--- refs= and the references, each below segs
+-- refs= and the references of form 1, each below segs: every step has a touch
 unfoldable pub refsPart : ℕ → Part (List ℕ)
-refsPart segs = counted (numberPart refsKey 0 mostRefs) (numbersPart refKey 0 (segs - 1))
+refsPart segs = counted (numberPart refsKey 0 mostSteps) (numbersPart refKey 0 (segs - 1))
 
--- the references of a sheet, after its head
-unfoldable pub runPart : HeadValue → Part SheetValue
-runPart head = then (refsPart (length (head .sizes))) (λ v. v .refs) λ refs. whole (record { head = head; refs = refs })
+-- n lines ref= of form 2, segment and step, as the entries of the steps
+abbrev pub touchesPart : ℕ → ℕ → ℕ → Part (List ℕ)
+touchesPart segs steps n = record { lines = λ xs. map (λ x. (refKey, touchWord x)) (touchesOf xs); reads = entryLines segs steps n }
 
--- a sheet: its head, then its references
-unfoldable pub sheetPart : Part SheetValue
-sheetPart = then headPart (λ v. v .head) runPart
+-- steps=, refs= and the touches of form 2
+unfoldable pub stepsPart : ℕ → Part (List ℕ)
+stepsPart segs =
+    then (numberPart stepsKey 0 mostSteps) length λ steps.
+    then (numberPart refsKey 0 steps) (λ xs. length (touchesOf xs)) λ n.
+    touchesPart segs steps n
+
+-- the entries of a sheet of form 1, or of form 2 on
+abbrev pub entriesPart : Bool → ℕ → Part (List ℕ)
+entriesPart later segs = cond later (stepsPart segs) (refsPart segs)
+
+-- the entries of a sheet of a form, after its head
+unfoldable pub runPart : ℕ → HeadValue → Part SheetValue
+runPart form head =
+    then (entriesPart (leb 2 form) (length (head .sizes))) (λ v. v .refs) λ refs.
+    whole (record { form = form; head = head; refs = refs })
+
+-- the lines after the form line: the head, then the entries. A call takes forms from lo on
+unfoldable pub bodyPart : ℕ → ℕ → Part SheetValue
+bodyPart lo form = then (headPart (leb lo form)) (λ v. v .head) (runPart form)
+
+-- the form line, which a sheet of form 2 on has first
+abbrev pub formLines : ℕ → List Line
+formLines form = cond (leb 2 form) ((formKey, written form) ∷ []) []
+
+-- a sheet for a call that takes the forms lo to hi. Bytes that begin with form= have a form line; all others are read as form 1
+unfoldable pub sheetPart : ℕ → ℕ → Part SheetValue
+sheetPart lo hi =
+    record {
+      lines = λ v. formLines (v .form) ++ bodyPart lo (v .form) .lines v;
+      reads = λ s.
+          cond (sameBytes (take 5 s) formKey)
+          (andThen (numberLine formKey (max 2 lo) hi s) (λ form rest. bodyPart lo form .reads rest))
+          (bodyPart lo 1 .reads s);
+    }
 
 -- the lines of a sheet
 abbrev pub linesOf : SheetValue → List Line
-linesOf v = sheetPart .lines v
+linesOf v = sheetPart 1 newestForm .lines v

@@ -24,13 +24,15 @@ take-min xs n m most l e = go (leb n most) refl
         take-all m xs (omega arith) ∙ sym (take-all n xs (omega arith))
 
 -- so a sheet's value is the same with each count cut off at the length of its array
-pub value-clamped : (s : Sheet) (segs rows refs : ℕ) → length (s .head .sizes) ≡ 256 → length (s .head .prices) ≡ 64 → length (s .touches) ≡ 2048
-    → segs ≡ min (s .head .segs) 256 → rows ≡ min (s .head .rows) 64 → refs ≡ min (s .refs) 2048
-    → sheetWith (s .head .kind) (s .head .a) (take segs (s .head .sizes)) (take rows (s .head .prices)) (take refs (s .touches)) ≡ valueOf s
+pub value-clamped : (s : Sheet) (segs rows steps : ℕ)
+    → length (s .head .sizes) ≡ 256 → length (s .head .prices) ≡ 64 → length (s .touches) ≡ 2048
+    → segs ≡ min (s .head .segs) 256 → rows ≡ min (s .head .rows) 64 → steps ≡ min (s .steps) 2048
+    → sheetWith (s .form) (s .head .kind) (s .head .a) (take segs (s .head .sizes)) (take rows (s .head .prices)) (take steps (s .touches))
+    ≡ valueOf s
 unfolding valueOf headValueOf
-value-clamped s segs rows refs i j k d e f =
+value-clamped s segs rows steps i j k d e f =
     rw (
       take-min (s .head .sizes) (s .head .segs) segs 256 i d,
       take-min (s .head .prices) (s .head .rows) rows 64 j e,
-      take-min (s .touches) (s .refs) refs 2048 k f,
+      take-min (s .touches) (s .steps) steps 2048 k f,
     )

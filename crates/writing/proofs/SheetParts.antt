@@ -1,19 +1,25 @@
--- The text of a sheet in the three parts in which it is written, and the lengths of the parts. Assumes nothing.
+-- The text of a sheet in the four parts in which it is written, and the lengths of the parts. Assumes nothing.
 use Prim.Native.Nat.{ℕ, _+_, _≤_}
-use mathlib.Core.Path.{_≡_}
-use mathlib.Core.List.{List, _++_, append-assoc}
+use mathlib.Core.Path.{_≡_, refl, ap, _∙_}
+use mathlib.Core.Bool.{Bool, true, false, cond}
+use mathlib.Core.List.{List, [], _∷_, _++_, append-assoc, append-nil}
+use lib.Dec.{leb}
 use lib.ListN.{length, take, length-append}
 use lib.Seq.{length-take-le}
-use Rattle.model.specs.Sheets.{SheetValue}
+use Rattle.model.specs.Sheets.{HeadValue, SheetValue}
 use Rattle.model.specs.declared.Kind.{Kind}
 use Rattle.model.specs.declared.PriceRow.{PriceRow}
-use Rattle.lines.specs.Keys.{kindKey, aKey, segsKey, sizeKey, rowsKey, refsKey, refKey, kindWord}
-use Rattle.writing.specs.inner.Parts.{numbersText, rowsText, countedText, segmentsText, pricedText}
-use Rattle.lines.specs.Texts.{lineText, numberText}
+use Rattle.decimal.specs.Decimal.{written}
+use Rattle.lines.specs.Keys.{formKey, kindKey, aKey, segsKey, sizeKey, rowsKey, stepsKey, refsKey, refKey, kindWord}
+use Rattle.writing.specs.inner.Parts.{numbersText, rowsText, countedText, formText, segmentsText, pricedText, stepsText, runText}
+use Rattle.lines.specs.Texts.{lineText, numberText, linesText}
+use Rattle.sheet.specs.Order.{formLines, headPart, entriesPart}
+use Rattle.sheet.specs.Parts.{textOf}
+use Rattle.sheet.specs.Touches.{touchesOf, touchesText}
 use Rattle.sheet.specs.Writing.{sheetText}
-use Rattle.sheet.proofs.PartTexts.{sizes-text, prices-text, refs-text, head-text, sheet-text}
+use Rattle.sheet.proofs.PartTexts.{sizes-text, prices-text, refs-text, steps-text, head-text, entriesText, sheet-text}
 
--- the lines up to the sizes
+-- the lines from kind= to the sizes
 pub segments-length : (kind : Kind) (a : ℕ) (sizes : List ℕ) → length (segmentsText kind a sizes)
     ≡ length (lineText kindKey (kindWord kind)) + (length (numberText aKey a) + length (countedText segsKey sizeKey sizes))
 unfolding segmentsText
@@ -29,32 +35,76 @@ pub priced-length : (qs : List PriceRow) (n : ℕ) → n ≤ length qs
     → length (pricedText (take n qs)) ≡ length (numberText rowsKey n) + length (rowsText (take n qs))
 priced-length qs n h = rw (priced-text qs n h) (length-append (numberText rowsKey n) (rowsText (take n qs)))
 
--- six texts, in the parts that are written and in those of a sheet
-joined : (a b c d e f : List ℕ) → (a ++ (b ++ (c ++ d))) ++ (e ++ f) ≡ (a ++ (b ++ ((c ++ d) ++ e))) ++ f
-joined a b c d e f = simp append-assoc
+-- the lines of the entries of form 2
+pub steps-length : (xs : List ℕ) → length (stepsText xs)
+    ≡ length (numberText stepsKey (length xs)) + (length (numberText refsKey (length (touchesOf xs))) + length (touchesText (touchesOf xs)))
+unfolding stepsText
+steps-length xs = simp length-append
+
+-- by the form: with a form line and steps, or without
+module _ (form : ℕ) where
+  pub form-later : leb 2 form ≡ true → formText form ≡ numberText formKey form
+  unfolding formText
+  form-later e = rw e
+
+  pub form-first : leb 2 form ≡ false → formText form ≡ []
+  unfolding formText
+  form-first e = rw e
+
+  pub run-later : (xs : List ℕ) → leb 2 form ≡ true → runText form xs ≡ stepsText xs
+  unfolding runText
+  run-later xs e = rw e
+
+  pub run-first : (xs : List ℕ) → leb 2 form ≡ false → runText form xs ≡ countedText refsKey refKey xs
+  unfolding runText
+  run-first xs e = rw e
+
+-- the form line
+form-text : (form : ℕ) → textOf (formLines form) ≡ formText form
+unfolding formText linesText
+form-text form = go (leb 2 form)
+  where
+    go : (b : Bool) → textOf (cond b ((formKey, written form) ∷ []) []) ≡ cond b (numberText formKey form) []
+    go true = append-nil (numberText formKey form)
+    go false = refl
+
+-- five texts, in the parts of a head and in those that are written
+joined : (a b c d e : List ℕ) → a ++ (b ++ ((c ++ d) ++ e)) ≡ (a ++ (b ++ (c ++ d))) ++ e
+joined a b c d e = simp append-assoc
+
+-- the head
+heads : (h : HeadValue) → textOf (headPart true .lines h) ≡ segmentsText (h .kind) (h .a) (h .sizes) ++ pricedText (h .rows)
+unfolding segmentsText pricedText
+heads h =
+    rw (head-text true h, sizes-text (h .sizes), prices-text (h .rows))
+    (joined
+    (lineText kindKey (kindWord (h .kind)))
+    (numberText aKey (h .a))
+    (numberText segsKey (length (h .sizes)))
+    (numbersText sizeKey (h .sizes))
+    (numberText rowsKey (length (h .rows)) ++ rowsText (h .rows)))
+
+-- the entries
+runs : (form : ℕ) (h : HeadValue) (xs : List ℕ) → entriesText form h xs ≡ runText form xs
+unfolding entriesText runText stepsText
+runs form h xs = go (leb 2 form)
+  where
+    go : (b : Bool) → textOf (entriesPart b (length (h .sizes)) .lines xs)
+        ≡ cond b (numberText stepsKey (length xs) ++ (numberText refsKey (length (touchesOf xs)) ++ touchesText (touchesOf xs)))
+        (countedText refsKey refKey xs)
+    go true = steps-text (length (h .sizes)) xs
+    go false = refs-text (length (h .sizes)) xs
 
 -- the whole
 pub text-parts : (v : SheetValue)
-    → segmentsText (v .head .kind) (v .head .a) (v .head .sizes) ++ (pricedText (v .head .rows) ++ countedText refsKey refKey (v .refs))
+    → formText (v .form)
+    ++ (segmentsText (v .head .kind) (v .head .a) (v .head .sizes) ++ (pricedText (v .head .rows) ++ runText (v .form) (v .refs)))
     ≡ sheetText v
-unfolding segmentsText pricedText
 text-parts v =
-    rw (
-      sheet-text v,
-      head-text (v .head),
-      sizes-text (v .head .sizes),
-      prices-text (v .head .rows),
-      refs-text (length (v .head .sizes)) (v .refs),
-    )
-    (joined
-    (lineText kindKey (kindWord (v .head .kind)))
-    (numberText aKey (v .head .a))
-    (numberText segsKey (length (v .head .sizes)))
-    (numbersText sizeKey (v .head .sizes))
-    (pricedText (v .head .rows))
-    (countedText refsKey refKey (v .refs)))
+    rw (sheet-text v, form-text (v .form), heads (v .head), runs (v .form) (v .head) (v .refs), append-assoc)
 
 -- and its length
 pub parts-length : (v : SheetValue) → length (sheetText v)
-    ≡ length (segmentsText (v .head .kind) (v .head .a) (v .head .sizes)) + (length (pricedText (v .head .rows)) + length (countedText refsKey refKey (v .refs)))
+    ≡ length (formText (v .form)) + (length (segmentsText (v .head .kind) (v .head .a) (v .head .sizes))
+    + (length (pricedText (v .head .rows)) + length (runText (v .form) (v .refs))))
 parts-length v = rw (← text-parts v) (simp length-append)

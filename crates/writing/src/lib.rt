@@ -1,5 +1,7 @@
 // Writing a sheet: the length of its text first, then the text part after part, each from an index of the lent place on.
 // What the text is stands in specs/Writing.antt, and what a place becomes in the crates lines and model. Nothing is assumed.
+pub mod touches;
+
 use lines::number_length;
 use lines::put;
 use lines::put_digits;
@@ -13,11 +15,12 @@ use model::Verdict;
 ghost use mathlib.Core.Path.{_≡_};
 ghost use Prim.Native.Nat.{_+_, _≤_, min};
 ghost use lib.ListN.{length, take};
-ghost use Rattle.model.specs.Sheets.{mostRows, mostRefs};
+ghost use Rattle.model.specs.Sheets.{mostRows, mostSteps};
 ghost use Rattle.model.specs.Places.{gives, PlaceLeft};
 ghost use Rattle.lines.specs.Keys.{kindKey, kindWord};
 ghost use Rattle.lines.specs.Puts.{Put};
-ghost use Rattle.writing.specs.inner.Parts.{sheetWith, countedText, segmentsText, pricedText, numbersText, rowsText};
+ghost use Rattle.writing.specs.inner.Parts.{sheetWith, formText, segmentsText, pricedText, runText};
+ghost use Rattle.writing.specs.inner.Parts.{countedText, numbersText, rowsText};
 ghost use Rattle.model.specs.Values.{valueOf};
 ghost use Rattle.lines.specs.Texts.{lineText};
 ghost use Rattle.sheet.specs.Writing.{sheetText};
@@ -37,7 +40,7 @@ fn kind_length(kind: Kind) -> usize
 
 // The length of the lines of numbers.
 fn numbers_length(key: &[u8], xs: &[u16]) -> usize
-    requires { ⌜ (length (now key) ≤ 5) × (length (now xs) ≤ mostRefs) ⌝ }
+    requires { ⌜ (length (now key) ≤ 5) × (length (now xs) ≤ mostSteps) ⌝ }
     ensures { λ r. ⌜ (r ≡ length (numbersText (now (key .entry)) (now (xs .entry)))) × (r ≤ 53248) ⌝ }
 {
     let mut sum: usize = 0;
@@ -51,7 +54,7 @@ fn numbers_length(key: &[u8], xs: &[u16]) -> usize
 
 // The length of the line that counts the numbers, and of their lines.
 fn counted_length(count: &[u8], key: &[u8], xs: &[u16]) -> usize
-    requires { ⌜ (length (now count) ≤ 5) × (length (now key) ≤ 5) × (length (now xs) ≤ mostRefs) ⌝ }
+    requires { ⌜ (length (now count) ≤ 5) × (length (now key) ≤ 5) × (length (now xs) ≤ mostSteps) ⌝ }
     ensures { λ r. ⌜ (r ≡ length (countedText (now (count .entry)) (now (key .entry)) (now (xs .entry)))) × (r ≤ 53274) ⌝ }
 {
     number_length(count, xs.len() as u64) + numbers_length(key, xs)
@@ -79,9 +82,19 @@ fn rows_length(prices: [PriceRow; Sheet::MAX_ROWS], n: usize) -> usize
     sum
 }
 
-// The length of the lines up to the sizes.
+// The length of the form line.
+fn form_length(form: u8) -> usize
+    ensures { λ r. ⌜ (r ≡ length (formText form)) × (r ≤ 26) ⌝ }
+{
+    if 2 <= form {
+        return number_length(b"form=", form as u64);
+    }
+    0
+}
+
+// The length of the lines from kind= to the sizes.
 fn segments_length(kind: Kind, a: u8, sizes: &[u16]) -> usize
-    requires { ⌜ length (now sizes) ≤ mostRefs ⌝ }
+    requires { ⌜ length (now sizes) ≤ mostSteps ⌝ }
     ensures { λ r. ⌜ (r ≡ length (segmentsText kind a (now (sizes .entry)))) × (r ≤ 53311) ⌝ }
 {
     kind_length(kind) + number_length(b"a=", a as u64) + counted_length(b"segs=", b"size=", sizes)
@@ -95,21 +108,34 @@ fn priced_length(prices: [PriceRow; Sheet::MAX_ROWS], n: usize) -> usize
     number_length(b"rows=", n as u64) + rows_length(prices, n)
 }
 
+// The length of the lines of the entries of a form.
+fn run_length(form: u8, entries: &[u16]) -> usize
+    requires { ⌜ length (now entries) ≤ mostSteps ⌝ }
+    ensures { λ r. ⌜ (r ≡ length (runText form (now (entries .entry)))) × (r ≤ 63541) ⌝ }
+{
+    if 2 <= form {
+        return touches::steps_length(entries);
+    }
+    counted_length(b"refs=", b"ref=", entries)
+}
+
 // The length of the text of a sheet.
 fn text_length(
+    form: u8,
     kind: Kind,
     a: u8,
     sizes: &[u16],
     prices: [PriceRow; Sheet::MAX_ROWS],
     rows: usize,
-    refs: &[u16],
+    entries: &[u16],
 ) -> usize
-    requires { ⌜ (length (now sizes) ≤ mostRefs) × (rows ≤ mostRows) × (length (now refs) ≤ mostRefs) ⌝ }
-    ensures { λ r. ⌜ r ≡ length (sheetText (sheetWith kind a (now (sizes .entry)) (take rows prices) (now (refs .entry)))) ⌝ }
+    requires { ⌜ (length (now sizes) ≤ mostSteps) × (rows ≤ mostRows) × (length (now entries) ≤ mostSteps) ⌝ }
+    ensures { λ r. ⌜ r ≡ length (sheetText (sheetWith form kind a (now (sizes .entry)) (take rows prices) (now (entries .entry)))) ⌝ }
 {
-    segments_length(kind, a, sizes)
+    form_length(form)
+        + segments_length(kind, a, sizes)
         + priced_length(prices, rows)
-        + counted_length(b"refs=", b"ref=", refs)
+        + run_length(form, entries)
 }
 
 // ---- parts
@@ -174,12 +200,23 @@ fn put_rows(prices: [PriceRow; Sheet::MAX_ROWS], n: usize, out: &mut [u8], at: u
     next
 }
 
-// Writes the lines up to the sizes at the front of `out`, and gives the index after them.
-fn put_segments(kind: Kind, a: u8, sizes: &[u16], out: &mut [u8]) -> usize
-    requires { ⌜ length (segmentsText kind a (now sizes)) ≤ length (now out) ⌝ }
-    ensures { λ r. ⌜ Put (segmentsText kind a (now (sizes .entry))) 0 (now (out .entry)) r (now (out .exit)) ⌝ }
+// Writes the form line at the front of `out`, and gives the index after it.
+fn put_form(form: u8, out: &mut [u8]) -> usize
+    requires { ⌜ length (formText form) ≤ length (now out) ⌝ }
+    ensures { λ r. ⌜ Put (formText form) 0 (now (out .entry)) r (now (out .exit)) ⌝ }
 {
-    let weight = put_kind(kind, out, 0);
+    if 2 <= form {
+        return put_number(b"form=", form as u64, out, 0);
+    }
+    0
+}
+
+// Writes the lines from kind= to the sizes, and gives the index after them.
+fn put_segments(kind: Kind, a: u8, sizes: &[u16], out: &mut [u8], at: usize) -> usize
+    requires { ⌜ at + length (segmentsText kind a (now sizes)) ≤ length (now out) ⌝ }
+    ensures { λ r. ⌜ Put (segmentsText kind a (now (sizes .entry))) at (now (out .entry)) r (now (out .exit)) ⌝ }
+{
+    let weight = put_kind(kind, out, at);
     let count = put_number(b"a=", a as u64, out, weight);
     put_counted(b"segs=", b"size=", sizes, out, count)
 }
@@ -193,24 +230,37 @@ fn put_priced(prices: [PriceRow; Sheet::MAX_ROWS], n: usize, out: &mut [u8], at:
     put_rows(prices, n, out, first)
 }
 
+// Writes the lines of the entries of a form, and gives the index after them.
+fn put_run(form: u8, entries: &[u16], out: &mut [u8], at: usize) -> usize
+    requires { ⌜ (length (now entries) ≤ mostSteps) × (at + length (runText form (now entries)) ≤ length (now out)) ⌝ }
+    ensures { λ r. ⌜ Put (runText form (now (entries .entry))) at (now (out .entry)) r (now (out .exit)) ⌝ }
+{
+    if 2 <= form {
+        return touches::put_steps(entries, out, at);
+    }
+    put_counted(b"refs=", b"ref=", entries, out, at)
+}
+
 // Writes the text of a sheet at the front of `out`, and gives its length.
 fn put_text(
+    form: u8,
     kind: Kind,
     a: u8,
     sizes: &[u16],
     prices: [PriceRow; Sheet::MAX_ROWS],
     rows: usize,
-    refs: &[u16],
+    entries: &[u16],
     out: &mut [u8],
 ) -> usize
-    requires { ⌜ (rows ≤ mostRows)
-        × (length (sheetText (sheetWith kind a (now sizes) (take rows prices) (now refs))) ≤ length (now out)) ⌝ }
-    ensures { λ r. ⌜ Put (sheetText (sheetWith kind a (now (sizes .entry)) (take rows prices) (now (refs .entry))))
+    requires { ⌜ (rows ≤ mostRows) × (length (now entries) ≤ mostSteps)
+        × (length (sheetText (sheetWith form kind a (now sizes) (take rows prices) (now entries))) ≤ length (now out)) ⌝ }
+    ensures { λ r. ⌜ Put (sheetText (sheetWith form kind a (now (sizes .entry)) (take rows prices) (now (entries .entry))))
         0 (now (out .entry)) r (now (out .exit)) ⌝ }
 {
-    let priced = put_segments(kind, a, sizes, out);
-    let touched = put_priced(prices, rows, out, priced);
-    put_counted(b"refs=", b"ref=", refs, out, touched)
+    let first = put_form(form, out);
+    let priced = put_segments(kind, a, sizes, out, first);
+    let run = put_priced(prices, rows, out, priced);
+    put_run(form, entries, out, run)
 }
 
 // ---- the sheet
@@ -224,10 +274,12 @@ fn least(n: usize, most: usize) -> usize
 
 // The bytes of a sheet into a lent place: the text of the sheet's value, then the old contents; refusal 11 and no change where the
 // place is shorter.
-// It is so for every Sheet, also one put together by hand: a count beyond its array counts the whole array.
+// It is so for every Sheet, also one put together by hand: a count beyond its array counts the whole array, and the lines of form 2 are
+// written where the form is 2 or more.
 pub fn write(sheet: Sheet, out: &mut [u8]) -> PlaceAnswer
     ensures { λ r. ⌜ PlaceLeft (gives (sheetText (valueOf sheet))) (now (out .entry)) (now (out .exit)) r ⌝ }
 {
+    let form = sheet.form;
     let head = sheet.head;
     let kind = head.kind;
     let a = head.a;
@@ -236,15 +288,32 @@ pub fn write(sheet: Sheet, out: &mut [u8]) -> PlaceAnswer
     let prices = head.prices;
     let rows = least(head.rows, prices.len());
     let touches = sheet.touches;
-    let refs = least(sheet.refs, touches.len());
-    let length = text_length(kind, a, &sizes[..segs], prices, rows, &touches[..refs]);
+    let steps = least(sheet.steps, touches.len());
+    let length = text_length(
+        form,
+        kind,
+        a,
+        &sizes[..segs],
+        prices,
+        rows,
+        &touches[..steps],
+    );
     if out.len() < length {
         return PlaceAnswer {
             verdict: Verdict::Refused(Refusal::PlaceTooShort),
             length: 0,
         };
     }
-    put_text(kind, a, &sizes[..segs], prices, rows, &touches[..refs], out);
+    put_text(
+        form,
+        kind,
+        a,
+        &sizes[..segs],
+        prices,
+        rows,
+        &touches[..steps],
+        out,
+    );
     PlaceAnswer {
         verdict: Verdict::Accepted,
         length,

@@ -2,6 +2,7 @@
 use borrow.Author.Needs.{needs}
 use Rattle.plans.specs.Plans.{scheduleFor}
 use Rattle.analyser.specs.Answers.{scheduleResult}
+use Rattle.sheet.specs.Reading.{readSheet}
 use Rattle.sheet.proofs.Accepting.{result-refused, result-accepted, stands}
 use Rattle.analyser.proofs.optimal_schedule.Statement.{statement}
 use Rattle.analyser.proofs.optimal_schedule.Tie as tie
@@ -16,14 +17,14 @@ unfolding scheduleResult
 returns c =
     let r = c .before .before .before .before .before in
     let a = c .before .before .before .before .before .before .before .before .args in
-    result-refused (a .bytes .now) (r .read .result) (r .read .ensures) (a .out .now) (λ v. scheduleFor v (a .row)) (c .refused .ensures) (cc)
+    result-refused (readSheet (a .bytes .now)) (r .read .result) (r .read .ensures) (a .out .now) (λ v. scheduleFor v (a .row)) (c .refused .ensures) (cc)
 
 returns-2 : tie.Need-returns-2
 unfolding scheduleResult
 returns-2 c =
     let r = c .before .before .before .before .before .before .before in
     let a = c .before .before .before .before .before .before .before .before .before .before .args in
-    result-accepted (a .bytes .now) (r .read .result) (r .read .ensures) (λ v. scheduleFor v (a .row)) (c .before .before .sheet-schedule .ensures) (cc)
+    result-accepted (readSheet (a .bytes .now)) (r .read .result) (r .read .ensures) (λ v. scheduleFor v (a .row)) (c .before .before .sheet-schedule .ensures) (cc)
 
 pub optimal-schedule-spec : {M : Type 1} → statement M
 optimal-schedule-spec =

@@ -2,6 +2,7 @@
 use borrow.Author.Needs.{needs}
 use Rattle.report.specs.Listing.{listingOf, refusedText}
 use Rattle.analyser.specs.Answers.{printedText}
+use Rattle.sheet.specs.Reading.{readSheet}
 use Rattle.sheet.proofs.Accepting.{text-refused, on-accepted, stands}
 use Rattle.analyser.proofs.printed.Statement.{statement}
 use Rattle.analyser.proofs.printed.Tie as tie
@@ -16,7 +17,7 @@ unfolding printedText
 returns c =
     let r = c .before .before .before .before .before .before .before .before in
     let a = r .before .before .before .args in
-    text-refused (a .bytes .now) (r .read .result) (r .read .ensures) refusedText listingOf (c .before .before .write-refusal .ensures)
+    text-refused (readSheet (a .bytes .now)) (r .read .result) (r .read .ensures) refusedText listingOf (c .before .before .write-refusal .ensures)
     (c .before .before .before .before .before .verdict .given .1)
 
 returns-2 : tie.Need-returns-2
@@ -24,7 +25,7 @@ unfolding printedText
 returns-2 c =
     let r = c .before .before .before .before .before .before .before in
     let a = r .before .before .before .args in
-    rw (on-accepted (a .bytes .now) (r .read .result) (r .read .ensures) (cc) refusedText listingOf)
+    rw (on-accepted (readSheet (a .bytes .now)) (r .read .result) (r .read .ensures) (cc) refusedText listingOf)
     (c .before .before .sheet-listing .ensures)
 
 pub printed-spec : {M : Type 1} → statement M

@@ -13,7 +13,7 @@ sizes-length s = search needs
 
 array-share-prefix-all-sizes : tie.Need-array-share-prefix-all-sizes
 array-share-prefix-all-sizes c =
-    let s = c .before .before .before in omega (arith, sizes-length s, s .pre .0)
+    let s = c .before .before .before in omega (arith, sizes-length s, s .pre .0 .0)
 
 slice-aggregate-sizes : tie.Need-slice-aggregate-sizes
 slice-aggregate-sizes c = sym (length-take-le _ _ (array-share-prefix-all-sizes (c .before)))
@@ -21,13 +21,13 @@ slice-aggregate-sizes c = sym (length-take-le _ _ (array-share-prefix-all-sizes 
 tally-requires : tie.Need-tally-requires
 unfolding headValueOf
 tally-requires c κs =
-    let v = c .before .before .before .before .pre in (v .1, v .2 .rows, v .2 .run)
+    let v = c .before .before .before .before .pre in (v .0 .1, v .1 .0, v .1 .1)
 
 all-rows-requires : tie.Need-all-rows-requires
 unfolding headValueOf
 all-rows-requires c κs =
     let v = c .before .before .before .before .before .pre in
-    (v .1, record { rows-ok = v .2 .rows; run-ok = v .2 .run; is-tally = c .tally .ensures })
+    (v .0 .1, record { rows-ok = v .1 .0; run-ok = v .1 .1; is-tally = c .tally .ensures })
 
 returns : tie.Need-returns
 unfolding headValueOf

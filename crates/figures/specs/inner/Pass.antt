@@ -10,7 +10,7 @@ use Rattle.model.specs.Costs.{swapCost, retention}
 use Rattle.model.specs.Sums.{tabulate}
 use Rattle.model.specs.Traces.{Trace, steps}
 use Rattle.model.specs.Figures.{ofTime, isReuse}
-use Rattle.model.specs.Sheets.{RowsWithin, RunWithin, runOf, mostSegs, mostRefs}
+use Rattle.model.specs.Sheets.{RowsWithin, RunWithin, runOf, mostSegs, mostSteps}
 use Rattle.model.specs.declared.Kind.{Kind}
 use Rattle.model.specs.declared.PriceRow.{PriceRow}
 use Rattle.model.specs.LastTouches.{lastTable}
@@ -91,7 +91,7 @@ passedOf rows T = passedAfter rows T (steps T)
 pub record Passable (p : Passed) (segs n m : ℕ) : Type 0 where
   pub roomy : Roomy (p .buckets) (2 ^ 60)
   pub few-segs : segs ≤ mostSegs
-  pub few-steps : n + m ≤ mostRefs
+  pub few-steps : n + m ≤ mostSteps
 
 -- `count` rows such as a sheet has, the quotients of which are qs
 pub record RowsOf (a count : ℕ) (qs : List ℕ) (rows : List PriceRow) : Type 0 where

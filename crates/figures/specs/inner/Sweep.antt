@@ -11,7 +11,7 @@ use Rattle.model.specs.Costs.{totalCost}
 use Rattle.model.specs.Sums.{sum, tabulate}
 use Rattle.model.specs.Traces.{Trace}
 use Rattle.model.specs.Rows.{zeroFigures}
-use Rattle.model.specs.Sheets.{RowsWithin, RunWithin, largestA, mostSegs, largestSize, mostRows, mostRefs}
+use Rattle.model.specs.Sheets.{RowsWithin, RunWithin, largestA, mostSegs, largestSize, mostRows, mostSteps}
 use Rattle.model.specs.declared.Kind.{Kind}
 use Rattle.model.specs.declared.Kind.the-variants.{Time, Space}
 use Rattle.model.specs.declared.PriceRow.{PriceRow}
@@ -105,7 +105,7 @@ abbrev pub largestSwap : ℕ
 largestSwap = 1 + largestA * largestSize
 
 abbrev pub retentionBound : ℕ
-retentionBound = mostRefs * largestSize
+retentionBound = mostSteps * largestSize
 
 -- a bucket of at most n items
 pub record Holds (n : ℕ) (b : Bucket) : Type 0 where
@@ -125,24 +125,24 @@ pub record KeptWithin (all kept ends : Bucket) : Type 0 where
 
 -- sums of which a working set can be made
 pub record Summable (cost volume : ℕ) (all kept ends : Bucket) : Type 0 where
-  pub cost-fits : cost ≤ mostRefs * largestSize
-  pub volume-fits : volume ≤ mostRefs * largestSize
-  pub all-holds : Holds mostRefs all
-  pub kept-holds : Holds mostRefs kept
+  pub cost-fits : cost ≤ mostSteps * largestSize
+  pub volume-fits : volume ≤ mostSteps * largestSize
+  pub all-holds : Holds mostSteps all
+  pub kept-holds : Holds mostSteps kept
   pub ends-holds : Holds mostSegs ends
   pub parts : KeptWithin all kept ends
 
 -- sums from which no figure of the row exceeds 64 bits
 pub record RowFits (kind : Kind) (row : PriceRow) (refs cost volume : ℕ) (all kept ends : Bucket) : Type 0 where
-  pub all-holds : Holds mostRefs all
-  pub kept-holds : Holds mostRefs kept
+  pub all-holds : Holds mostSteps all
+  pub kept-holds : Holds mostSteps kept
   pub ends-holds : Holds mostSegs ends
   pub parts : KeptWithin all kept ends
-  pub cost-fits : cost ≤ mostRefs * largestSize
-  pub volume-fits : volume ≤ mostRefs * largestSize
+  pub cost-fits : cost ≤ mostSteps * largestSize
+  pub volume-fits : volume ≤ mostSteps * largestSize
   pub wsocc-fits : wsoccFrom kind row cost volume all kept ends < 2 ^ 53
   pub some-d : 1 ≤ row .d
-  pub refs-fit : refs ≤ mostRefs
+  pub refs-fit : refs ≤ mostSteps
 
 -- no row has figures yet
 unfoldable pub noRowFigures : List RowFigures

@@ -5,7 +5,7 @@ use mathlib.Core.Path.{_≡_, refl, sym, _∙_}
 use native.Mathlib.Numerals.{add-one}
 use native.Mathlib.Omega.{arith}
 use borrow.Author.Needs.{needs}
-use Rattle.model.specs.Sheets.{mostRefs}
+use Rattle.model.specs.Sheets.{mostSteps}
 use Rattle.figures.proofs.Sweeps.{summed-none}
 use Rattle.figures.specs.inner.Sweep.{summed, Holds}
 use Rattle.guards.proofs.Guarding.{sum-more}
@@ -14,7 +14,7 @@ use Rattle.guards.proofs.sum_first.Tie as tie
 
 abbrev Inv-loop : tie.InvT-loop
 Inv-loop n buckets all₀ k₀ all k =
-    (k ≤ n) × (((m : ℕ) → m ≤ n → Holds mostRefs (summed buckets m)) → all ≡ summed buckets k)
+    (k ≤ n) × (((m : ℕ) → m ≤ n → Holds mostSteps (summed buckets m)) → all ≡ summed buckets k)
 
 abbrev μ-loop : tie.MeasureT-loop
 μ-loop n buckets all₀ k₀ all k =

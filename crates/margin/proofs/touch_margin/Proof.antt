@@ -8,7 +8,6 @@ use lib.ListN.{getD}
 use mir.Syntax.{w64}
 use mir.ValLaws.{toZ-ofZ}
 use Rattle.model.specs.declared.Verdict.the-variants.{Accepted}
-use Rattle.model.proofs.Standing.{entry-segment}
 use Rattle.margin.proofs.TouchMargins.{first-touch, retention-room, swap-room, priced-room, reuse-touch}
 use Rattle.margin.proofs.touch_margin.Statement.{statement}
 use Rattle.margin.proofs.touch_margin.Tie as tie
@@ -22,7 +21,7 @@ returns c =
 
 -- the touched segment is among the sizes
 touched-segment : (c : tie.Start) → getD (c .args .t1 .touches) (c .args .t) 0 < 256
-touched-segment c = omega (arith, c .pre .0, entry-segment (c .args .t1) (c .pre .0) (c .args .t) (c .pre .2))
+touched-segment c = omega (arith, c .pre .0, c .pre .2 .segment)
 
 mul-z : tie.Need-mul-z
 mul-z c = omega (arith, touched-segment (c .before .before .before .before))

@@ -19,10 +19,10 @@ abbrev μ-loop : tie.MeasureT-loop
 μ-loop t s segment time₀ i₀ time i = t - i
 
 mul-segment : tie.Need-mul-segment Inv-loop μ-loop
-mul-segment c = omega (arith, c .pre)
+mul-segment c = omega (arith, c .pre .0, c .pre .1 .within)
 
 element-copy-out-segment : tie.Need-element-copy-out-segment Inv-loop μ-loop
-element-copy-out-segment c = omega (arith, c .pre)
+element-copy-out-segment c = omega (arith, c .pre .0, c .pre .1 .within)
 
 loop-holds : tie.Need-loop-holds Inv-loop μ-loop
 loop-holds c = (omega arith, sym (time-start (valueOf (c .before .args .t1)) _))
@@ -31,13 +31,13 @@ mul-next-time : tie.Need-mul-next-time Inv-loop μ-loop
 mul-next-time c = omega arith
 
 element-copy-out-next-time : tie.Need-element-copy-out-next-time Inv-loop μ-loop
-element-copy-out-next-time c = omega (arith, c .before .before .before .pre)
+element-copy-out-next-time c = omega (arith, c .before .before .before .pre .0, c .before .before .before .pre .1 .within)
 
 next-time-requires : tie.Need-next-time-requires Inv-loop μ-loop
 next-time-requires c κs =
     let l = c .before .before in
     let s = l .before .before in
-    omega (arith, time-within (valueOf (s .args .t1)) (l .loop .i) _ (l .loop .time) (l .loop .inv .1), s .pre)
+    omega (arith, time-within (valueOf (s .args .t1)) (l .loop .i) _ (l .loop .time) (l .loop .inv .1), s .pre .0, s .pre .1 .within)
 
 add-i : tie.Need-add-i Inv-loop μ-loop
 add-i c = omega arith
@@ -56,7 +56,7 @@ returns c =
     let l = c .before in
     let s = l .before .before in
     let all : l .loop .i ≡ s .args .t = omega arith in
-    rw (entry-of (s .args .t1) (s .pre .0) (s .args .t) (s .pre .1)) (rw all at (l .loop .inv .1))
+    rw (entry-of (s .args .t1) (s .pre .0) (s .args .t) (s .pre .1 .within)) (rw all at (l .loop .inv .1))
 
 pub unreferenced-time-spec : {M : Type 1} → statement M
 unreferenced-time-spec =

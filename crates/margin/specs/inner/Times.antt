@@ -1,7 +1,11 @@
--- The unreferenced time as the code holds it, by value. Assumes nothing.
-use Prim.Native.Nat.{ℕ, _+_}
+-- The unreferenced time as the code holds it, by value, and where a reference stands. Assumes nothing.
+use Prim.Native.Nat.{ℕ, _+_, _-_, _≤_, _<_}
+use mathlib.Core.Path.{_≡_}
 use mathlib.Core.Bool.{Bool, true, false, cond}
 use mathlib.Core.Option.{Option, none, some}
+use lib.ListN.{getD}
+use Rattle.model.specs.Traces.{Trace, steps, refsOf, placeOf}
+use Rattle.model.specs.declared.Sheet.{Sheet}
 use Rattle.margin.specs.declared.Unreferenced.{Unreferenced}
 
 -- an unreferenced time by value: 0 beside false where there is none
@@ -12,3 +16,17 @@ timeOf (some k) = record { reuse = true; time = k }
 -- and after one step more: 0 where the step touches the segment, else one more where there is a time
 abbrev pub nextTime : Unreferenced → Bool → Unreferenced
 nextTime u touch = cond touch (record { reuse = true; time = 0 }) (cond (u .reuse) (record { reuse = true; time = u .time + 1 }) u)
+
+-- the step at place t of a sheet has a touch
+pub record HasTouch (s : Sheet) (t : ℕ) : Type 0 where
+  pub within : t < s .steps
+  pub segment : getD (s .touches) t 0 < s .head .segs
+
+-- how many references are left to pass after a step that has a touch or not
+abbrev pub leftAfter : Bool → ℕ → ℕ
+leftAfter touched left = cond touched (left - 1) left
+
+-- p is the place of the n-th reference of a run, or the run's end where it has fewer
+pub record PlaceFound (T : Trace) (n p : ℕ) : Type 0 where
+  pub found : p < steps T → (n ≤ refsOf T) × (p ≡ placeOf T n)
+  pub none : steps T ≤ p → refsOf T < n

@@ -18,7 +18,7 @@ pub record HeadStored (R : Recorder) (head sizes h d : List ℕ) : Type 0 where
   pub h-are : h ≡ listsOf R .h
   pub d-are : d ≡ listsOf R .d
 
--- what is stored of it at the start and after references: how many, Q and V, the table of last touches, the sums
+-- what is stored of it at the start and after steps: how many, Q and V, the table of last touches, the sums
 pub record TakenStored (R : Recorder) (counts last sums : List ℕ) : Type 0 where
   pub counts-are : counts ≡ listsOf R .counts
   pub last-is : last ≡ listsOf R .last

@@ -7,7 +7,7 @@ use borrow.Author.Needs.{needs}
 use lib.Seq.{length-take-le}
 use Rattle.model.specs.Values.{headValueOf, valueOf}
 use Rattle.plans.proofs.PlanResults.{schedule-no-row, schedule-short, schedule-placed}
-use Rattle.model.proofs.Standing.{rows-counted, refs-counted, row-of}
+use Rattle.model.proofs.Standing.{rows-counted, steps-counted, row-of}
 use Rattle.plans.proofs.sheet_schedule.Statement.{statement}
 use Rattle.plans.proofs.sheet_schedule.Tie as tie
 
@@ -22,7 +22,7 @@ returns-2 : tie.Need-returns-2
 returns-2 c =
     let s = c .before .before .before .before .before .before in
     let n = rows-counted (s .args .s) (s .pre) in
-    let m = refs-counted (s .args .s) (s .pre) in
+    let m = steps-counted (s .args .s) (s .pre) in
     rw (c .refused2 .ensures)
     (schedule-short (valueOf (s .args .s)) (s .args .row) (s .args .out .now)
     (omega (arith, c .before .before .before .if1 .left)) (omega (arith, c .before .if2 .taken)))
@@ -43,7 +43,7 @@ write-optimal-requires : tie.Need-write-optimal-requires
 unfolding valueOf headValueOf
 write-optimal-requires c κs =
     let s = c .before .before .before .before .before .before .before .before .before .before .before .before in
-    let m = refs-counted (s .args .s) (s .pre) in
+    let m = steps-counted (s .args .s) (s .pre) in
     (s .pre .valid .run, omega (arith, c .before .before .before .before .before .before .before .if2 .left))
 
 of-steps-requires : tie.Need-of-steps-requires
@@ -59,7 +59,7 @@ returns-3 c =
     let s = c .before .before .before .before .before .before .before .before .before .before .before .before .before .before .before .before .before in
     let v = valueOf (s .args .s) in
     let n = rows-counted (s .args .s) (s .pre) in
-    let m = refs-counted (s .args .s) (s .pre) in
+    let m = steps-counted (s .args .s) (s .pre) in
     let l : s .args .row < s .args .s .head .rows = omega (arith, e .before .before .if1 .left) in
     let p = schedule-placed v (s .args .row) (s .args .out .now) (omega arith) (omega (arith, e .if2 .left)) in
     record {

@@ -20,7 +20,7 @@ abbrev μ-loop : tie.MeasureT-loop
 μ-loop kind a row sizes refs schedule c₀ t₀ c t = length refs - t
 
 mul-if1 : tie.Need-mul-if1 Inv-loop μ-loop
-mul-if1 c = omega (arith, c .before .before .before .pre .refs-within)
+mul-if1 c = omega (arith, c .before .before .before .pre .steps-within)
 
 returns : tie.Need-returns Inv-loop μ-loop
 returns c = c .refused .ensures ∙ sym (refused-answer _ _ _ _ _ (other-length _ _ (ne-eqb _ _ (c .before .if1 .taken))))
@@ -56,7 +56,7 @@ total-requires : tie.Need-total-requires Inv-loop μ-loop
 total-requires c κs =
     let start = c .before .before .before .before .before .before in
     let within =
-    through-within _ (start .pre) _ _ _ (omega (arith, start .pre .refs-within)) (c .before .loop .inv .1) in
+    through-within _ (start .pre) _ _ _ (omega (arith, start .pre .steps-within)) (c .before .loop .inv .1) in
     (omega (arith, within .1), omega (arith, within .2))
 
 returns-3 : tie.Need-returns-3 Inv-loop μ-loop

@@ -63,7 +63,7 @@ moved-requires c κs =
     let start = Entry x in
     let A = start .args in
     let at = start .pre .0 in (
-      through-within _ (at .limits) _ _ _ (omega (arith, at .place, at .limits .refs-within)) (start .pre .1),
+      through-within _ (at .limits) _ _ _ (omega (arith, at .place, at .limits .steps-within)) (start .pre .1),
       rw (c .size-at .ensures)
           (left-within _ (at .limits) _ _ (at .place) _ (x .segment-of .ensures) _ _ (start .pre .1) (e .before .pass-step .ensures)
           (lacks-told (Run (Entry x)) (λ i. refl) (now (A .schedule)) (A .t) (x .segment-of .result) _

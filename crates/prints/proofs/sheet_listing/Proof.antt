@@ -8,14 +8,20 @@ use Rattle.prints.proofs.sheet_listing.Tie as tie
 
 write-requires : tie.Need-write-requires
 write-requires c κs =
-    let f = c .before in
-    let b = f .before .before in
-    (b .pre .rows-within, rw (f .all-figures .ensures, listing-of (b .args .s) (b .pre)) (listing-most (valueOf (b .args .s)) (b .pre .valid)))
+    let n = c .before in
+    let f = n .before in
+    let b = f .before .before in (
+      b .pre .rows-within,
+      rw (f .all-figures .ensures, n .sheet-refs .ensures, listing-of (b .args .s) (b .pre))
+          (listing-most (valueOf (b .args .s)) (b .pre .valid)),
+    )
 
 returns : tie.Need-returns
 returns c =
-    let b = c .before .before .before .before .before .before in
-    rw (c .before .before .before .before .all-figures .ensures, listing-of (b .args .s) (b .pre)) at (c .before .before .write .ensures)
+    let n = c .before .before .before .before in
+    let f = n .before in
+    let b = f .before .before in
+    rw (f .all-figures .ensures, n .sheet-refs .ensures, listing-of (b .args .s) (b .pre)) at (c .before .before .write .ensures)
 
 pub sheet-listing-spec : {M : Type 1} → statement M
-sheet-listing-spec = tie.close (tie.spec (λ c κs. search needs) write-requires (λ c. search needs) returns)
+sheet-listing-spec = tie.close (tie.spec (λ c κs. search needs) (λ c κs. search needs) write-requires (λ c. search needs) returns)

@@ -1,11 +1,11 @@
 -- `reading::blank_touches` meets its contract: the repeat is that of the definition. Assumes nothing.
 use borrow.Author.Needs.{needs}
-use Rattle.model.specs.Values.{zeros}
+use Rattle.model.specs.Values.{idles}
 use Rattle.reading.proofs.blank_touches.Statement.{statement}
 use Rattle.reading.proofs.blank_touches.Tie as tie
 
 returns : tie.Need-returns
-unfolding zeros
+unfolding idles
 returns c = search needs
 
 pub blank-touches-spec : {M : Type 1} → statement M

@@ -1,9 +1,10 @@
 -- What a kind, a row and a head that were read stand for: the code gives places in the bytes that it is lent, the definitions speak
 -- of bytes. Assumes nothing.
-use Prim.Native.Nat.{ℕ, _-_}
+use Prim.Native.Nat.{ℕ, max}
+use mathlib.Core.Bool.{cond}
 use mathlib.Core.List.{List}
 use mathlib.Core.Option.{Option, none, some}
-use lib.ListN.{drop}
+use lib.ListN.{take, drop}
 use Rattle.model.specs.Sheets.{mostSegs, mostRows}
 use Rattle.model.specs.Values.{zeros, zeroRows}
 use Rattle.model.specs.declared.Head.{Head}
@@ -12,7 +13,8 @@ use Rattle.model.specs.declared.PriceRow.{PriceRow}
 use Rattle.model.specs.declared.Refusal.the-variants.{ValueMalformed, OutOfRange}
 use Rattle.decimal.specs.declared.Reading.{Reading}
 use Rattle.decimal.specs.declared.Reading.the-variants.{NotNumber, OutOfRange as Beyond, Number}
-use Rattle.sheet.specs.Lines.{Parsed, read, refused}
+use Rattle.lines.specs.Keys.{formKey}
+use Rattle.sheet.specs.Lines.{Parsed, read, refused, sameBytes, numberLine}
 use Rattle.sheet.specs.Values.{rowAfter}
 use Rattle.scan.specs.AtPlace.{Filled}
 use Rattle.reading.specs.declared.head.KindAt.{KindAt}
@@ -62,6 +64,12 @@ rowOfReadings prev Beyond (Number d) rest = refused OutOfRange
 rowOfReadings prev (Number h) NotNumber rest = refused ValueMalformed
 rowOfReadings prev (Number h) Beyond rest = refused OutOfRange
 rowOfReadings prev (Number h) (Number d) rest = rowAfter prev (record { h = h; d = d }) rest
+
+-- ---- a sheet
+
+-- the form lo to hi of the form line, or 1 where the bytes do not begin with its key
+abbrev pub formLine : ℕ → ℕ → List ℕ → Parsed ℕ
+formLine lo hi s = cond (sameBytes (take 5 s) formKey) (numberLine formKey (max 2 lo) hi s) (read 1 s)
 
 -- the lists of a head stand at the front of zeros
 pub record HeadFilled (h : Head) : Type 0 where

@@ -15,9 +15,10 @@ returns c = sym (le-ltb (c .before .args .size) _ (omega arith))
 
 returns-2 : tie.Need-returns-2
 returns-2 c =
-    let a = c .before .before .before .before .before .before .args in
-    let e : c .before .three-length .result + c .rows-length .result ≡ length (listing (a .refs) (a .segs) (take (a .rows) (a .figures))) =
-    omega (arith, listing-length (a .refs) (a .segs) (a .rows) (a .figures) (omega arith)) in
+    let a = c .before .before .before .args in
+    let e : c .before .head-length .result + c .rows-length .result
+    ≡ length (listing (a .form) (a .refs) (a .steps) (a .segs) (take (a .rows) (a .figures))) =
+    omega (arith, listing-length (a .form) (a .refs) (a .steps) (a .segs) (a .rows) (a .figures) (omega arith)) in
     rw e
 
 pub too-short-spec : {M : Type 1} → statement M
@@ -25,9 +26,6 @@ too-short-spec =
     tie.close
     (tie.spec
     returns
-    (λ c. search needs)
-    (λ c. search needs)
-    (λ c. search needs)
     (λ c κs. search needs)
     (λ c κs. search needs)
     (λ c. search needs)

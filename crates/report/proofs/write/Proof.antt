@@ -16,30 +16,30 @@ returns c =
     let a = c .before .before .before .before .args in
     rw (c .refused .ensures) (text-short _ _ (ltb-true (length (a .out .now)) _ (sym (c .before .before .too-short .ensures) ∙ c .before .if1 .taken)))
 
-put-three-requires : tie.Need-put-three-requires
-put-three-requires c κs =
-    let e = c .before .before .before .before in
+put-head-requires : tie.Need-put-head-requires
+put-head-requires c κs =
+    let e = c .before in
     let a = e .before .before .before .args in
     let h = ltb-false (length (a .out .now)) _ (sym (e .before .too-short .ensures) ∙ e .if1 .left) in
-    omega (arith, h, listing-length (a .refs) (a .segs) (a .rows) (a .figures) (omega arith))
+    omega (arith, h, listing-length (a .form) (a .refs) (a .steps) (a .segs) (a .rows) (a .figures) (omega arith))
 
 put-rows-requires : tie.Need-put-rows-requires
 put-rows-requires c κs =
-    let e = c .before .before .before .before .before .before .before .before in
+    let e = c .before .before .before .before .before in
     let a = e .before .before .before .args in
     let h = ltb-false (length (a .out .now)) _ (sym (e .before .too-short .ensures) ∙ e .if1 .left) in
-    let l = listing-length (a .refs) (a .segs) (a .rows) (a .figures) (omega arith) in
-    (omega arith, omega (arith, h, l, c .before .before .before .put-three .ensures .ends))
+    let l = listing-length (a .form) (a .refs) (a .steps) (a .segs) (a .rows) (a .figures) (omega arith) in
+    (omega arith, omega (arith, h, l, c .before .before .before .put-head .ensures .ends))
 
 returns-2 : tie.Need-returns-2
 returns-2 c =
     let p = c .before .before in
     let h = p .before .before .before .before in
-    let s = h .before .before .before .before .before .before .before .before in
+    let s = h .before .before .before .before .before in
     let a = s .args in
     let q = put-same
-    (listing-parts (a .refs) (a .segs) (a .rows) (a .figures) (omega (arith, s .pre)))
-    (put-then (h .put-three .ensures) (p .put-rows .ensures)) in
+    (listing-parts (a .form) (a .refs) (a .steps) (a .segs) (a .rows) (a .figures) (omega (arith, s .pre, s .good)))
+    (put-then (h .put-head .ensures) (p .put-rows .ensures)) in
     text-put _ _ _ _ _ (omega (arith, q .ends)) q
 
 pub write-spec : {M : Type 1} → statement M
@@ -49,10 +49,7 @@ write-spec =
     (λ c κs. search needs)
     (λ c κs. search needs)
     returns
-    (λ c. search needs)
-    (λ c. search needs)
-    (λ c. search needs)
-    put-three-requires
+    put-head-requires
     put-rows-requires
     (λ c. search needs)
     returns-2)

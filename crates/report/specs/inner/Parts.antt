@@ -1,8 +1,18 @@
--- The parts in which a listing is written: three lines at a time. Assumes nothing.
+-- The parts in which a listing is written: its head, and three lines of a row at a time. Assumes nothing.
 use Prim.Native.Nat.{ℕ}
 use mathlib.Core.List.{List, _++_}
+use Rattle.lines.specs.Keys.{refsKey, segsKey, rowsKey}
 use Rattle.lines.specs.Texts.{numberText}
+use Rattle.report.specs.Listing.{stepsListing}
 
 -- three lines with a number each
 unfoldable pub threeText : List ℕ → ℕ → List ℕ → ℕ → List ℕ → ℕ → List ℕ
 threeText k x l y m z = numberText k x ++ (numberText l y ++ numberText m z)
+
+-- refs=, and for form 2 on steps=
+unfoldable pub countsText : ℕ → ℕ → ℕ → List ℕ
+countsText form refs steps = numberText refsKey refs ++ stepsListing form steps
+
+-- and segs= and rows=
+unfoldable pub headText : ℕ → ℕ → ℕ → ℕ → ℕ → List ℕ
+headText form refs steps segs rows = countsText form refs steps ++ (numberText segsKey segs ++ numberText rowsKey rows)

@@ -1,4 +1,4 @@
--- `rows::all_figures` meets its contract: the head and the references of a standing sheet are those of its value. Assumes nothing.
+-- `rows::all_figures` meets its contract: the head and the entries of a standing sheet are those of its value. Assumes nothing.
 use mathlib.Core.Path.{sym}
 use native.Mathlib.Omega.{arith}
 use lib.Seq.{length-take-le}
@@ -14,7 +14,7 @@ slice-aggregate-figures c = sym (length-take-le _ _ (omega (arith, c .before .be
 
 figures-requires : tie.Need-figures-requires
 unfolding valueOf
-figures-requires c κs = let p = c .before .before .before .pre in (p .segs-within, p .rows-within, p .valid)
+figures-requires c κs = let p = c .before .before .before .pre in ((p .segs-within, p .rows-within), (p .valid .rows, p .valid .run))
 
 returns : tie.Need-returns
 unfolding valueOf

@@ -1,4 +1,4 @@
--- `rows::row_alone` meets its contract: the sheet with the row alone is valid, and its only row has the figures. Assumes nothing.
+-- `rows::row_alone` meets its contract: the row alone is within the limits, and it has the figures. Assumes nothing.
 use mathlib.Core.Path.{sym, ap, _∙_}
 use native.Mathlib.Omega.{arith}
 use borrow.Author.Needs.{needs}
@@ -8,7 +8,7 @@ use Rattle.model.specs.Rows.{zeroFigures}
 use Rattle.model.specs.Values.{headValueOf, valueOf}
 use Rattle.model.proofs.Standing.{rows-counted, row-of}
 use Rattle.figures.specs.Rows.{allFigures}
-use Rattle.rows.proofs.Alone.{withRow, alone-valid, alone-figures}
+use Rattle.rows.proofs.Alone.{withRow, row-alone-within, alone-figures}
 use Rattle.rows.proofs.row_alone.Statement.{statement}
 use Rattle.rows.proofs.row_alone.Tie as tie
 
@@ -20,10 +20,12 @@ unfolding valueOf headValueOf
 figures-requires c κs =
     let s = c .before .before .before .before .before .before in
     let n = rows-counted (s .args .s) (s .pre .0) in (
-      s .pre .0 .segs-within,
-      omega arith,
-      rw (row-of (s .args .s) (s .pre .0) (s .args .row) (s .pre .1))
-          at (alone-valid (valueOf (s .args .s)) (s .pre .0 .valid) (s .args .row) (omega (arith, s .pre .1))),
+      (s .pre .0 .segs-within, omega arith),
+      (
+        rw (row-of (s .args .s) (s .pre .0) (s .args .row) (s .pre .1))
+            at (row-alone-within (valueOf (s .args .s) .head .rows) (s .pre .0 .valid .rows) (s .args .row) (omega (arith, s .pre .1))),
+        s .pre .0 .valid .run,
+      ),
     )
 
 returns : tie.Need-returns

@@ -11,13 +11,13 @@ use Rattle.model.specs.Costs.{swapCost, retention, keeps}
 use Rattle.model.specs.Sums.{tabulate}
 use Rattle.model.specs.Traces.{Trace, segs, steps, entry}
 use Rattle.model.specs.Figures.{kept}
-use Rattle.model.specs.Sheets.{mostRefs}
+use Rattle.model.specs.Sheets.{mostSteps}
 use Rattle.model.specs.declared.Kind.{Kind}
 use Rattle.model.specs.declared.PriceRow.{PriceRow}
 
 -- no touch is marked as kept
 unfoldable pub noMarks : List Bool
-noMarks = replicate mostRefs false
+noMarks = replicate mostSteps false
 
 -- whether a touch of a segment of size z after t steps is kept, by the segment's mark in the table of last touches
 abbrev pub keptBy : Kind → ℕ → PriceRow → ℕ → ℕ → ℕ → Bool

@@ -1,4 +1,4 @@
--- `writing::text_length` meets its contract: the lengths of the three parts are added. Assumes nothing.
+-- `writing::text_length` meets its contract: the lengths of the four parts are added. Assumes nothing.
 use native.Mathlib.Omega.{arith}
 use borrow.Author.Needs.{needs}
 use lib.ListN.{take}
@@ -9,8 +9,8 @@ use Rattle.writing.proofs.text_length.Tie as tie
 
 returns : tie.Need-returns
 returns c =
-    let a = c .before .before .before .before .before .before .before .args in
-    omega (arith, parts-length (sheetWith (a .kind) (a .a) (a .sizes .now) (take (a .rows) (a .prices)) (a .refs .now)))
+    let a = c .before .before .before .before .before .before .args in
+    omega (arith, parts-length (sheetWith (a .form) (a .kind) (a .a) (a .sizes .now) (take (a .rows) (a .prices)) (a .entries .now)))
 
 pub text-length-spec : {M : Type 1} → statement M
 text-length-spec =
@@ -19,7 +19,7 @@ text-length-spec =
     (λ c κs. search needs)
     (λ c κs. search needs)
     (λ c. search needs)
-    (λ c. search needs)
+    (λ c κs. search needs)
     (λ c. search needs)
     (λ c κs. search needs)
     (λ c. search needs)

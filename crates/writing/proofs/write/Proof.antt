@@ -18,13 +18,13 @@ use Rattle.writing.proofs.write.Tie as tie
 -- how long the arrays are
 lengths : (s : tie.Start)
     → (length (s .args .sheet .head .sizes) ≡ 256) × (length (s .args .sheet .head .prices) ≡ 64) × (length (s .args .sheet .touches) ≡ 2048)
-lengths s = (search needs, simp length-map at (s .good .0 .1 .1 .0 .1 .1 .1 .1 .1 .1 .1 .0 .1 .0 .1), search needs)
+lengths s = (search needs, simp length-map at (s .good .0 .1 .1 .1 .0 .1 .1 .1 .1 .1 .1 .1 .0 .1 .0 .1), search needs)
 
 -- the value that is written is that of the sheet
 same : (t : tie.After-touches2)
     → (let r = t .before .before in
     let s = r .before .before .before .before .before .before .before .before .args .sheet in
-    sheetWith (s .head .kind) (s .head .a)
+    sheetWith (s .form) (s .head .kind) (s .head .a)
     (take (r .before .before .before .before .least .result) (s .head .sizes))
     (take (r .before .before .least2 .result) (s .head .prices))
     (take (r .least3 .result) (s .touches)) ≡ valueOf s)
@@ -83,7 +83,7 @@ slice-aggregate-put-text-2 c =
     sym (length-take-le _ _ (omega arith))
 
 put-text-requires : tie.Need-put-text-requires
-put-text-requires c κs = omega arith
+put-text-requires c κs = (omega arith, simp length-take (omega arith), omega arith)
 
 returns-2 : tie.Need-returns-2
 returns-2 c =

@@ -1,17 +1,21 @@
--- The three parts in which a sheet is written. Assumes nothing.
+-- The four parts in which a sheet is written. Assumes nothing.
 use Prim.Native.Nat.{ℕ, _+_}
-use mathlib.Core.List.{List, _++_}
+use mathlib.Core.Bool.{cond}
+use mathlib.Core.List.{List, [], _++_}
+use lib.Dec.{leb}
 use lib.ListN.{length}
 use Rattle.model.specs.Sheets.{SheetValue}
 use Rattle.model.specs.declared.Kind.{Kind}
 use Rattle.model.specs.declared.PriceRow.{PriceRow}
-use Rattle.lines.specs.Keys.{kindKey, aKey, segsKey, sizeKey, rowsKey, kindWord}
+use Rattle.lines.specs.Keys.{formKey, kindKey, aKey, segsKey, sizeKey, rowsKey, stepsKey, refsKey, refKey, kindWord}
 use Rattle.lines.specs.Texts.{lineText, numberText, linesText}
+use Rattle.sheet.specs.Touches.{touchesOf, touchesText}
 use Rattle.sheet.specs.Values.{rowText}
 
 -- the value of a sheet by its parts
-abbrev pub sheetWith : Kind → ℕ → List ℕ → List PriceRow → List ℕ → SheetValue
-sheetWith kind a sizes rows refs = record { head = record { kind = kind; a = a; sizes = sizes; rows = rows }; refs = refs }
+abbrev pub sheetWith : ℕ → Kind → ℕ → List ℕ → List PriceRow → List ℕ → SheetValue
+sheetWith form kind a sizes rows refs =
+    record { form = form; head = record { kind = kind; a = a; sizes = sizes; rows = rows }; refs = refs }
 
 -- a line for each number
 abbrev pub numbersText : List ℕ → List ℕ → List ℕ
@@ -25,10 +29,23 @@ rowsText qs = linesText rowText qs
 abbrev pub countedText : List ℕ → List ℕ → List ℕ → List ℕ
 countedText count key xs = numberText count (length xs) ++ numbersText key xs
 
--- a sheet's lines up to the sizes
+-- the form line, which a sheet of form 2 on has first
+unfoldable pub formText : ℕ → List ℕ
+formText form = cond (leb 2 form) (numberText formKey form) []
+
+-- the lines from kind= to the sizes
 unfoldable pub segmentsText : Kind → ℕ → List ℕ → List ℕ
 segmentsText kind a sizes = lineText kindKey (kindWord kind) ++ (numberText aKey a ++ countedText segsKey sizeKey sizes)
 
 -- the line that counts the rows, and the line of each
 unfoldable pub pricedText : List PriceRow → List ℕ
 pricedText rows = numberText rowsKey (length rows) ++ rowsText rows
+
+-- the entries of form 2: the line that counts the steps, the line that counts the touches, and the line of each touch
+unfoldable pub stepsText : List ℕ → List ℕ
+stepsText entries =
+    numberText stepsKey (length entries) ++ (numberText refsKey (length (touchesOf entries)) ++ touchesText (touchesOf entries))
+
+-- the entries of a form
+unfoldable pub runText : ℕ → List ℕ → List ℕ
+runText form entries = cond (leb 2 form) (stepsText entries) (countedText refsKey refKey entries)

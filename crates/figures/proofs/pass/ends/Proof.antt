@@ -70,7 +70,7 @@ loop-again c =
       λ list of refs all run table.
           ending-step list _ run (s .args .steps) all _ table _ here _ (l .before .loop .inv .2 list of refs all run table) _ lim
           (touch-placed _ _ _ _ (of .quoted) _ _ _ (s .args .steps) _ _ (run .a-within) (run .size-within _ here)
-          (omega (arith, all, run .refs-within))
+          (omega (arith, all, run .steps-within))
           (s .pre .0 .1 .of-segment _ here) (d .before .before .touch-of .ensures .1) (rw (of .counted) (d .bucket-of .ensures .1))
           (of .within))
           _ (c .add-end .ensures),

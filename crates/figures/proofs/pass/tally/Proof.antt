@@ -39,7 +39,7 @@ references-requires c κs =
       record {
         roomy = rw (c .before .empty-buckets .ensures) (roomy-more _ 0 (2 ^ 60) (omega arith) roomy-start);
         few-segs = run .segs-within;
-        few-steps = omega (arith, run .refs-within);
+        few-steps = omega (arith, run .steps-within);
       },
     )
 

@@ -8,7 +8,10 @@ use Rattle.numbers.proofs.recorders.recorder_of.Tie as tie
 returns : tie.Need-returns
 unfolding recorderIn
 returns c =
-    rw (c .before .before .before .before .before .before .before .before .before .before .before .before .before .kind-of .ensures, c .before .before .before .before .before .cut .ensures, c .before .before .before .before .before .before .before .before .before .before .rows-of .ensures, c .before .before .before .before .before .before .before .before .before .buckets-of .ensures) refl
+    let cut = c .before .before .before .before .before in
+    let sums = cut .before .before .before .before in
+    let rows = sums .before in
+    rw (rows .before .before .before .kind-of .ensures, cut .cut .ensures, rows .rows-of .ensures, sums .buckets-of .ensures) refl
 
 pub recorder-of-spec : {M : Type 1} → statement M
 recorder-of-spec =

@@ -18,7 +18,7 @@ use Rattle.reading.proofs.head.head_lines.Tie as tie
 
 -- the line kind= ends within the bytes
 first : (c : tie.After-kind) → c .kind .given .0 .1 .0 ≤ length (c .before .before .before .before .args .s .now)
-first c = omega (arith, c .before .before .kind-line .ensures .1, ap kindNext (c .kind .given .1))
+first c = omega (arith, c .before .before .kind-for .ensures .1, ap kindNext (c .kind .given .1))
 
 -- and so does the line a=
 place : (c : tie.After-n) → (let k = c .before .before .before .before .before .before in
@@ -72,7 +72,7 @@ returns c =
     let s = w .before .before .before .before .args .s .now in
     let nh = c .no-head in
     let v = headValueOf (nh .result .head) in
-    let e = sym (w .before .before .kind-line .ensures .0) ∙ ap (parsedKind _) (w .why .given .1) in (
+    let e = sym (w .before .before .kind-for .ensures .0) ∙ ap (parsedKind _) (w .why .given .1) in (
       stage-refused (λ q. q) _ _ _ (parsedLines s (nh .result .lines) v) (ap (λ l. parsedLines s l v) (nh .ensures .0)) e,
       (omega (arith, ap linesNext (nh .ensures .0)), nh .ensures .1),
     )
@@ -86,7 +86,7 @@ returns-2 c =
     let s = k .before .before .before .before .args .s .now in
     let nh = c .no-head2 in
     let v = headValueOf (nh .result .head) in
-    let e₁ = sym (k .before .before .kind-line .ensures .0) ∙ ap (parsedKind _) (k .kind .given .1) in
+    let e₁ = sym (k .before .before .kind-for .ensures .0) ∙ ap (parsedKind _) (k .kind .given .1) in
     let e₂ = sym (n .number-line .ensures .0) ∙ ap (parsedNumber _) (w .why2 .given .1) in
     let r = parsedLines s (nh .result .lines) v in (
       stage-read (λ q. q) _ _ _ s (k .kind .given .0 .1 .0) r
@@ -103,9 +103,9 @@ returns-3 c =
     let i = k .kind .given .0 .1 .0 in
     let j = w .n .given .0 .1 .0 in
     let m = moved-within s (i + j) (t .table-lines .result .lines) (place w) (t .table-lines .ensures .1 .0) in
-    let e₁ = sym (k .before .before .kind-line .ensures .0) ∙ ap (parsedKind _) (k .kind .given .1) in
+    let e₁ = sym (k .before .before .kind-for .ensures .0) ∙ ap (parsedKind _) (k .kind .given .1) in
     let e₂ = sym (w .before .before .number-line .ensures .0) ∙ ap (parsedNumber _) (w .n .given .1) in (
-      head-read s i j _ _ (t .table-lines .result .lines) (c .after .result) _ e₁ e₂ (t .table-lines .ensures .0) (c .after .ensures),
+      head-read _ s i j _ _ (t .table-lines .result .lines) (c .after .result) _ e₁ e₂ (t .table-lines .ensures .0) (c .after .ensures),
       (
         omega (arith, ap linesNext (c .after .ensures), m),
         t .table-lines .ensures .1 .1,

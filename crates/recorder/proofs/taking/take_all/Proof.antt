@@ -5,7 +5,7 @@ use mathlib.Core.Path.{refl, ap, _∙_}
 use native.Mathlib.Omega.{arith}
 use borrow.Author.Needs.{needs}
 use lib.ListN.{length}
-use Rattle.model.specs.Sheets.{mostSegs, mostRefs}
+use Rattle.model.specs.Sheets.{mostSegs, mostSteps}
 use Rattle.recorder.specs.Recorders.{recorderOf}
 use Rattle.recorder.proofs.Bulk.{none-appended, takable, takable-few, all-valid}
 use Rattle.recorder.proofs.Standing.{stands-roomy}
@@ -31,7 +31,7 @@ returns-2 c =
     )
 
 -- all references are within the number that a sheet has
-few : (c : tie.After-roomy) → start c .args .recorder .refs + length (start c .args .refs .now) ≤ mostRefs
+few : (c : tie.After-roomy) → start c .args .recorder .steps + length (start c .args .refs .now) ≤ mostSteps
 few c = let s = start c in
     let can = takable (min (s .args .recorder .head .segs) mostSegs) _ _ (s .pre) in
     takable-few _ _ _ can (omega (arith, can .room 0 (omega (arith, c .before .before .before .before .if1 .left))))

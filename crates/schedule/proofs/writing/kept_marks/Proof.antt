@@ -36,7 +36,7 @@ loop-holds : tie.Need-loop-holds Inv-loop μ-loop
 loop-holds c =
     let s = c .before .before .before .before in
     rw (c .before .no-marks .ensures)
-    (marked-start (Run s) (s .args .row) (s .pre .segs-within) (s .pre .refs-within) (c .untouched .result)
+    (marked-start (Run s) (s .args .row) (s .pre .segs-within) (s .pre .steps-within) (c .untouched .result)
     (c .untouched .ensures ∙ sym (lastTable-start (Run s) (λ i. refl))))
 
 cast-i : tie.Need-cast-i Inv-loop μ-loop
@@ -79,7 +79,7 @@ loop-again c =
     (Run s)
     (s .args .row)
     (s .pre .segs-within)
-    (s .pre .refs-within)
+    (s .pre .steps-within)
     (l .marks)
     (l .last)
     (l .t)
@@ -96,7 +96,7 @@ loop-again-2 c =
     let turn = c .before .before in
     let s = Entry turn in
     let l = turn .before .loop in
-    marked-idle (Run s) (s .args .row) (s .pre .segs-within) (s .pre .refs-within) (l .marks) (l .last) (l .t) (l .inv)
+    marked-idle (Run s) (s .args .row) (s .pre .segs-within) (s .pre .steps-within) (l .marks) (l .last) (l .t) (l .inv)
     (turn .loop-test .taken) (c .if1 .left)
 
 returns : tie.Need-returns Inv-loop μ-loop

@@ -13,12 +13,12 @@ use Rattle.schedule.proofs.writing.write_optimal.Statement.{statement}
 use Rattle.schedule.proofs.writing.write_optimal.Tie as tie
 
 slice-aggregate-write-decided : tie.Need-slice-aggregate-write-decided
-slice-aggregate-write-decided c = sym (length-take-le _ _ (omega (arith, c .before .before .before .before .before .pre .0 .refs-within)))
+slice-aggregate-write-decided c = sym (length-take-le _ _ (omega (arith, c .before .before .before .before .before .pre .0 .steps-within)))
 
 write-decided-requires : tie.Need-write-decided-requires
 write-decided-requires c κs =
     let s = c .before .before .before .before .before .before in
-    (s .pre .0 .segs-within, length-take-le _ _ (omega (arith, s .pre .0 .refs-within)), s .pre .1)
+    (s .pre .0 .segs-within, length-take-le _ _ (omega (arith, s .pre .0 .steps-within)), s .pre .1)
 
 returns : tie.Need-returns
 returns c =

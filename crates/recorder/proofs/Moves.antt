@@ -1,0 +1,152 @@
+-- Touches and idle steps in any order: a recorder that stands for a sheet then stands for the sheet with those steps; and from a sheet's
+-- head on the moves that it records are all accepted and lead to the sheet. Assumes nothing.
+use Prim.Native.Nat.{ℕ, suc, _+_, _≤_, _<_, min}
+use mathlib.Core.Path.{_≡_, refl, sym, ap, _∙_}
+use mathlib.Core.Bool.{Bool, true, false, cond}
+use mathlib.Core.Logic.{_⊎_, ⊎-elim}
+use mathlib.Core.List.{List, [], _∷_, _++_, map, append-assoc, append-nil}
+use native.Mathlib.Omega.{arith}
+use lib.Dec.{ltb}
+use lib.ListN.{length, getD, length-append}
+use borrow.Author.Tests.{lt-ltb, ltb-true, ltb-false}
+use Rattle.model.specs.Sheets.{HeadValue, SheetValue, Valid, idle, mostSegs, mostSteps}
+use Rattle.model.specs.Values.{headOf}
+use Rattle.model.specs.declared.Verdict.{Verdict}
+use Rattle.model.specs.declared.Verdict.the-variants.{Accepted, Refused}
+use Rattle.recorder.specs.Recorders.{recorderOf, started, appended, taken, rested, touchVerdict, idleVerdict}
+use Rattle.recorder.specs.Moves.{Move, touching, resting, entryOf, moved, afterMoves, moveVerdict, movesVerdict}
+use Rattle.recorder.specs.Moves.{Moved, Led, unmoved, led, moveOf, movesOf}
+use Rattle.recorder.specs.declared.Recorder.{Recorder}
+use Rattle.recorder.specs.declared.TouchAnswer.{TouchAnswer}
+use Rattle.recorder.proofs.Answers.{step-room}
+use Rattle.recorder.proofs.Bulk.{appended-none, all-valid, one-accepted}
+use Rattle.recorder.proofs.Standing.{taken-valid, rested-valid, started-valid}
+
+-- moves after others
+pub moves-append : (v : SheetValue) (ms ns : List Move) → afterMoves v (ms ++ ns) ≡ afterMoves (afterMoves v ms) ns
+unfolding afterMoves
+moves-append v [] ns = refl
+moves-append v (m ∷ ms) ns = moves-append (moved v m) ms ns
+
+-- touches alone
+pub moves-touch : (v : SheetValue) (xs : List ℕ) → afterMoves v (map touching xs) ≡ appended v xs
+unfolding afterMoves
+moves-touch v [] = sym (appended-none v)
+moves-touch v (x ∷ xs) = moves-touch (taken v x) xs ∙ rw (append-assoc (v .refs) (x ∷ []) xs) refl
+
+-- the head stays, and each move is one entry more
+pub moves-head : (v : SheetValue) (ms : List Move) → afterMoves v ms .head ≡ v .head
+unfolding afterMoves
+moves-head v [] = refl
+moves-head v (touching x ∷ ms) = moves-head (taken v x) ms
+moves-head v (resting ∷ ms) = moves-head (rested v) ms
+
+pub moves-entries : (v : SheetValue) (ms : List Move) → afterMoves v ms .refs ≡ v .refs ++ map entryOf ms
+unfolding afterMoves
+moves-entries v [] = sym (append-nil (v .refs))
+moves-entries v (touching x ∷ ms) = moves-entries (taken v x) ms ∙ append-assoc (v .refs) (x ∷ []) (map entryOf ms)
+moves-entries v (resting ∷ ms) = moves-entries (rested v) ms ∙ append-assoc (v .refs) (idle ∷ []) (map entryOf ms)
+
+-- a move that is accepted leaves the sheet within the limits
+pub moved-valid : (R : Recorder) (m : Move) → moveVerdict R m ≡ Accepted → (v : SheetValue) → Valid v → R ≡ recorderOf v → Valid (moved v m)
+unfolding recorderOf
+moved-valid R (touching x) a v valid e = all-valid R (x ∷ []) (one-accepted R x a) v valid e
+moved-valid R resting a v valid e = rested-valid v valid (omega (arith, step-room (R .steps) a, ap (λ (Q : Recorder). Q .steps) e))
+
+-- and the recorder stands for it
+moved-verdict : (R : Recorder) (m : Move) (r : TouchAnswer) → Moved R m r → r .verdict ≡ moveVerdict R m
+moved-verdict R (touching x) r t = t .verdict-is
+moved-verdict R resting r t = t .verdict-is
+
+moved-stands : (R : Recorder) (m : Move) (r : TouchAnswer) → Moved R m r → r .verdict ≡ Accepted
+    → (v : SheetValue) → Valid v → R ≡ recorderOf v → r .recorder ≡ recorderOf (moved v m)
+moved-stands R (touching x) r t a v valid e = t .stands v valid e a
+moved-stands R resting r t a v valid e = t .stands v valid e a
+
+-- so after any moves
+pub led-stands : {R N : Recorder} {ms : List Move} → Led R ms N → (v : SheetValue) → Valid v → R ≡ recorderOf v
+    → Valid (afterMoves v ms) × (N ≡ recorderOf (afterMoves v ms))
+unfolding afterMoves
+led-stands unmoved v valid e = (valid, e)
+led-stands {R} (led m r t a rest) v valid e =
+    led-stands rest (moved v m) (moved-valid R m (sym (moved-verdict R m r t) ∙ a) v valid e) (moved-stands R m r t a v valid e)
+
+-- the entries of the moves of entries
+entry-again : (segs x : ℕ) → (x < segs) ⊎ (x ≡ idle) → entryOf (moveOf segs x) ≡ x
+entry-again segs x known = go (ltb x segs) refl
+  where
+    go : (b : Bool) → ltb x segs ≡ b → entryOf (cond b (touching x) resting) ≡ x
+    go true e = refl
+    go false e = ⊎-elim (λ lt. absurd (omega (arith, lt, ltb-false x segs e))) (λ is. sym is) known
+
+entries-again : (segs : ℕ) (xs : List ℕ) → ((t : ℕ) → t < length xs → (getD xs t segs < segs) ⊎ (getD xs t segs ≡ idle))
+    → map entryOf (map (moveOf segs) xs) ≡ xs
+entries-again segs [] known = refl
+entries-again segs (x ∷ xs) known =
+    rw (entry-again segs x (known 0 (omega arith)), entries-again segs xs (λ t lt. known (suc t) (omega arith))) refl
+
+-- a recorder depends on the head and the entries of its sheet alone
+recorder-same : (v : SheetValue) (form : ℕ) (head : HeadValue) (refs : List ℕ) → head ≡ v .head → refs ≡ v .refs
+    → recorderOf (record { form = form; head = head; refs = refs }) ≡ recorderOf v
+unfolding recorderOf
+recorder-same v form head refs h r = rw (h, r) refl
+
+-- the moves that a sheet records lead from its head to the recorder that stands for it
+pub sheet-moves : (v : SheetValue) → Valid v → recorderOf (afterMoves (started v) (movesOf v)) ≡ recorderOf v
+sheet-moves v valid =
+    let after = afterMoves (started v) (movesOf v) in
+    recorder-same v (after .form) (after .head) (after .refs) (moves-head (started v) (movesOf v))
+    (moves-entries (started v) (movesOf v) ∙ entries-again (length (v .head .sizes)) (v .refs) (valid .run .entry-within))
+
+-- one move that is accepted, and then the rest
+first-move : (v : SheetValue) (m : Move) (ms : List Move) → moveVerdict (recorderOf v) m ≡ Accepted → movesVerdict (moved v m) ms ≡ Accepted
+    → movesVerdict v (m ∷ ms) ≡ Accepted
+unfolding movesVerdict
+first-move v m ms a rest =
+    ap
+    (λ (w : Verdict).
+    elim w [
+      | Accepted ↦ movesVerdict (moved v m) ms
+      | Refused why ↦ Refused why
+    ])
+    a
+    ∙ rest
+
+-- where there is room, a touch of a segment is accepted, and an idle step
+module _ (v : SheetValue) (valid : Valid v) (room : length (v .refs) < mostSteps) where
+  touch-accepted : (x : ℕ) → x < length (v .head .sizes) → touchVerdict (recorderOf v) x ≡ Accepted
+  unfolding recorderOf headOf
+  touch-accepted x lt =
+      let all : min (length (v .head .sizes)) mostSegs ≡ length (v .head .sizes) = omega (arith, valid .run .segs-within) in
+      rw (all, lt-ltb x (length (v .head .sizes)) lt, lt-ltb (length (v .refs)) mostSteps room) refl
+
+  rest-accepted : idleVerdict (recorderOf v) ≡ Accepted
+  unfolding recorderOf
+  rest-accepted = rw (lt-ltb (length (v .refs)) mostSteps room) refl
+
+  -- an entry is accepted as a move, and then the rest
+  entry-accepted : (x : ℕ) (ms : List Move)
+      → (x < length (v .head .sizes) → movesVerdict (taken v x) ms ≡ Accepted) → movesVerdict (rested v) ms ≡ Accepted
+      → movesVerdict v (moveOf (length (v .head .sizes)) x ∷ ms) ≡ Accepted
+  entry-accepted x ms after-touch after-rest = go (ltb x (length (v .head .sizes))) refl
+    where
+      go : (b : Bool) → ltb x (length (v .head .sizes)) ≡ b → movesVerdict v (cond b (touching x) resting ∷ ms) ≡ Accepted
+      go true e =
+          let lt = ltb-true x (length (v .head .sizes)) e in
+          first-move v (touching x) ms (touch-accepted x lt) (after-touch lt)
+      go false e = first-move v resting ms rest-accepted after-rest
+
+-- entries, not too many, are all accepted as moves after a sheet
+entries-accepted : (v : SheetValue) → Valid v → (xs : List ℕ) → length (v .refs) + length xs ≤ mostSteps
+    → movesVerdict v (map (moveOf (length (v .head .sizes))) xs) ≡ Accepted
+unfolding movesVerdict
+entries-accepted v valid [] room = refl
+entries-accepted v valid (x ∷ xs) room =
+    entry-accepted v valid (omega arith) x (map (moveOf (length (v .head .sizes))) xs)
+    (λ lt.
+    entries-accepted (taken v x) (taken-valid v valid x lt (omega arith)) xs (omega (arith, length-append (v .refs) (x ∷ []))))
+    (entries-accepted (rested v) (rested-valid v valid (omega arith)) xs (omega (arith, length-append (v .refs) (idle ∷ []))))
+
+-- so are those that a sheet records, from its head on
+pub moves-accepted : (v : SheetValue) → Valid v → movesVerdict (started v) (movesOf v) ≡ Accepted
+moves-accepted v valid = entries-accepted (started v) (started-valid v valid) (v .refs) (omega (arith, valid .run .steps-within))
