@@ -1,0 +1,44 @@
+-- What is answered for the misses of a sheet with 1, 2, .., segs frames: 26, then 11 by the place. Assumes nothing.
+use Prim.Native.Nat.{ℕ, _*_, _≤_}
+use mathlib.Core.Path.{_≡_}
+use mathlib.Core.Bool.{cond}
+use mathlib.Core.List.{List}
+use Rattle.model.specs.Places.{Result, gives, refuses, answerFor, placeFor}
+use Rattle.model.specs.Sheets.{SheetValue, traceOf}
+use Rattle.model.specs.Traces.{steps, refsOf}
+use Rattle.model.specs.declared.Refusal.{Refusal}
+use Rattle.model.specs.declared.Refusal.the-variants.{SizeNotOne}
+use Rattle.model.specs.declared.Verdict.{Verdict}
+use Rattle.model.specs.declared.Verdict.the-variants.{Accepted, Refused}
+use Rattle.lru.specs.Recency.{lruCurve, entriesLooked, distinct}
+use Rattle.lru.specs.Memory.{simulatedCurve}
+use Rattle.frames.specs.Frames.{allOnes}
+use Rattle.curves.specs.declared.CurveAnswer.{CurveAnswer}
+
+-- no list: 0 beside the refusal
+abbrev pub noCurve : Refusal → CurveAnswer
+noCurve r = record { verdict = Refused r; looked = 0 }
+
+-- the list of a sheet, by distances and by simulation: 26 where a size is not 1
+unfoldable pub curveFor : SheetValue → Result
+curveFor v = cond (allOnes (v .head .sizes)) (gives (lruCurve (traceOf v))) (refuses SizeNotOne)
+
+unfoldable pub plainFor : SheetValue → Result
+plainFor v = cond (allOnes (v .head .sizes)) (gives (simulatedCurve (traceOf v))) (refuses SizeNotOne)
+
+-- the entries looked at, 0 beside a refusal
+abbrev pub lookedFor : SheetValue → Verdict → ℕ
+lookedFor v Accepted = entriesLooked (traceOf v)
+lookedFor v (Refused r) = 0
+
+-- what the call by distances answers, and what the place is before and after it
+pub record CurveLeft (v : SheetValue) (place place' : List ℕ) (answer : CurveAnswer) : Type 0 where
+  pub verdict-is : answer .verdict ≡ answerFor (curveFor v) place .verdict
+  pub place-is : place' ≡ placeFor (curveFor v) place
+  pub looked-is : answer .looked ≡ lookedFor v (answer .verdict)
+  pub bounded : answer .looked ≤ refsOf (traceOf v) * distinct (traceOf v) (steps (traceOf v))
+
+-- and the call by simulation
+pub record PlainLeft (v : SheetValue) (place place' : List ℕ) (verdict : Verdict) : Type 0 where
+  pub verdict-is : verdict ≡ answerFor (plainFor v) place .verdict
+  pub place-is : place' ≡ placeFor (plainFor v) place

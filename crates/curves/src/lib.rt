@@ -1,0 +1,68 @@
+// The misses of an accepted sheet with 1, 2, .., segs frames, by either engine, into a lent place.
+// What is answered is written in specs/Answers.antt, what the misses are in crate `lru`; nothing is assumed.
+use model::Refusal;
+use model::Sheet;
+use model::Verdict;
+ghost use mathlib.Core.Path.{_≡_};
+ghost use Rattle.model.specs.Standing.{Standing};
+ghost use Rattle.model.specs.Values.{valueOf};
+ghost use Rattle.curves.specs.Answers.{noCurve, CurveLeft, PlainLeft};
+
+// Whether the list of misses was written, and the entries looked at, 0 where it was not.
+pub struct CurveAnswer {
+    pub verdict: Verdict,
+    pub looked: u64,
+}
+
+// No list, and why.
+pub fn no_curve(why: Refusal) -> CurveAnswer
+    ensures { λ r. ⌜ r ≡ noCurve why ⌝ }
+{
+    CurveAnswer {
+        verdict: Verdict::Refused(why),
+        looked: 0,
+    }
+}
+
+// The misses of an accepted sheet with 1, 2, .., segs frames into a lent place, by stack distances: 26, then 11.
+pub fn sheet_curve(s: Sheet, out: &mut [u64]) -> CurveAnswer
+    requires { ⌜ Standing s ⌝ }
+    ensures { λ r. ⌜ CurveLeft (valueOf s) (now (out .entry)) (now (out .exit)) r ⌝ }
+{
+    let head = s.head;
+    let segs = head.segs;
+    let steps = s.steps;
+    let sizes = head.sizes;
+    let touches = s.touches;
+    if !frames::all_ones(&sizes[..segs]) {
+        return no_curve(Refusal::SizeNotOne);
+    }
+    if out.len() < segs {
+        return no_curve(Refusal::PlaceTooShort);
+    }
+    let looked = frames::distances::curve(&sizes[..segs], &touches[..steps], out);
+    CurveAnswer {
+        verdict: Verdict::Accepted,
+        looked: looked,
+    }
+}
+
+// The same list, each number of frames simulated in turn: 26, then 11.
+pub fn sheet_curve_plain(s: Sheet, place: &mut [u64]) -> Verdict
+    requires { ⌜ Standing s ⌝ }
+    ensures { λ r. ⌜ PlainLeft (valueOf s) (now (place .entry)) (now (place .exit)) r ⌝ }
+{
+    let head = s.head;
+    let segs = head.segs;
+    let steps = s.steps;
+    let sizes = head.sizes;
+    let touches = s.touches;
+    if !frames::all_ones(&sizes[..segs]) {
+        return Verdict::Refused(Refusal::SizeNotOne);
+    }
+    if place.len() < segs {
+        return Verdict::Refused(Refusal::PlaceTooShort);
+    }
+    frames::plain::curve(&sizes[..segs], &touches[..steps], place);
+    Verdict::Accepted
+}

@@ -1,0 +1,64 @@
+-- Runs with their misses, entries looked at, distinct segments and touches, in one table; a single proof goes over it, computed from the
+-- definitions. Assumes nothing.
+use Prim.Native.Nat.{ℕ}
+use mathlib.Core.Path.{_≡_, refl}
+use mathlib.Core.Bool.{Bool, true, false, _&&_}
+use mathlib.Core.List.{List, [], _∷_}
+use lib.Dec.{eqb}
+use lib.ListN.{replicate}
+use Rattle.model.specs.Sheets.{runOf}
+use Rattle.model.specs.Sums.{sum, tabulate}
+use Rattle.model.specs.Traces.{Trace, steps, touching, refsBy, refsOf, later, unreferenced}
+use Rattle.model.specs.declared.Kind.the-variants.{Time}
+use Rattle.lru.specs.Orders.{has, placeOf, without}
+use Rattle.lru.specs.Recency.{recency, distance, lruMisses, lruCurve, entriesLooked, distinct}
+use Rattle.lru.specs.Memory.{reloaded, memory, lruSimulated, simulatedCurve}
+
+-- a run, its misses with 1, 2, .., segs frames, the entries looked at, its distinct segments and its touches
+pub record Example : Type 0 where
+  pub run : Trace
+  pub misses : List ℕ
+  pub looked : ℕ
+  pub segments : ℕ
+  pub touches : ℕ
+
+-- the run of that many segments of size 1 and these entries of its steps
+abbrev of : ℕ → List ℕ → List ℕ → ℕ → ℕ → ℕ → Example
+of segs refs misses looked segments touches =
+    record { run = runOf Time 0 (replicate segs 1) refs; misses = misses; looked = looked; segments = segments; touches = touches }
+
+-- two lists are the same
+same : List ℕ → List ℕ → Bool
+same [] [] = true
+same [] (y ∷ ys) = false
+same (x ∷ xs) [] = false
+same (x ∷ xs) (y ∷ ys) = eqb x y && same xs ys
+
+-- every example of the list is true
+pub allHold : List Example → Bool
+allHold [] = true
+allHold (e ∷ es) =
+    same (lruCurve (e .run)) (e .misses)
+    && (same (simulatedCurve (e .run)) (e .misses)
+    && (eqb (entriesLooked (e .run)) (e .looked)
+    && (eqb (distinct (e .run) (steps (e .run))) (e .segments) && (eqb (refsOf (e .run)) (e .touches) && allHold es))))
+
+-- the reference string of document 002; the classic one on which first-in-first-out replacement misses 9 times with 3 frames and 10 times
+-- with 4; a cycle; idle steps, marked by 4 and more; a longer one, 6 marking an idle step; one segment alone; no steps; idle steps alone
+pub table : List Example
+table =
+    of 5 (4 ∷ 2 ∷ 1 ∷ 4 ∷ 0 ∷ 1 ∷ 3 ∷ 2 ∷ 3 ∷ 4 ∷ 1 ∷ 2 ∷ 1 ∷ 1 ∷ []) (13 ∷ 11 ∷ 9 ∷ 7 ∷ 5 ∷ []) 39 5 14
+    ∷ of 5 (0 ∷ 1 ∷ 2 ∷ 3 ∷ 0 ∷ 1 ∷ 4 ∷ 0 ∷ 1 ∷ 2 ∷ 3 ∷ 4 ∷ []) (12 ∷ 12 ∷ 10 ∷ 8 ∷ 5 ∷ []) 39 5 12
+    ∷ of 4 (0 ∷ 1 ∷ 2 ∷ 3 ∷ 0 ∷ 1 ∷ 2 ∷ 3 ∷ 0 ∷ 1 ∷ 2 ∷ 3 ∷ []) (12 ∷ 12 ∷ 12 ∷ 4 ∷ []) 38 4 12
+    ∷ of 4 (4 ∷ 2 ∷ 2 ∷ 4 ∷ 0 ∷ 2 ∷ 7 ∷ 0 ∷ 1 ∷ 0 ∷ 2 ∷ 4 ∷ 1 ∷ []) (8 ∷ 5 ∷ 3 ∷ 3 ∷ []) 16 3 9
+    ∷ of 6
+    (1 ∷ 1 ∷ 5 ∷ 3 ∷ 6 ∷ 2 ∷ 4 ∷ 5 ∷ 2 ∷ 4 ∷ 0 ∷ 4 ∷ 1 ∷ 5 ∷ 0 ∷ 6 ∷ 4 ∷ 4 ∷ 5 ∷ 4 ∷ 2 ∷ 4 ∷ 1 ∷ 4 ∷ 4 ∷ 3 ∷ 4 ∷ 2 ∷ 4 ∷ 2 ∷ [])
+    (25 ∷ 18 ∷ 15 ∷ 11 ∷ 8 ∷ 6 ∷ []) 84 6 28
+    ∷ of 1 (0 ∷ 0 ∷ 0 ∷ []) (1 ∷ []) 2 1 3
+    ∷ of 3 [] (0 ∷ 0 ∷ 0 ∷ []) 0 0 0
+    ∷ of 2 (5 ∷ 5 ∷ []) (0 ∷ 0 ∷ []) 0 0 0
+    ∷ []
+
+pub table-holds : allHold table ≡ true
+unfolding allHold same table tabulate sum touching later unreferenced has placeOf without recency distance lruMisses entriesLooked distinct refsBy reloaded memory lruSimulated
+table-holds = refl

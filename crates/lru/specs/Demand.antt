@@ -1,0 +1,17 @@
+-- What requests F-9 and F-10 ask of the definitions, as one statement on a run. Assumes nothing.
+use Prim.Native.Nat.{ℕ, _*_, _≤_}
+use mathlib.Core.Path.{_≡_}
+use Rattle.model.specs.Traces.{Trace, steps, refsOf}
+use Rattle.lru.specs.Recency.{lruMisses, lruCurve, entriesLooked, distinct}
+use Rattle.lru.specs.Memory.{lruSimulated, simulatedCurve}
+
+pub record LruDemand (T : Trace) : Type 0 where
+  -- by distances and by simulation the misses are the same, for every number of frames, and so are the two lists
+  pub agree : (k : ℕ) → lruMisses T k ≡ lruSimulated T k
+  pub curves-agree : lruCurve T ≡ simulatedCurve T
+  -- more frames never miss more often
+  pub falls : (k m : ℕ) → k ≤ m → lruMisses T m ≤ lruMisses T k
+  -- with a frame for each distinct segment, each of these misses once
+  pub least : (k : ℕ) → distinct T (steps T) ≤ k → lruMisses T k ≡ distinct T (steps T)
+  -- the entries looked at never exceed refs × the distinct segments
+  pub bounded : entriesLooked T ≤ refsOf T * distinct T (steps T)

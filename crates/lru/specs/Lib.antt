@@ -1,0 +1,4 @@
+pub mod Demand
+pub mod Memory
+pub mod Orders
+pub mod Recency
