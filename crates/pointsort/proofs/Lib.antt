@@ -1,0 +1,3 @@
+pub mod Inserted
+pub mod Passing
+pub mod Searching

@@ -1,0 +1,3 @@
+pub mod Charging
+pub mod Groups
+pub mod Running

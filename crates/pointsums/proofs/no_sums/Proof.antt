@@ -1,0 +1,12 @@
+-- `pointsums::no_sums` meets its contract. Assumes nothing.
+use mathlib.Core.Path.{refl}
+use Rattle.pointsums.specs.inner.Sums.{noSums}
+use Rattle.pointsums.proofs.no_sums.Statement.{statement}
+use Rattle.pointsums.proofs.no_sums.Tie as tie
+
+returns : tie.Need-returns
+unfolding noSums
+returns c = refl
+
+pub no-sums-spec : {M : Type 1} → statement M
+no-sums-spec = tie.close (tie.spec returns)
