@@ -1,0 +1,4 @@
+pub mod Held
+pub mod Import
+pub mod Lines
+pub mod Pages
