@@ -4,7 +4,7 @@
  * Every call returns 0, or the number of the refusal (README.md lists them; where several apply, the first that the call's
  * comment names). A refused call writes nothing: every lent place, number and recorder is as it was. No call keeps a pointer or
  * allocates. Lent places overlap nothing else. A pointer that comes with a length may be NULL where the length is 0; no other may be
- * NULL. A call uses less than SEGTRACE_STACK_BYTES of stack, which is not proved; tests/calls.c measures it (56 KB).
+ * NULL. A call uses less than SEGTRACE_STACK_BYTES of stack, which is not proved; tests/calls.c measures it (57 KB).
  */
 #ifndef SEGTRACE_INCLUDED
 #define SEGTRACE_INCLUDED
@@ -17,14 +17,15 @@ extern "C" {
 #endif
 
 /*
- * The most bytes of a sheet (of form 1, and of any form), of a listing, of two pages and of a schedule; the most rows and steps; more
- * stack than a call uses.
+ * The most bytes of a sheet (of form 1, of form 2, and of any form), of a listing, of two pages and of a schedule; the most rows and steps;
+ * more stack than a call uses.
  * That no listing is longer is proved (`listing-most`, crates/report/proofs/ListingMost.antt): each figure with as many digits as it can
  * have.
  */
 enum {
     SEGTRACE_SHEET_BYTES_FORM_1 = 20012,
-    SEGTRACE_SHEET_BYTES = 29163,
+    SEGTRACE_SHEET_BYTES_FORM_2 = 29163,
+    SEGTRACE_SHEET_BYTES = 31366,
     SEGTRACE_LISTING_BYTES = 11558,
     SEGTRACE_PAGE_BYTES = 8760,
     SEGTRACE_SCHEDULE_BYTES = 65536,
@@ -53,8 +54,9 @@ enum {
 enum { SEGTRACE_PRICE_MEMORY, SEGTRACE_PRICE_LOAD, SEGTRACE_PRICE_TOTAL, SEGTRACE_PRICE };
 
 /*
- * A sheet is of form 1, or of form 2 where its first line is form=2. Its refusals are 1 to 6 and 16: the first faulty line decides, and on one
- * line 16 comes after 4.
+ * A sheet is of form 1, or of form 2 or 3 where its first line is form=2 or form=3. Its refusals are 1 to 6, 16 and 19: the first faulty
+ * line decides, and on one line 16 and 19 come after 4. Form 3 names the warm segments, those in memory before step 1: such a segment
+ * counts as touched at step 0 without cost, so its first touch is a reuse, and in a schedule it may be held from step 1 on.
  */
 
 /* Whether the bytes are a sheet: its refusals. */
@@ -91,7 +93,8 @@ uint64_t segtrace_optimal_schedule(const uint8_t *sheet, size_t sheet_length, ui
 uint64_t segtrace_price(const uint8_t *sheet, size_t sheet_length, uint64_t row, const uint8_t *schedule, size_t schedule_length,
                         uint64_t price[SEGTRACE_PRICE]);
 
-/* The margin h*w - d*R of a reference, counted from 1, at a row; the reuse is kept where it is 0 or more; the sheet's refusals, 7, 14, 15. */
+/* The margin h*w - d*R of a reference, counted from 1, at a row; the reuse is kept where it is 0 or more; the sheet's refusals, 7, 14, 15
+   where it is a first touch of a segment that is not warm. */
 uint64_t segtrace_margin(const uint8_t *sheet, size_t sheet_length, uint64_t row, uint64_t reference, int64_t *margin);
 
 /* The lowest row with the least load among the rows with optmem within the ceiling; the sheet's refusals, 12. */
@@ -112,37 +115,39 @@ uint64_t segtrace_bill(const uint8_t *sheet, size_t sheet_length, uint64_t row, 
  * nothing undefined.
  */
 typedef struct {
-    uint64_t head[4];    /* kind (0 time, 1 space), a, segs, rows */
+    uint64_t head[5];    /* kind (0 time, 1 space), a, segs, rows, warm */
     uint64_t counts[3];  /* steps taken, the references' cost Q and volume V */
     uint16_t sizes[256]; /* of the segments, then 0 */
+    uint16_t holds[256]; /* the warm segments, ascending, then 0 */
     uint16_t h[64];      /* prices of the rows, then 0 */
     uint16_t d[64];
-    uint16_t last[256];  /* last steps of the segments */
+    uint16_t last[256];  /* last steps of the segments, 0 for a warm one at first */
     uint64_t sums[390];  /* 65 buckets: count, volume, retention, swap, and the last two times the size */
 } segtrace_recorder;
 
 /* The calls on the parts of a recorder; the calls below them take it whole. */
 uint64_t segtrace_recorder_start(const uint8_t *sheet, size_t sheet_length, uint64_t *head, uint64_t *counts, uint16_t *sizes,
-                                 uint16_t *h, uint16_t *d, uint16_t *last, uint64_t *sums);
-uint64_t segtrace_recorder_touch(const uint64_t *head, uint64_t *counts, const uint16_t *sizes, const uint16_t *h, const uint16_t *d,
-                                 uint16_t *last, uint64_t *sums, uint64_t segment);
+                                 uint16_t *holds, uint16_t *h, uint16_t *d, uint16_t *last, uint64_t *sums);
+uint64_t segtrace_recorder_touch(const uint64_t *head, uint64_t *counts, const uint16_t *sizes, const uint16_t *holds, const uint16_t *h,
+                                 const uint16_t *d, uint16_t *last, uint64_t *sums, uint64_t segment);
 uint64_t segtrace_recorder_idle(uint64_t *counts);
-uint64_t segtrace_recorder_touch_all(const uint64_t *head, uint64_t *counts, const uint16_t *sizes, const uint16_t *h,
-                                     const uint16_t *d, uint16_t *last, uint64_t *sums, const uint16_t *segments,
+uint64_t segtrace_recorder_touch_all(const uint64_t *head, uint64_t *counts, const uint16_t *sizes, const uint16_t *holds,
+                                     const uint16_t *h, const uint16_t *d, uint16_t *last, uint64_t *sums, const uint16_t *segments,
                                      size_t segments_length);
-uint64_t segtrace_recorder_figures(const uint64_t *head, const uint64_t *counts, const uint16_t *sizes, const uint16_t *h,
-                                   const uint16_t *d, const uint16_t *last, const uint64_t *sums, uint64_t row, uint64_t *figures);
+uint64_t segtrace_recorder_figures(const uint64_t *head, const uint64_t *counts, const uint16_t *sizes, const uint16_t *holds,
+                                   const uint16_t *h, const uint16_t *d, const uint16_t *last, const uint64_t *sums, uint64_t row,
+                                   uint64_t *figures);
 
-/* A recorder with the kind, a, sizes and rows of a sheet and no steps; the sheet's refusals. */
+/* A recorder with the kind, a, sizes, rows and warm segments of a sheet and no steps; the sheet's refusals. */
 static inline uint64_t segtrace_start(const uint8_t *sheet, size_t sheet_length, segtrace_recorder *r)
 {
-    return segtrace_recorder_start(sheet, sheet_length, r->head, r->counts, r->sizes, r->h, r->d, r->last, r->sums);
+    return segtrace_recorder_start(sheet, sheet_length, r->head, r->counts, r->sizes, r->holds, r->h, r->d, r->last, r->sums);
 }
 
 /* Takes one reference: 4 for a segment not below segs, then 13 where 2,048 steps were taken. */
 static inline uint64_t segtrace_touch(segtrace_recorder *r, uint64_t segment)
 {
-    return segtrace_recorder_touch(r->head, r->counts, r->sizes, r->h, r->d, r->last, r->sums, segment);
+    return segtrace_recorder_touch(r->head, r->counts, r->sizes, r->holds, r->h, r->d, r->last, r->sums, segment);
 }
 
 /* Takes one step without a touch: 13 where 2,048 steps were taken. */
@@ -154,13 +159,13 @@ static inline uint64_t segtrace_idle(segtrace_recorder *r)
 /* Takes all references, or none: 4 and 13 as for a touch, of the first reference that would be refused. */
 static inline uint64_t segtrace_touch_all(segtrace_recorder *r, const uint16_t *segments, size_t segments_length)
 {
-    return segtrace_recorder_touch_all(r->head, r->counts, r->sizes, r->h, r->d, r->last, r->sums, segments, segments_length);
+    return segtrace_recorder_touch_all(r->head, r->counts, r->sizes, r->holds, r->h, r->d, r->last, r->sums, segments, segments_length);
 }
 
 /* The eleven figures of a row at this moment: those of the sheet ending there: 7. */
 static inline uint64_t segtrace_figures_now(const segtrace_recorder *r, uint64_t row, uint64_t figures[SEGTRACE_FIGURES])
 {
-    return segtrace_recorder_figures(r->head, r->counts, r->sizes, r->h, r->d, r->last, r->sums, row, figures);
+    return segtrace_recorder_figures(r->head, r->counts, r->sizes, r->holds, r->h, r->d, r->last, r->sums, row, figures);
 }
 
 #ifdef __cplusplus

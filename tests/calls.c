@@ -1,7 +1,7 @@
 /*
  * The calls from C as include/segtrace.h declares them: NULL with length 0 for every run of bytes, list and place, and the stack that the
- * calls use, measured on a painted stack with the largest sheet. Fails with status 1 where an answer is another, or where more stack is
- * used than the header says.
+ * calls use, measured on a painted stack with the largest sheet of each form. Fails with status 1 where an answer is another, or where more
+ * stack is used than the header says.
  *
  *     cc -Iinclude tests/calls.c target/staticlib/libexports.a -lpthread -o calls
  */
@@ -60,25 +60,51 @@ static void without_pointers(void)
     expect("touch_all of no references", segtrace_touch_all(&r, NULL, 0), 0);
 }
 
-/* The largest sheet: every number has as many digits as it may have, and the references go round the segments from 100 on. */
-static void make_sheet(void)
+/* A recorder starts with the warm segments of a sheet: the first touch of segment 1, in step 1, is kept, that of segment 0 is a miss. */
+static void warm_recorder(void)
+{
+    static const char text[] = "form=3\nkind=space\na=1\nsegs=2\nsize=1\nsize=3\nrows=1\nrow=1/1\nwarm=1\nhold=1\nsteps=0\nrefs=0\n";
+    uint64_t figures[SEGTRACE_FIGURES];
+    segtrace_recorder r;
+    expect("start", segtrace_start((const uint8_t *)text, sizeof text - 1, &r), 0);
+    expect("warm segments", r.head[4], 1);
+    expect("the warm segment", r.holds[0], 1);
+    expect("touch", segtrace_touch(&r, 1), 0);
+    expect("touch", segtrace_touch(&r, 0), 0);
+    expect("figures_now", segtrace_figures_now(&r, 0, figures), 0);
+    expect("misses", figures[SEGTRACE_MISSES], 1);
+    expect("volume", figures[SEGTRACE_VOLUME], 1);
+}
+
+/* The largest sheet of a form: every number has as many digits as it may have, in form 3 every segment is warm, and the references go round
+   the segments from 100 on. */
+static void make_sheet(int form, size_t length)
 {
     char *at = (char *)sheet;
     int i;
+    if (form > 1)
+        at += sprintf(at, "form=%d\n", form);
     at += sprintf(at, "kind=space\na=255\nsegs=256\n");
     for (i = 0; i < 256; i++)
         at += sprintf(at, "size=4095\n");
     at += sprintf(at, "rows=64\n");
     for (i = 0; i < 64; i++)
         at += sprintf(at, "row=%d/%d\n", 10000 + 800 * i, 65535 - i);
+    if (form > 2) {
+        at += sprintf(at, "warm=256\n");
+        for (i = 0; i < 256; i++)
+            at += sprintf(at, "hold=%d\n", i);
+    }
+    if (form > 1)
+        at += sprintf(at, "steps=2048\n");
     at += sprintf(at, "refs=2048\n");
     for (i = 0; i < 2048; i++) {
         segments[i] = (uint16_t)(100 + i * 7 % 156);
-        at += sprintf(at, i < 2047 ? "ref=%d\n" : "ref=%d", segments[i]);
+        at += form > 1 ? sprintf(at, "ref=%d@%d", segments[i], i + 1) : sprintf(at, "ref=%d", segments[i]);
+        *at++ = '\n';
     }
-    sheet_length = SEGTRACE_SHEET_BYTES_FORM_1;
-    expect("bytes of the largest sheet", (uint64_t)(at - (char *)sheet) + 1, sheet_length);
-    sheet[sheet_length - 1] = '\n';
+    sheet_length = length;
+    expect("bytes of the largest sheet", (uint64_t)(at - (char *)sheet), length);
 }
 
 /* Every call on the sheet. */
@@ -106,20 +132,26 @@ static void calls_on_sheet(void)
     expect("figures_now", segtrace_figures_now(&r, 63, figures), 0);
 }
 
-/* Every call on the largest sheet of form 1, then on the same sheet in form 2, which is its largest too; and back. */
+/* Every call on the largest sheet of form 1, then on the same sheet in form 2, which is its largest too; and back; then on that of form 3,
+   which is not converted. */
 static void *every_call(void *unused)
 {
     uint64_t written;
+    make_sheet(1, SEGTRACE_SHEET_BYTES_FORM_1);
     calls_on_sheet();
     expect("to_form_1 of form 1", segtrace_to_form_1(sheet, sheet_length, again, sizeof again, &written), 4);
     expect("to_form_2", segtrace_to_form_2(sheet, sheet_length, again, sizeof again, &written), 0);
-    expect("bytes of the largest sheet of form 2", written, SEGTRACE_SHEET_BYTES);
-    memcpy(sheet, again, written);
-    sheet_length = written;
+    make_sheet(2, SEGTRACE_SHEET_BYTES_FORM_2);
+    expect("bytes of the largest sheet of form 2", written, SEGTRACE_SHEET_BYTES_FORM_2);
+    expect("the largest sheet of form 2", memcmp(sheet, again, written) != 0, 0);
     calls_on_sheet();
     expect("to_form_2 of form 2", segtrace_to_form_2(sheet, sheet_length, again, sizeof again, &written), 4);
     expect("to_form_1", segtrace_to_form_1(sheet, sheet_length, again, sizeof again, &written), 0);
     expect("bytes of the largest sheet of form 1", written, SEGTRACE_SHEET_BYTES_FORM_1);
+    make_sheet(3, SEGTRACE_SHEET_BYTES);
+    calls_on_sheet();
+    expect("to_form_2 of form 3", segtrace_to_form_2(sheet, sheet_length, again, sizeof again, &written), 4);
+    expect("to_form_1 of form 3", segtrace_to_form_1(sheet, sheet_length, again, sizeof again, &written), 4);
     return unused;
 }
 
@@ -147,7 +179,7 @@ int main(void)
 {
     size_t used;
     without_pointers();
-    make_sheet();
+    warm_recorder();
     used = stack_of(every_call) - stack_of(no_call);
     if (used > SEGTRACE_STACK_BYTES) {
         fprintf(stderr, "FAILED: the calls use %zu bytes of stack and not at most %d\n", used, SEGTRACE_STACK_BYTES);

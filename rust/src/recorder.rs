@@ -9,17 +9,19 @@ use crate::{c, Figures, Refusal};
 #[derive(Clone, Debug, PartialEq, Eq)]
 #[repr(C)]
 pub struct Recorder {
-    /// Kind (0 time, 1 space), a, segs, rows.
-    pub head: [u64; 4],
+    /// Kind (0 time, 1 space), a, segs, rows, warm.
+    pub head: [u64; 5],
     /// Steps taken, the references' cost Q and volume V.
     pub counts: [u64; 3],
     /// Sizes of the segments, then 0.
     pub sizes: [u16; 256],
+    /// The warm segments, ascending, then 0.
+    pub holds: [u16; 256],
     /// Prices h of the rows, then 0.
     pub h: [u16; 64],
     /// Prices d of the rows, then 0.
     pub d: [u16; 64],
-    /// Last steps of the segments.
+    /// Last steps of the segments, 0 for a warm one at first.
     pub last: [u16; 256],
     /// 65 buckets: count, volume, retention, swap, and the last two times the size.
     pub sums: [u64; 390],
@@ -29,19 +31,20 @@ pub struct Recorder {
 impl Recorder {
     /// No segments, no rows and no references.
     const EMPTY: Recorder = Recorder {
-        head: [0; 4],
+        head: [0; 5],
         counts: [0; 3],
         sizes: [0; 256],
+        holds: [0; 256],
         h: [0; 64],
         d: [0; 64],
         last: [0; 256],
         sums: [0; 390],
     };
 
-    /// A recorder with the kind, a, sizes and rows of a sheet and no steps: the sheet's refusals.
+    /// A recorder with the kind, a, sizes, rows and warm segments of a sheet and no steps: the sheet's refusals.
     pub fn start(sheet: &[u8]) -> Result<Recorder, Refusal> {
         let mut recorder = Recorder::EMPTY;
-        let Recorder { head, counts, sizes, h, d, last, sums } = &mut recorder;
+        let Recorder { head, counts, sizes, holds, h, d, last, sums } = &mut recorder;
         Refusal::answer(unsafe {
             c::segtrace_recorder_start(
                 sheet.as_ptr(),
@@ -49,6 +52,7 @@ impl Recorder {
                 head.as_mut_ptr(),
                 counts.as_mut_ptr(),
                 sizes.as_mut_ptr(),
+                holds.as_mut_ptr(),
                 h.as_mut_ptr(),
                 d.as_mut_ptr(),
                 last.as_mut_ptr(),
@@ -71,6 +75,7 @@ impl Recorder {
                 self.head.as_ptr(),
                 self.counts.as_mut_ptr(),
                 self.sizes.as_ptr(),
+                self.holds.as_ptr(),
                 self.h.as_ptr(),
                 self.d.as_ptr(),
                 self.last.as_mut_ptr(),
@@ -93,6 +98,7 @@ impl Recorder {
                 self.head.as_ptr(),
                 self.counts.as_mut_ptr(),
                 self.sizes.as_ptr(),
+                self.holds.as_ptr(),
                 self.h.as_ptr(),
                 self.d.as_ptr(),
                 self.last.as_mut_ptr(),
@@ -111,6 +117,7 @@ impl Recorder {
                 self.head.as_ptr(),
                 self.counts.as_ptr(),
                 self.sizes.as_ptr(),
+                self.holds.as_ptr(),
                 self.h.as_ptr(),
                 self.d.as_ptr(),
                 self.last.as_ptr(),

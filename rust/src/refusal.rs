@@ -6,7 +6,7 @@ use std::fmt;
 #[derive(Clone, Copy, Debug, PartialEq, Eq, Hash)]
 #[repr(u64)]
 pub enum Refusal {
-    /// The sheet is longer than 20,012 bytes, in form 2 than 29,163.
+    /// The sheet is longer than 20,012 bytes, in form 2 than 29,163, in form 3 than 31,366.
     SheetTooLong = 1,
     /// A line is missing, lacks its line feed, or does not begin with its key and "=".
     LineMalformed,
@@ -34,7 +34,7 @@ pub enum Refusal {
     RecorderFull,
     /// The reference asked for is not between 1 and refs.
     NoSuchReference,
-    /// The reference is a first touch and has no margin.
+    /// The reference is a first touch of a segment that is not warm and has no margin.
     FirstTouch,
     /// The step of a touch is not above the one before, or lies beyond steps.
     StepNotAbove,
@@ -42,11 +42,13 @@ pub enum Refusal {
     IdleStep,
     /// A rate or the minimum of a tariff lies outside its range.
     TariffOutOfRange,
+    /// The segment of a hold line is not above the one before.
+    HoldNotAbove,
 }
 
 impl Refusal {
     /// All refusals, in the order of their numbers.
-    pub const ALL: [Refusal; 18] = [
+    pub const ALL: [Refusal; 19] = [
         Refusal::SheetTooLong,
         Refusal::LineMalformed,
         Refusal::ValueMalformed,
@@ -65,6 +67,7 @@ impl Refusal {
         Refusal::StepNotAbove,
         Refusal::IdleStep,
         Refusal::TariffOutOfRange,
+        Refusal::HoldNotAbove,
     ];
 
     /// The number of the refusal.
@@ -104,10 +107,11 @@ impl fmt::Display for Refusal {
             Refusal::NoRowFits => "no row fits the ceiling",
             Refusal::RecorderFull => "the recorder has 2,048 steps",
             Refusal::NoSuchReference => "there is no such reference",
-            Refusal::FirstTouch => "a first touch has no margin",
+            Refusal::FirstTouch => "a first touch of a segment that is not warm has no margin",
             Refusal::StepNotAbove => "a step is not above the one before or lies beyond steps",
             Refusal::IdleStep => "a step is idle",
             Refusal::TariffOutOfRange => "a rate or the minimum lies outside its range",
+            Refusal::HoldNotAbove => "a warm segment is not above the one before",
         })
     }
 }

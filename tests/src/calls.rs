@@ -1,13 +1,16 @@
-//! The calls of the header on slices and arrays, each giving the number that it returned. A wrong answer can be put in (`wrong.rs`).
+//! The calls of the header on slices and arrays, each giving the number that it returned. A wrong answer can be put in (`wrong.rs`,
+//! `mistakes.rs`).
 //!
 //! In each call the pointers come from slices, arrays and references, so they are valid, and the lent ones overlap nothing else.
 
+use crate::mistakes;
 use crate::wrong::{self, Call};
 use segtrace::{c, Recorder};
 use std::slice::from_mut;
 
 pub fn check(sheet: &[u8]) -> u64 {
-    wrong::list::<u8>(Call::Check, &mut [], |_| unsafe { c::segtrace_check(sheet.as_ptr(), sheet.len()) })
+    let real = |_: &mut [u8]| unsafe { c::segtrace_check(sheet.as_ptr(), sheet.len()) };
+    mistakes::verdict(sheet, wrong::list(Call::Check, &mut [], real))
 }
 
 pub fn rewrite(sheet: &[u8], out: &mut [u8], written: &mut u64) -> u64 {
@@ -29,15 +32,23 @@ pub fn to_form_1(sheet: &[u8], out: &mut [u8], written: &mut u64) -> u64 {
 }
 
 pub fn figures(sheet: &[u8], row: u64, figures: &mut [u64; 11]) -> u64 {
-    wrong::list(Call::Figures, figures, |figures| unsafe {
+    let returned = wrong::list(Call::Figures, figures, |figures| unsafe {
         c::segtrace_figures(sheet.as_ptr(), sheet.len(), row, figures.as_mut_ptr())
-    })
+    });
+    if returned == 0 {
+        mistakes::figures(Call::Figures, sheet, row, figures);
+    }
+    returned
 }
 
 pub fn all_figures(sheet: &[u8], out: &mut [u64], written: &mut u64) -> u64 {
-    wrong::lent(Call::AllFigures, out, written, |out, written| unsafe {
+    let returned = wrong::lent(Call::AllFigures, out, written, |out, written| unsafe {
         c::segtrace_all_figures(sheet.as_ptr(), sheet.len(), out.as_mut_ptr(), out.len(), written)
-    })
+    });
+    if returned == 0 {
+        mistakes::figures(Call::AllFigures, sheet, 0, out);
+    }
+    returned
 }
 
 pub fn listing(sheet: &[u8], out: &mut [u8], written: &mut u64) -> u64 {
@@ -53,22 +64,35 @@ pub fn page(sheet: &[u8], out: &mut [u8], written: &mut u64) -> u64 {
 }
 
 pub fn optimal_schedule(sheet: &[u8], row: u64, out: &mut [u8], written: &mut u64) -> u64 {
-    wrong::lent(Call::OptimalSchedule, out, written, |out, written| unsafe {
+    let returned = wrong::lent(Call::OptimalSchedule, out, written, |out, written| unsafe {
         c::segtrace_optimal_schedule(sheet.as_ptr(), sheet.len(), row, out.as_mut_ptr(), out.len(), written)
-    })
+    });
+    if returned == 0 {
+        mistakes::schedule(sheet, row, out);
+    }
+    returned
 }
 
 pub fn price(sheet: &[u8], row: u64, schedule: &[u8], price: &mut [u64; 3]) -> u64 {
-    let (bytes, length) = (schedule.as_ptr(), schedule.len());
-    wrong::list(Call::Price, price, |price| unsafe {
+    let real = |schedule: &[u8], price: &mut [u64]| unsafe {
+        let (bytes, length) = (schedule.as_ptr(), schedule.len());
         c::segtrace_price(sheet.as_ptr(), sheet.len(), row, bytes, length, price.as_mut_ptr())
-    })
+    };
+    let returned = wrong::list(Call::Price, price, |price| real(schedule, price));
+    let other = if returned == 10 { mistakes::other_schedule(sheet, schedule) } else { None };
+    other.map_or(returned, |other| real(&other, price))
 }
 
 pub fn margin(sheet: &[u8], row: u64, reference: u64, margin: &mut i64) -> u64 {
-    wrong::list(Call::Margin, from_mut(margin), |margin| unsafe {
+    let old = *margin;
+    let returned = wrong::list(Call::Margin, from_mut(margin), |margin| unsafe {
         c::segtrace_margin(sheet.as_ptr(), sheet.len(), row, reference, margin.as_mut_ptr())
-    })
+    });
+    if returned == 0 && mistakes::has_no_margin(sheet, reference) {
+        *margin = old;
+        return 15;
+    }
+    returned
 }
 
 pub fn size(sheet: &[u8], ceiling: u64, row: &mut u64) -> u64 {
@@ -85,13 +109,14 @@ pub fn bill(sheet: &[u8], row: u64, [memory_rate, load_rate, minimum]: [u64; 3],
 }
 
 pub fn start(sheet: &[u8], recorder: &mut Recorder) -> u64 {
-    wrong::start(recorder, |Recorder { head, counts, sizes, h, d, last, sums }| unsafe {
+    wrong::start(sheet, recorder, |sheet, Recorder { head, counts, sizes, holds, h, d, last, sums }| unsafe {
         c::segtrace_recorder_start(
             sheet.as_ptr(),
             sheet.len(),
             head.as_mut_ptr(),
             counts.as_mut_ptr(),
             sizes.as_mut_ptr(),
+            holds.as_mut_ptr(),
             h.as_mut_ptr(),
             d.as_mut_ptr(),
             last.as_mut_ptr(),
@@ -101,11 +126,12 @@ pub fn start(sheet: &[u8], recorder: &mut Recorder) -> u64 {
 }
 
 pub fn touch(recorder: &mut Recorder, segment: u64) -> u64 {
-    wrong::touch(Call::Touch, recorder, |Recorder { head, counts, sizes, h, d, last, sums }| unsafe {
+    wrong::touch(Call::Touch, recorder, |Recorder { head, counts, sizes, holds, h, d, last, sums }| unsafe {
         c::segtrace_recorder_touch(
             head.as_ptr(),
             counts.as_mut_ptr(),
             sizes.as_ptr(),
+            holds.as_ptr(),
             h.as_ptr(),
             d.as_ptr(),
             last.as_mut_ptr(),
@@ -122,11 +148,12 @@ pub fn idle(recorder: &mut Recorder) -> u64 {
 }
 
 pub fn touch_all(recorder: &mut Recorder, segments: &[u16]) -> u64 {
-    wrong::touch_all(recorder, segments, |Recorder { head, counts, sizes, h, d, last, sums }, segments| unsafe {
+    wrong::touch_all(recorder, segments, |Recorder { head, counts, sizes, holds, h, d, last, sums }, segments| unsafe {
         c::segtrace_recorder_touch_all(
             head.as_ptr(),
             counts.as_mut_ptr(),
             sizes.as_ptr(),
+            holds.as_ptr(),
             h.as_ptr(),
             d.as_ptr(),
             last.as_mut_ptr(),
@@ -138,12 +165,13 @@ pub fn touch_all(recorder: &mut Recorder, segments: &[u16]) -> u64 {
 }
 
 pub fn figures_now(recorder: &Recorder, row: u64, figures: &mut [u64; 11]) -> u64 {
-    let Recorder { head, counts, sizes, h, d, last, sums } = recorder;
+    let Recorder { head, counts, sizes, holds, h, d, last, sums } = recorder;
     wrong::list(Call::FiguresNow, figures, |figures| unsafe {
         c::segtrace_recorder_figures(
             head.as_ptr(),
             counts.as_ptr(),
             sizes.as_ptr(),
+            holds.as_ptr(),
             h.as_ptr(),
             d.as_ptr(),
             last.as_ptr(),

@@ -38,7 +38,8 @@ fn extend(sheet: &Sheet, sets: Vec<u8>, cost: Cost, found: &mut Vec<Permitted>) 
         found.push(Permitted { sets, cost });
         return;
     };
-    let before = sets.last().copied().unwrap_or(0);
+    // At step 0 the warm segments are held.
+    let before = sets.last().copied().unwrap_or(sheet.warm.iter().map(|segment| 1 << segment).sum());
     for set in 0..1u32 << sheet.sizes.len() {
         let set = set as u8;
         let has = |set: u8, segment: usize| set >> segment & 1 == 1;

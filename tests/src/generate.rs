@@ -166,12 +166,14 @@ pub fn sheet(prng: &mut Prng, shape: Shape) -> Sheet {
         .collect();
     let pattern = prng.pick(&[Pattern::Uniform, Pattern::Cyclic, Pattern::Local, Pattern::Runs]);
     let lowest = if longest_lines { 100 } else { 0 };
-    let mut steps: Vec<Option<usize>> = references(prng, pattern, lowest, segs, ref_count).into_iter().map(Some).collect();
-    let form = if prng.one_in(2) { 2 } else { 1 };
+    let mut steps: Vec<Option<usize>> =
+        references(prng, pattern, lowest, segs, ref_count).into_iter().map(Some).collect();
+    let form = prng.pick(&[1, 2, 3, 3]);
     if form > 1 && !longest_lines {
         put_in_idle_steps(prng, &mut steps, most_refs as usize);
     }
-    let mut sheet = Sheet { form, kind, a, sizes, rows: Vec::new(), steps };
+    let warm = if form > 2 { warm_segments(prng, segs, &steps, longest_lines) } else { Vec::new() };
+    let mut sheet = Sheet { form, kind, a, sizes, rows: Vec::new(), warm, steps };
     let style = if longest_lines { RowStyle::FiveDigits } else { prng.pick(&RowStyle::ALL) };
     sheet.rows = rows(prng, &sheet, style, row_count);
     sheet
@@ -204,6 +206,22 @@ fn put_in_idle_steps(prng: &mut Prng, steps: &mut Vec<Option<usize>>, most: usiz
             }
         }
     }
+}
+
+/// Warm segments: none, all, one, only such as are never touched, only such as are touched, or any.
+fn warm_segments(prng: &mut Prng, segs: usize, steps: &[Option<usize>], all: bool) -> Vec<usize> {
+    let style = if all { 1 } else { prng.below(8) };
+    let one = prng.below(segs);
+    let often = 1 + prng.below(6);
+    let mut chosen = |segment: usize| match style {
+        0 => false,
+        1 => true,
+        2 => segment == one,
+        3 => !steps.contains(&Some(segment)),
+        4 => steps.contains(&Some(segment)),
+        _ => prng.below(6) < often,
+    };
+    (0..segs).filter(|&segment| chosen(segment)).collect()
 }
 
 /// How the thresholds of the rows are chosen.
@@ -371,7 +389,7 @@ fn damage(prng: &mut Prng, sheet: &Sheet, mut bytes: Vec<u8>) -> Vec<u8> {
     }
     let byte = if prng.one_in(2) { prng.pick(ODD_BYTES) } else { prng.next() as u8 };
     let place = prng.below(bytes.len());
-    match prng.below(22) {
+    match prng.below(24) {
         0 => bytes[place] = byte,
         1 => bytes.insert(place, byte),
         2 => {
@@ -388,6 +406,7 @@ fn damage(prng: &mut Prng, sheet: &Sheet, mut bytes: Vec<u8>) -> Vec<u8> {
         9..=11 => bytes = with_thresholds_moved(prng, bytes),
         12 => bytes = strange(prng),
         13 | 14 => bytes = with_form_line(prng, bytes),
+        15 | 16 => bytes = with_holds_moved(prng, sheet, bytes),
         _ => bytes = with_odd_value(prng, sheet, bytes),
     }
     bytes
@@ -425,7 +444,7 @@ fn with_tail(prng: &mut Prng, mut bytes: Vec<u8>) -> Vec<u8> {
 
 /// Made about as long as the longest sheet by bytes at the end, within a value or before the first line.
 fn stretched(prng: &mut Prng, mut bytes: Vec<u8>) -> Vec<u8> {
-    let form = prng.between(1, 2);
+    let form = prng.between(1, reference::NEWEST_FORM);
     let length = reference::longest(form) - 2 + prng.below(5);
     let missing = length.saturating_sub(bytes.len());
     let fill = prng.pick(b"0123456789\nr");
@@ -460,9 +479,12 @@ fn with_form_line(prng: &mut Prng, bytes: Vec<u8>) -> Vec<u8> {
         "form=2\n",
         "form=2\n",
         "form=3\n",
+        "form=3\n",
         "form=4\n",
         "form=02\n",
+        "form=03\n",
         "form=2",
+        "form=3",
         "form=\n",
         "form=",
         "form\n",
@@ -470,6 +492,7 @@ fn with_form_line(prng: &mut Prng, bytes: Vec<u8>) -> Vec<u8> {
         "form=2\r\n",
         "form=two\n",
         "form=18446744073709551618\n",
+        "form=18446744073709551619\n",
     ]);
     let named = bytes.starts_with(b"form=") && prng.one_in(2);
     let from = if named { bytes.iter().position(|&byte| byte == b'\n').map_or(0, |end| end + 1) } else { 0 };
@@ -495,7 +518,7 @@ fn with_lines_moved(prng: &mut Prng, bytes: Vec<u8>) -> Vec<u8> {
 /// One of the counts a little off, its lines as they were.
 fn with_count_moved(prng: &mut Prng, bytes: Vec<u8>) -> Vec<u8> {
     let mut lines = lines(&bytes);
-    let key = prng.pick(&["segs", "rows", "refs", "steps"]);
+    let key = prng.pick(&["segs", "rows", "warm", "refs", "steps"]);
     let Some(line) = line_with(prng, &lines, key) else { return bytes };
     let Some(count) = value_of(&lines[line]) else { return bytes };
     let moved = (count + 1 + prng.below(3) as u128).saturating_sub(2);
@@ -532,6 +555,31 @@ fn with_thresholds_moved(prng: &mut Prng, bytes: Vec<u8>) -> Vec<u8> {
     lines.concat()
 }
 
+/// The number of a hold line exchanged for that of the line before, a smaller one or one not below segs; or two of these lines exchanged.
+fn with_holds_moved(prng: &mut Prng, sheet: &Sheet, bytes: Vec<u8>) -> Vec<u8> {
+    let mut lines = lines(&bytes);
+    let holds: Vec<usize> = (0..lines.len()).filter(|&line| lines[line].starts_with(b"hold=")).collect();
+    if holds.len() < 2 {
+        return bytes;
+    }
+    let place = 1 + prng.below(holds.len() - 1);
+    let (before, line) = (holds[place - 1], holds[place]);
+    let segs = sheet.sizes.len() as u128;
+    let Some(last) = value_of(&lines[before]) else { return bytes };
+    let mut put = |line: usize, segment: u128| lines[line] = format!("hold={segment}\n").into_bytes();
+    match prng.below(7) {
+        0 | 1 => put(line, last),
+        2 => put(line, last.saturating_sub(1)),
+        3 => put(line, 0),
+        // Out of range, and what stands on the next line is not above it.
+        4 => put(before, segs + prng.below(3) as u128),
+        // Out of range, above what stands before.
+        5 => put(line, segs + prng.below(3) as u128),
+        _ => lines.swap(before, line),
+    }
+    lines.concat()
+}
+
 fn row_of(line: &[u8]) -> Option<(u128, u128)> {
     let (h, d) = std::str::from_utf8(line).ok()?.trim_end().strip_prefix("row=")?.split_once('/')?;
     Some((h.parse().ok()?, d.parse().ok()?))
@@ -546,7 +594,7 @@ fn strange(prng: &mut Prng) -> Vec<u8> {
         2 => b"kind=time\na=0\nsegs=1\nsize=1\nrows=1\nrow=0/1\nrefs=0".to_vec(),
         3 => b"kind=time\r\na=0\r\nsegs=1\r\nsize=1\r\nrows=1\r\nrow=0/1\r\nrefs=0\r\n".to_vec(),
         4 => {
-            let form = prng.between(1, 2);
+            let form = prng.between(1, reference::NEWEST_FORM);
             let length = reference::longest(form) - 2 + prng.below(5);
             prng.bytes(length)
         }
@@ -557,7 +605,10 @@ fn strange(prng: &mut Prng) -> Vec<u8> {
 /// The value of a line replaced by another, which is mostly faulty.
 fn with_odd_value(prng: &mut Prng, sheet: &Sheet, bytes: Vec<u8>) -> Vec<u8> {
     let mut lines = lines(&bytes);
-    let key = prng.pick(&["form", "kind", "a", "segs", "size", "rows", "row", "row", "steps", "refs", "ref", "ref", "ref"]);
+    let key = prng.pick(&[
+        "form", "kind", "a", "segs", "size", "rows", "row", "row", "warm", "hold", "hold", "steps", "refs", "ref",
+        "ref", "ref",
+    ]);
     let Some(line) = line_with(prng, &lines, key) else { return bytes };
     let old = value_of(&lines[line]).unwrap_or(1);
     let value = match key {
@@ -567,6 +618,8 @@ fn with_odd_value(prng: &mut Prng, sheet: &Sheet, bytes: Vec<u8>) -> Vec<u8> {
         "size" => odd_number(prng, old, 1, 4_095),
         "rows" => odd_number(prng, old, 1, 64),
         "form" => odd_number(prng, old, 2, u128::from(reference::NEWEST_FORM)),
+        "warm" => odd_number(prng, old, 0, sheet.sizes.len() as u128),
+        "hold" => odd_number(prng, old, 0, sheet.sizes.len() as u128 - 1),
         "steps" => odd_number(prng, old, 0, 2_048),
         "refs" => odd_number(prng, old, 0, if sheet.form > 1 { sheet.steps.len() as u128 } else { 2_048 }),
         "ref" if sheet.form > 1 => odd_touch(prng, sheet, &lines[line]),
@@ -681,7 +734,9 @@ fn odd_touch(prng: &mut Prng, sheet: &Sheet, line: &[u8]) -> String {
         10 => format!("{segment}@{}", step.saturating_sub(prng.between(1, 3) as u128)),
         11 => format!("{segment}@{}", step + prng.between(1, 3) as u128),
         12 => format!("{}@0", last_segment + 1),
-        13 | 14 => format!("{}@{}", odd_number(prng, segment, 0, last_segment), odd_number(prng, step, 1, steps.max(1))),
+        13 | 14 => {
+            format!("{}@{}", odd_number(prng, segment, 0, last_segment), odd_number(prng, step, 1, steps.max(1)))
+        }
         15 | 16 => format!("{}@{step}", odd_number(prng, segment, 0, last_segment)),
         _ => format!("{segment}@{}", odd_number(prng, step, 1, steps.max(1))),
     }
@@ -689,11 +744,11 @@ fn odd_touch(prng: &mut Prng, sheet: &Sheet, line: &[u8]) -> String {
 
 // ---- Schedules ----
 
-/// A random permitted schedule: of what was held before, each segment stays with one chance.
+/// A random permitted schedule: of what was held before, each segment stays with one chance. At first the warm ones are held.
 pub fn permitted_schedule(prng: &mut Prng, sheet: &Sheet) -> Vec<u8> {
     let stays = prng.pick(&[0, 8, 16, 28, 31, 32]);
     let mut schedule = Vec::with_capacity(STEP * sheet.steps.len());
-    let mut held: Vec<usize> = Vec::new();
+    let mut held: Vec<usize> = sheet.warm.clone();
     for &touched in &sheet.steps {
         held.retain(|&segment| Some(segment) != touched && prng.below(32) < stays);
         held.extend(touched);
@@ -715,7 +770,7 @@ pub fn damaged_schedule(prng: &mut Prng, sheet: &Sheet, good: &[u8]) -> Vec<u8> 
     }
     let (one, other) = (prng.below(steps), prng.below(steps));
     let (early, late) = (one.min(other), one.max(other));
-    match prng.below(9) {
+    match prng.below(10) {
         0 => touched_not_held(sheet, &mut schedule, one),
         1 => enters(prng, sheet, &mut schedule, one),
         2 => {
@@ -746,7 +801,8 @@ pub fn damaged_schedule(prng: &mut Prng, sheet: &Sheet, good: &[u8]) -> Vec<u8> 
             let place = prng.below(schedule.len());
             schedule[place] ^= 1 << prng.below(8);
         }
-        7 => {
+        7 => back_again(prng, sheet, &mut schedule, late),
+        8 => {
             // Held segments taken out of one step: those that stay in the next are not held before it.
             schedule[STEP * one..STEP * (one + 1)].fill(0);
             if let Some(touched) = sheet.steps[one] {
@@ -787,10 +843,27 @@ fn touched_not_held(sheet: &Sheet, schedule: &mut [u8], step: usize) {
 /// 10 in a step, counted from 0: a segment enters that is neither touched nor held before, if there is one.
 fn enters(prng: &mut Prng, sheet: &Sheet, schedule: &mut [u8], step: usize) {
     let bound = if prng.one_in(4) { 256 } else { sheet.sizes.len() };
-    let before = if step == 0 { [false; 256] } else { reference::held_in(&schedule[STEP * (step - 1)..STEP * step]) };
-    let out: Vec<usize> = (0..bound).filter(|&segment| !before[segment] && Some(segment) != sheet.steps[step]).collect();
+    let before = match step {
+        0 => std::array::from_fn(|segment| sheet.is_warm(segment)),
+        _ => reference::held_in(&schedule[STEP * (step - 1)..STEP * step]),
+    };
+    let out: Vec<usize> =
+        (0..bound).filter(|&segment| !before[segment] && Some(segment) != sheet.steps[step]).collect();
     if !out.is_empty() {
         let segment = prng.pick(&out);
         reference::set_held(&mut schedule[STEP * step..STEP * (step + 1)], segment, true);
+    }
+}
+
+/// 10 in a step, counted from 0: a warm segment that was not held in the steps before comes back untouched, if there is a step before.
+fn back_again(prng: &mut Prng, sheet: &Sheet, schedule: &mut [u8], step: usize) {
+    let untouched = |segment: &&usize| !sheet.steps[..=step].contains(&Some(**segment));
+    let warm: Vec<usize> = sheet.warm.iter().filter(untouched).copied().collect();
+    if step == 0 || warm.is_empty() {
+        return;
+    }
+    let segment = prng.pick(&warm);
+    for (place, step_bytes) in schedule.chunks_mut(STEP).enumerate().take(step + 1) {
+        reference::set_held(step_bytes, segment, place == step);
     }
 }

@@ -7,6 +7,7 @@ mod compare;
 mod crash;
 mod enumerate;
 mod generate;
+mod mistakes;
 mod place;
 mod recorder;
 mod reference;

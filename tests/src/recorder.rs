@@ -11,16 +11,18 @@ use segtrace::Recorder as Parts;
 pub struct Model {
     sheet: Sheet,
     intervals: Intervals,
-    /// The last step that touches each segment.
+    /// The last step that touches each segment; 0 for a warm one before its first touch.
     last: Vec<Option<usize>>,
 }
 
 impl Model {
-    /// From a sheet's kind, a, sizes and rows, with no steps.
+    /// From a sheet's kind, a, sizes, rows and warm set, with no steps.
     pub fn start(sheet: &Sheet) -> Model {
         let sheet = Sheet { steps: Vec::new(), ..sheet.clone() };
-        let segs = sheet.sizes.len();
-        Model { intervals: Intervals { reuses: Vec::new(), ends: vec![None; segs] }, last: vec![None; segs], sheet }
+        let last: Vec<Option<usize>> =
+            (0..sheet.sizes.len()).map(|segment| sheet.is_warm(segment).then_some(0)).collect();
+        let ends = last.iter().map(|last| last.map(|_| 0)).collect();
+        Model { intervals: Intervals { reuses: Vec::new(), ends }, last, sheet }
     }
 
     /// The number that a touch gets: 4 for a segment not below segs, before 13 for the step after the 2,048th.
@@ -83,12 +85,12 @@ impl Model {
         })
     }
 
-    /// Whether a recorder's parts say what the header says of them: head, counts, sizes and prices; and the counts and volumes of the
-    /// buckets add up.
+    /// Whether a recorder's parts say what the header says of them: head, counts, sizes, warm segments and prices; and the counts and
+    /// volumes of the buckets add up.
     fn says(&self, parts: &Parts) -> Outcome {
-        let Sheet { kind, a, sizes, rows, steps, .. } = &self.sheet;
+        let Sheet { kind, a, sizes, rows, warm, steps, .. } = &self.sheet;
         let refs: Vec<usize> = steps.iter().copied().flatten().collect();
-        let head = [u64::from(*kind == Kind::Space), *a, sizes.len() as u64, rows.len() as u64];
+        let head = [u64::from(*kind == Kind::Space), *a, sizes.len() as u64, rows.len() as u64, warm.len() as u64];
         ensure(parts.head == head, || format!("recorder: head is {:?}, wanted {head:?}", parts.head))?;
         let cost: u64 = refs.iter().map(|&segment| self.sheet.reference_cost(segment)).sum();
         let volume: u64 = refs.iter().map(|&segment| self.sheet.size(segment)).sum();
@@ -102,6 +104,9 @@ impl Model {
             list.iter().all(|&item| Some(u64::from(item)) == wanted.next())
         };
         ensure(same(&parts.sizes, &mut sizes.iter().copied()), || "recorder: other sizes".to_string())?;
+        ensure(same(&parts.holds, &mut warm.iter().map(|&segment| segment as u64)), || {
+            "recorder: other warm segments".to_string()
+        })?;
         ensure(same(&parts.h, &mut rows.iter().map(|row| row.h)), || "recorder: other prices h".to_string())?;
         ensure(same(&parts.d, &mut rows.iter().map(|row| row.d)), || "recorder: other prices d".to_string())
     }
@@ -134,9 +139,10 @@ impl Recorder for Watched {
     fn start(bytes: &[u8]) -> Result<Watched, u64> {
         // Every number is one that a start must replace.
         let parts = Parts {
-            head: [u64::MAX; 4],
+            head: [u64::MAX; 5],
             counts: [u64::MAX; 3],
             sizes: [0xabcd; 256],
+            holds: [0xabcd; 256],
             h: [0xabcd; 64],
             d: [0xabcd; 64],
             last: [0xabcd; 256],
@@ -442,7 +448,9 @@ impl Case<'_> {
         let got = calls::touch(parts, segment);
         self.tally.note_recorder(want);
         ensure(got == want, || format!("recorder: touch of {segment} gives {got}, wanted {want}"))?;
-        ensure(head_stays(&old, parts), || "recorder: a touch changed the head, sizes or prices".to_string())?;
+        ensure(head_stays(&old, parts), || {
+            "recorder: a touch changed the head, sizes, warm segments or prices".to_string()
+        })?;
         ensure(want == 0 || *parts == old, || format!("recorder: a touch refused with {want} changed a part"))
     }
 
@@ -468,7 +476,9 @@ impl Case<'_> {
         let got = calls::touch_all(parts, segments);
         self.tally.note_recorder(want);
         ensure(got == want, || format!("recorder: {segments:?} in bulk give {got}, wanted {want}"))?;
-        ensure(head_stays(&old, parts), || "recorder: bulk changed the head, sizes or prices".to_string())?;
+        ensure(head_stays(&old, parts), || {
+            "recorder: bulk changed the head, sizes, warm segments or prices".to_string()
+        })?;
         ensure(want == 0 || *parts == old, || format!("recorder: {segments:?} refused with {want} changed a part"))
     }
 
@@ -506,6 +516,9 @@ impl Case<'_> {
             parts.head[3] = prng.pick(&[0, 1, 2, 8, 63, 64, 65, 1 << 16, (1 << 32) + 3, u64::MAX]);
         }
         if !prng.one_in(3) {
+            parts.head[4] = prng.pick(&[0, 1, 2, 12, 255, 256, 257, 1 << 16, (1 << 32) + 3, u64::MAX]);
+        }
+        if !prng.one_in(3) {
             parts.counts[0] = prng.pick(&[0, 1, 7, 2_030, 2_047, 2_048, 2_049, 65_535, 1 << 16, 1 << 32, u64::MAX]);
         }
         parts
@@ -514,7 +527,7 @@ impl Case<'_> {
 
 /// Whether the parts are the same that no call after the start changes.
 fn head_stays(old: &Parts, now: &Parts) -> bool {
-    old.head == now.head && old.sizes == now.sizes && old.h == now.h && old.d == now.d
+    old.head == now.head && old.sizes == now.sizes && old.holds == now.holds && old.h == now.h && old.d == now.d
 }
 
 /// A number that is no segment of the sheet.
@@ -539,6 +552,7 @@ fn random_parts(prng: &mut Prng) -> Parts {
         head: std::array::from_fn(|_| prng.next()),
         counts: std::array::from_fn(|_| prng.next()),
         sizes: narrow(prng),
+        holds: narrow(prng),
         h: narrow(prng),
         d: narrow(prng),
         last: narrow(prng),
@@ -549,17 +563,20 @@ fn random_parts(prng: &mut Prng) -> Parts {
 /// Every part filled with its smallest or its largest number, or one beside it.
 fn filled_parts(prng: &mut Prng) -> Parts {
     let mut wide = || prng.pick(&[0, 1, 1 << 60, (1 << 60) + 1, 1 << 63, u64::MAX - 1, u64::MAX]);
-    let (head, counts, sums) = ([wide(); 4], [wide(); 3], [wide(); 390]);
+    let (head, counts, sums) = ([wide(); 5], [wide(); 3], [wide(); 390]);
     let mut short = || prng.pick(&[0, 1, 4_095, 4_096, 0xfffe, 0xffff]);
-    Parts { head, counts, sizes: [short(); 256], h: [short(); 64], d: [short(); 64], last: [short(); 256], sums }
+    let (sizes, holds, last) = ([short(); 256], [short(); 256], [short(); 256]);
+    Parts { head, counts, sizes, holds, h: [short(); 64], d: [short(); 64], last, sums }
 }
 
 /// Numbers in the ranges of a recorder, which fit together nowhere.
 fn small_parts(prng: &mut Prng) -> Parts {
     let mut parts = random_parts(prng);
-    parts.head = [prng.between(0, 2), prng.between(0, 256), prng.between(1, 256), prng.between(1, 64)];
+    let (segs, warm) = (prng.between(1, 256), prng.between(0, 256));
+    parts.head = [prng.between(0, 2), prng.between(0, 256), segs, prng.between(1, 64), warm];
     parts.counts = [prng.between(0, 2_050), prng.between(0, 1 << 24), prng.between(0, 1 << 24)];
     parts.sizes.iter_mut().for_each(|size| *size &= 0x0fff);
+    parts.holds.iter_mut().for_each(|hold| *hold &= 0x01ff);
     parts.last.iter_mut().for_each(|last| *last &= 0x0fff);
     let shift = 20 + prng.below(40);
     parts.sums.iter_mut().for_each(|sum| *sum >>= shift);
@@ -570,13 +587,14 @@ fn small_parts(prng: &mut Prng) -> Parts {
 fn change(prng: &mut Prng, parts: &mut Parts) {
     let number = if prng.one_in(2) { prng.next() } else { prng.any_size(0, u64::from(u16::MAX)) };
     let short = number as u16;
-    match prng.below(7) {
-        0 => parts.head[prng.below(4)] = number,
+    match prng.below(8) {
+        0 => parts.head[prng.below(5)] = number,
         1 => parts.counts[prng.below(3)] = number,
         2 => parts.sizes[prng.below(256)] = short,
         3 => parts.h[prng.below(64)] = short,
         4 => parts.d[prng.below(64)] = short,
         5 => parts.last[prng.below(256)] = short,
+        6 => parts.holds[prng.below(256)] = short,
         _ => parts.sums[prng.below(390)] = number,
     }
 }

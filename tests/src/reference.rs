@@ -5,6 +5,7 @@
 pub fn longest(form: u64) -> usize {
     match form {
         2 => 29_163,
+        3 => 31_366,
         _ => 20_012,
     }
 }
@@ -12,7 +13,7 @@ pub fn longest(form: u64) -> usize {
 /// The most steps of a sheet or a recorder.
 pub const MOST_STEPS: usize = 2_048;
 /// The newest form of a sheet.
-pub const NEWEST_FORM: u64 = 2;
+pub const NEWEST_FORM: u64 = 3;
 /// Bytes of a schedule for one step.
 pub const STEP: usize = 32;
 
@@ -42,6 +43,8 @@ pub struct Sheet {
     pub a: u64,
     pub sizes: Vec<u64>,
     pub rows: Vec<Row>,
+    /// The warm segments, those in memory before step 1, ascending. Form 3 names them; the others have none.
+    pub warm: Vec<usize>,
     /// For each step the segment that it touches, if any. Form 1 has a touch in every step.
     pub steps: Vec<Option<usize>>,
 }
@@ -56,8 +59,8 @@ pub fn read(bytes: &[u8]) -> Result<Sheet, u64> {
 /// The same for a call that takes the forms from one to another.
 pub fn read_forms(bytes: &[u8], lowest: u64, highest: u64) -> Result<Sheet, u64> {
     // The first complete line decides how long the sheet may be, whatever the call.
-    let named = if bytes.starts_with(b"form=2\n") { 2 } else { 1 };
-    if bytes.len() > longest(named) {
+    let named = (2..=NEWEST_FORM).find(|form| bytes.starts_with(format!("form={form}\n").as_bytes()));
+    if bytes.len() > longest(named.unwrap_or(1)) {
         return Err(1);
     }
     let mut rest = bytes;
@@ -88,11 +91,26 @@ pub fn read_forms(bytes: &[u8], lowest: u64, highest: u64) -> Result<Sheet, u64>
         }
         rows.push(row);
     }
+    let warm = if form < 3 { Vec::new() } else { take_warm(&mut rest, segs)? };
     let steps = if form == 1 { take_references(&mut rest, segs)? } else { take_touches(&mut rest, segs)? };
     if !rest.is_empty() {
         return Err(6);
     }
-    Ok(Sheet { form, kind, a, sizes, rows, steps })
+    Ok(Sheet { form, kind, a, sizes, rows, warm, steps })
+}
+
+/// warm= and hold= of form 3: segments in ascending order.
+fn take_warm(rest: &mut &[u8], segs: u64) -> Result<Vec<usize>, u64> {
+    let count = take_number(rest, b"warm=", 0, segs)?;
+    let mut warm: Vec<usize> = Vec::new();
+    for _ in 0..count {
+        let segment = take_number(rest, b"hold=", 0, segs - 1)? as usize;
+        if warm.last().is_some_and(|&before| segment <= before) {
+            return Err(19);
+        }
+        warm.push(segment);
+    }
+    Ok(warm)
 }
 
 /// refs= and ref= of form 1: a touch in every step.
@@ -101,7 +119,7 @@ fn take_references(rest: &mut &[u8], segs: u64) -> Result<Vec<Option<usize>>, u6
     (0..count).map(|_| Ok(Some(take_number(rest, b"ref=", 0, segs - 1)? as usize))).collect()
 }
 
-/// steps=, refs= and ref= of form 2: segment and step, in ascending steps.
+/// steps=, refs= and ref= of form 2 on: segment and step, in ascending steps.
 fn take_touches(rest: &mut &[u8], segs: u64) -> Result<Vec<Option<usize>>, u64> {
     let count = take_number(rest, b"steps=", 0, MOST_STEPS as u64)?;
     let refs = take_number(rest, b"refs=", 0, count)?;
@@ -182,6 +200,12 @@ pub fn write(sheet: &Sheet) -> Vec<u8> {
     for row in &sheet.rows {
         text += &format!("row={}/{}\n", row.h, row.d);
     }
+    if sheet.form > 2 {
+        text += &format!("warm={}\n", sheet.warm.len());
+        for segment in &sheet.warm {
+            text += &format!("hold={segment}\n");
+        }
+    }
     if sheet.form > 1 {
         text += &format!("steps={}\n", sheet.steps.len());
     }
@@ -260,9 +284,14 @@ impl Sheet {
         self.steps[step - 1]
     }
 
-    /// The last step before this one that touches the segment.
+    pub fn is_warm(&self, segment: usize) -> bool {
+        self.warm.contains(&segment)
+    }
+
+    /// The last step before this one that touches the segment. A warm segment counts as touched at step 0.
     pub fn last_touch(&self, segment: usize, step: usize) -> Option<usize> {
-        (1..step).rev().find(|&earlier| self.touched(earlier) == Some(segment))
+        let touch = (1..step).rev().find(|&earlier| self.touched(earlier) == Some(segment));
+        touch.or(self.is_warm(segment).then_some(0))
     }
 
     /// The references: step, counted from 1, and segment of each.
@@ -273,9 +302,9 @@ impl Sheet {
 
 /// The unreferenced times of a sheet.
 pub struct Intervals {
-    /// For each reference: its segment, and its unreferenced time, none for a first touch.
+    /// For each reference: its segment, and its unreferenced time, none for a first touch of a segment that is not warm.
     pub reuses: Vec<(usize, Option<u64>)>,
-    /// For each segment: that of the end interval, none if it is never touched.
+    /// For each segment: that of the end interval, none if it is never touched and not warm.
     pub ends: Vec<Option<u64>>,
 }
 
@@ -373,7 +402,7 @@ pub fn page(sheet: &Sheet, all: &[Figures]) -> Vec<u8> {
     text.into_bytes()
 }
 
-/// The margin of a reference at a row. 14: it is not between 1 and refs. 15: it is a first touch.
+/// The margin of a reference at a row. 14: it is not between 1 and refs. 15: it is a first touch of a segment that is not warm.
 pub fn margin(sheet: &Sheet, row: Row, reference: u64) -> Result<i64, u64> {
     let references = sheet.references();
     if reference < 1 || reference > references.len() as u64 {
@@ -420,12 +449,15 @@ pub fn set_held(step_bytes: &mut [u8], segment: usize, held: bool) {
     }
 }
 
-/// The optimal schedule of a row: held are the touched segment and, between the two touches of a kept reuse, the segment of it.
+/// The optimal schedule of a row: held are the touched segment and, between the two touches of a kept reuse, the segment of it. The first
+/// of the two may be that at step 0.
 pub fn optimal_schedule(sheet: &Sheet, row: Row) -> Vec<u8> {
     let steps = sheet.steps.len();
     let mut schedule = vec![0; STEP * steps];
     for segment in 0..sheet.sizes.len() {
-        let touches: Vec<usize> = (1..=steps).filter(|&step| sheet.touched(step) == Some(segment)).collect();
+        let start = sheet.is_warm(segment).then_some(0);
+        let touches: Vec<usize> =
+            start.into_iter().chain((1..=steps).filter(|&step| sheet.touched(step) == Some(segment))).collect();
         for step in 1..=steps {
             let last = touches.iter().rev().find(|&&touch| touch < step);
             let next = touches.iter().find(|&&touch| touch > step);
@@ -448,7 +480,8 @@ pub fn price(sheet: &Sheet, row: Row, schedule: &[u8]) -> Result<Price, u64> {
     if schedule.len() != STEP * sheet.steps.len() {
         return Err(8);
     }
-    let mut before: Held = [false; 256];
+    // Held at step 0, free.
+    let mut before: Held = std::array::from_fn(|segment| sheet.is_warm(segment));
     let (mut memory, mut load) = (0, 0);
     for (&touched, step_bytes) in sheet.steps.iter().zip(schedule.chunks(STEP)) {
         let held = held_in(step_bytes);

@@ -10,11 +10,11 @@ pub struct Tally {
 }
 
 /// One more than the largest number of a refusal.
-const NUMBERS: usize = 19;
+const NUMBERS: usize = 20;
 
 impl Tally {
     /// The numbers that every whole run must reach.
-    const REQUIRED: [usize; 18] = [1, 2, 3, 4, 5, 6, 7, 8, 9, 10, 11, 12, 13, 14, 15, 16, 17, 18];
+    const REQUIRED: [usize; 19] = [1, 2, 3, 4, 5, 6, 7, 8, 9, 10, 11, 12, 13, 14, 15, 16, 17, 18, 19];
 
     /// Notes a compared call of this sheet and the number that it returned.
     pub fn note(&mut self, number: u64) {

@@ -31,6 +31,12 @@ fn examples() -> Vec<(Vec<u8>, Check)> {
     let mut list: Vec<(Vec<u8>, Check)> = Vec::new();
     list.push((listed_sheet(), Box::new(listing_and_rows)));
     list.push((idling_sheet(), Box::new(idling_listing)));
+    for (sheet, rows, schedules) in warm_sheets() {
+        list.push((sheet, Box::new(move |bytes| warm_rows(bytes, &rows, &schedules))));
+    }
+    list.push((warm_sheet("space", &[1], 6, ALL_TOUCHES), Box::new(warm_margins)));
+    list.push((warm_sheet("space", &[0, 1], 6, ALL_TOUCHES), Box::new(both_warm_margins)));
+    list.push((warm_sheet("space", &[1], 3, &[(0, 1)]), Box::new(warm_prices)));
     for kind in [Kind::Time, Kind::Space] {
         for (h, figures) in table(kind) {
             list.push((paper_sheet(kind, h, false), Box::new(move |bytes| table_line(kind, figures, bytes))));
@@ -54,7 +60,8 @@ fn examples() -> Vec<(Vec<u8>, Check)> {
 
 /// A sheet of form 1.
 fn sheet_of(kind: Kind, a: u64, sizes: Vec<u64>, rows: Vec<Row>, refs: Vec<usize>) -> Vec<u8> {
-    reference::write(&Sheet { form: 1, kind, a, sizes, rows, steps: refs.into_iter().map(Some).collect() })
+    let steps = refs.into_iter().map(Some).collect();
+    reference::write(&Sheet { form: 1, kind, a, sizes, rows, warm: Vec::new(), steps })
 }
 
 /// The sheet of the listing in document 01, with steps 3 and 8 without a touch.
@@ -77,6 +84,138 @@ fn idling_listing(bytes: &[u8]) -> Outcome {
     done("optimal_schedule", calls::optimal_schedule(bytes, 1, &mut schedule, &mut written))?;
     let firsts: Vec<u8> = schedule.iter().step_by(32).copied().collect();
     ensure(firsts == [1, 3, 1, 1, 3, 3, 1, 0], || "the schedule of the sheet with idle steps is another".to_string())
+}
+
+/// The touches of the listing's sheet: segment and step of each.
+const ALL_TOUCHES: &[(usize, usize)] = &[(0, 1), (1, 2), (0, 3), (1, 4), (1, 5), (0, 6)];
+
+/// The listing's sheet in form 3, with its two segments and those of the warm ones beyond, of size 2, and with these steps and touches.
+fn warm_sheet(kind: &str, warm: &[usize], steps: usize, touches: &[(usize, usize)]) -> Vec<u8> {
+    let segs = warm.last().map_or(2, |last| 2.max(last + 1));
+    let mut text = format!("form=3\nkind={kind}\na=1\nsegs={segs}\nsize=1\nsize=3\n");
+    (2..segs).for_each(|_| text += "size=2\n");
+    text += &format!("rows=2\nrow=1/2\nrow=1/1\nwarm={}\n", warm.len());
+    warm.iter().for_each(|segment| text += &format!("hold={segment}\n"));
+    text += &format!("steps={steps}\nrefs={}\n", touches.len());
+    touches.iter().for_each(|(segment, step)| text += &format!("ref={segment}@{step}\n"));
+    text.into_bytes()
+}
+
+/// Sheets with warm segments, the figures of both rows and the first bytes of their optimal schedules, all worked by hand. In kind space
+/// the first touch of segment 1, at step 2, has R = 3: row 1/2 drops it (6 > 4), row 1/1 keeps it (3 <= 4).
+fn warm_sheets() -> Vec<(Vec<u8>, [Figures; 2], [Vec<u8>; 2])> {
+    let all = ALL_TOUCHES;
+    vec![
+        // None: the listing's own figures.
+        (
+            warm_sheet("space", &[], 6, all),
+            [[1, 2, 4, 8, 12, 13, 38, 13, 36, 36, 3_000], [1, 1, 2, 4, 6, 18, 24, 18, 21, 21, 3_500]],
+            [vec![1, 3, 1, 2, 2, 1], vec![1, 3, 3, 3, 3, 1]],
+        ),
+        // Segment 1: examples/warm.sheet.
+        (
+            warm_sheet("space", &[1], 6, all),
+            [[1, 2, 4, 8, 12, 13, 38, 13, 40, 40, 3_333], [1, 1, 1, 1, 2, 21, 23, 21, 24, 24, 4_000]],
+            [vec![1, 3, 1, 2, 2, 1], vec![3, 3, 3, 3, 3, 1]],
+        ),
+        // Both. The first touch of segment 0, at step 1, has R = 0.
+        (
+            warm_sheet("space", &[0, 1], 6, all),
+            [[1, 2, 3, 7, 10, 13, 36, 13, 40, 40, 3_333], [1, 1, 0, 0, 0, 21, 21, 21, 24, 24, 4_000]],
+            [vec![1, 3, 1, 2, 2, 1], vec![3, 3, 3, 3, 3, 1]],
+        ),
+        // A third one of size 2, which is never touched: its end interval has R = 12, and its w is 3.
+        (
+            warm_sheet("space", &[2], 6, all),
+            [[1, 2, 4, 8, 12, 13, 38, 13, 39, 39, 3_250], [1, 1, 2, 4, 6, 18, 24, 18, 24, 24, 4_000]],
+            [vec![1, 3, 1, 2, 2, 1], vec![1, 3, 3, 3, 3, 1]],
+        ),
+        // Segment 1 in one step that touches segment 0: its end interval has R = 3.
+        (
+            warm_sheet("space", &[1], 1, &[(0, 1)]),
+            [[1, 2, 1, 1, 2, 1, 4, 1, 6, 6, 3_000], [1, 1, 1, 1, 2, 1, 3, 1, 4, 4, 4_000]],
+            [vec![1], vec![1]],
+        ),
+        // The same in one step without a touch.
+        (
+            warm_sheet("space", &[1], 1, &[]),
+            [[1, 2, 0, 0, 0, 0, 0, 0, 4, 4, 2_000], [1, 1, 0, 0, 0, 0, 0, 0, 3, 3, 3_000]],
+            [vec![0], vec![0]],
+        ),
+        // Both in no step: their end intervals have R = 0.
+        (
+            warm_sheet("space", &[0, 1], 0, &[]),
+            [[1, 2, 0, 0, 0, 0, 0, 0, 0, 0, 0], [1, 1, 0, 0, 0, 0, 0, 0, 0, 0, 0]],
+            [vec![], vec![]],
+        ),
+        // Kind time: the first touch of segment 1 has R = 1, and both rows keep it.
+        (
+            warm_sheet("time", &[1], 6, all),
+            [[1, 2, 2, 2, 4, 9, 22, 19, 22, 46, 3_833], [1, 1, 1, 1, 2, 11, 13, 21, 12, 24, 4_000]],
+            [vec![3, 3, 3, 2, 2, 1], vec![3, 3, 3, 3, 3, 1]],
+        ),
+        (
+            warm_sheet("time", &[1], 1, &[(0, 1)]),
+            [[1, 2, 1, 1, 2, 1, 4, 1, 4, 8, 4_000], [1, 1, 1, 1, 2, 1, 3, 1, 2, 4, 4_000]],
+            [vec![1], vec![1]],
+        ),
+    ]
+}
+
+fn warm_rows(bytes: &[u8], rows: &[Figures; 2], schedules: &[Vec<u8>; 2]) -> Outcome {
+    for (row, (want, firsts)) in (0..).zip(rows.iter().zip(schedules)) {
+        let got = figures(bytes, row)?;
+        ensure(got == *want, || format!("warm segments, row {row}: {got:?}, wanted {want:?}"))?;
+        let mut schedule = vec![0; firsts.len() * 32];
+        done("optimal_schedule", calls::optimal_schedule(bytes, row, &mut schedule, &mut 0))?;
+        ensure(schedule.iter().step_by(32).eq(firsts), || format!("warm segments: another schedule of row {row}"))?;
+    }
+    Ok(())
+}
+
+/// Margins of references at rows: what the call returns, and the margin.
+fn margins(bytes: &[u8], list: &[(u64, u64, u64, i64)]) -> Outcome {
+    for &(row, reference, number, want) in list {
+        let mut margin = 0;
+        let returned = calls::margin(bytes, row, reference, &mut margin);
+        ensure((returned, margin) == (number, want), || {
+            format!("margin of reference {reference} at row {row}: got {returned}, {margin}, wanted {number}, {want}")
+        })?;
+    }
+    Ok(())
+}
+
+/// The first touch of segment 1 has a margin, that of segment 0 has none.
+fn warm_margins(bytes: &[u8]) -> Outcome {
+    margins(bytes, &[(0, 1, 15, 0), (0, 2, 0, -2), (1, 2, 0, 1), (0, 4, 0, -2), (1, 6, 0, 0), (0, 7, 14, 0)])
+}
+
+/// Both have one.
+fn both_warm_margins(bytes: &[u8]) -> Outcome {
+    margins(bytes, &[(0, 1, 0, 2), (1, 1, 0, 2), (0, 2, 0, -2), (1, 2, 0, 1)])
+}
+
+/// Schedules of three steps: segment 0 is touched in the first, and segment 1 is warm. Held from step 1 on it costs 3 a step and no load;
+/// once it is not held, it cannot come back.
+fn warm_prices(bytes: &[u8]) -> Outcome {
+    let list: [([u8; 3], u64, reference::Price); 7] = [
+        ([1, 0, 0], 0, [1, 2, 4]),
+        ([3, 0, 0], 0, [4, 2, 10]),
+        ([3, 2, 2], 0, [10, 2, 22]),
+        ([1, 2, 2], 10, [0; 3]),
+        ([3, 1, 2], 10, [0; 3]),
+        ([2, 2, 2], 9, [0; 3]),
+        ([7, 2, 2], 10, [0; 3]),
+    ];
+    for (firsts, number, want) in list {
+        let schedule: Vec<u8> = firsts.into_iter().flat_map(|first| [&[first], &[0; 31][..]].concat()).collect();
+        let mut price = [0; 3];
+        let returned = calls::price(bytes, 0, &schedule, &mut price);
+        ensure((returned, price) == (number, want), || {
+            format!("price of {firsts:?}: got {returned}, {price:?}, wanted {number}, {want:?}")
+        })?;
+    }
+    Ok(())
 }
 
 /// The sheet of the listing in document 01.
@@ -240,7 +379,13 @@ fn verdicts() -> Vec<(Vec<u8>, u64)> {
     let second = |steps: &str, refs: &str, touches: &str| {
         format!("form=2\nkind=time\na=0\nsegs=1\nsize=1\n{row}steps={steps}\nrefs={refs}\n{touches}").into_bytes()
     };
+    let third = |segs: usize, warm: &str, holds: &str| {
+        let sizes = "size=1\n".repeat(segs);
+        let head = format!("form=3\nkind=time\na=0\nsegs={segs}\n{sizes}{row}");
+        format!("{head}warm={warm}\n{holds}steps=0\nrefs=0\n").into_bytes()
+    };
     let longest_second = longest_second_sheet();
+    let longest_third = longest_third_sheet();
     let longest = longest_sheet();
     let one_more = [&longest[..], b"\n"].concat();
     vec![
@@ -284,16 +429,45 @@ fn verdicts() -> Vec<(Vec<u8>, u64)> {
         (second("2", "2", "ref=0@3\nref=x\n"), 16),
         (second("2", "2", "ref=0@1\nref=0@2\n\n"), 6),
         (b"form=1\nkind=time\n".to_vec(), 4),
-        (b"form=3\nkind=time\n".to_vec(), 4),
+        (b"form=3\nkind=time\n".to_vec(), 2),
+        (b"form=4\nkind=time\n".to_vec(), 4),
         (b"form=0".to_vec(), 2),
         (b"form=02\n".to_vec(), 3),
         (b"form".to_vec(), 2),
         (b"Form=2\n".to_vec(), 2),
         (longest_second.clone(), 0),
         ([&longest_second[..], b"\n"].concat(), 1),
-        ([b"form=3\n", &[b'x'; 20_005][..]].concat(), 4),
-        ([b"form=3\n", &[b'x'; 20_006][..]].concat(), 1),
+        ([b"form=4\n", &[b'x'; 20_005][..]].concat(), 4),
+        ([b"form=4\n", &[b'x'; 20_006][..]].concat(), 1),
         ([b"form=2", &[b'x'; 20_007][..]].concat(), 1),
+        (third(2, "0", ""), 0),
+        (third(2, "1", "hold=1\n"), 0),
+        (third(2, "2", "hold=0\nhold=1\n"), 0),
+        (third(2, "3", "hold=0\nhold=1\nhold=2\n"), 4),
+        (third(2, "00", ""), 3),
+        (third(2, "18446744073709551616", ""), 4),
+        (third(2, "1", ""), 2),
+        (third(2, "0", "hold=0\n"), 2),
+        (third(2, "1", "hold=x\n"), 3),
+        (third(2, "1", "hold=01\n"), 3),
+        (third(2, "1", "hold=2\n"), 4),
+        (third(2, "1", "hold=18446744073709551617\n"), 4),
+        (third(3, "2", "hold=1\nhold=1\n"), 19),
+        (third(3, "2", "hold=1\nhold=0\n"), 19),
+        (third(3, "2", "hold=0\nhold=0\n"), 19),
+        (third(3, "3", "hold=0\nhold=2\nhold=1\n"), 19),
+        // Top down: 19 before 3 and 4 of later lines, and after 4 of an earlier one.
+        (third(3, "3", "hold=1\nhold=1\nhold=x\n"), 19),
+        (third(3, "3", "hold=1\nhold=1\nhold=3\n"), 19),
+        (third(3, "2", "hold=3\nhold=3\n"), 4),
+        (longest_third.clone(), 0),
+        ([&longest_third[..], b"\n"].concat(), 1),
+        (longest_third[..longest_third.len() - 1].to_vec(), 2),
+        ([b"form=3\n", &[b'x'; 31_359][..]].concat(), 2),
+        ([b"form=3\n", &[b'x'; 31_360][..]].concat(), 1),
+        ([b"form=3", &[b'x'; 20_007][..]].concat(), 1),
+        // The lines of form 3 in form 2.
+        (b"form=2\nkind=time\na=0\nsegs=1\nsize=1\nrows=1\nrow=1/2\nwarm=0\nsteps=0\nrefs=0\n".to_vec(), 2),
     ]
 }
 
@@ -306,7 +480,16 @@ fn longest_sheet() -> Vec<u8> {
 
 /// A sheet of form 2 of exactly 29,163 bytes.
 fn longest_second_sheet() -> Vec<u8> {
+    longest_of_form(2, Vec::new())
+}
+
+/// A sheet of form 3 of exactly 31,366 bytes.
+fn longest_third_sheet() -> Vec<u8> {
+    longest_of_form(3, (0..256).collect())
+}
+
+fn longest_of_form(form: u64, warm: Vec<usize>) -> Vec<u8> {
     let rows = (0..64).map(|row| Row { h: 60_000 + row, d: 10_000 }).collect();
     let steps = (0..2_048).map(|step| Some(100 + step % 156)).collect();
-    reference::write(&Sheet { form: 2, kind: Kind::Space, a: 255, sizes: vec![4_095; 256], rows, steps })
+    reference::write(&Sheet { form, kind: Kind::Space, a: 255, sizes: vec![4_095; 256], rows, warm, steps })
 }

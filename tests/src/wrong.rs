@@ -1,5 +1,6 @@
 //! Wrong answers, put in behind a call one at a time to show that the tests find them.
 
+use crate::mistakes;
 use crate::place::Item;
 use segtrace::Recorder;
 use std::sync::atomic::{AtomicUsize, Ordering};
@@ -69,18 +70,29 @@ pub enum Way {
     LastNotTaken,
     /// A refusal in bulk keeps the references before the refused one.
     Kept,
+    /// A first touch of a warm segment is always a miss.
+    WarmMissed,
+    /// The first interval of a warm segment is one step longer.
+    WarmLonger,
+    /// A warm segment that is never touched has no end interval.
+    WarmNoEnd,
+    /// Its end interval runs from step 1.
+    WarmEndFromOne,
+    /// Equal numbers on two hold lines are accepted.
+    HoldsEqual,
+    /// 19 comes before the 4 of an earlier line.
+    HoldsFirst,
+    /// A recorder names the warm segments, but counts none of them as touched at step 0.
+    StartsCold,
+    /// A warm segment that was dropped may come back untouched.
+    ComesBack,
+    /// A first touch of a warm segment has no margin.
+    WarmNoMargin,
 }
 
 /// Wrong ways of every call with a lent place, and of every call with a list of fixed length.
-const PLACE_CALLS: [Call; 7] = [
-    Call::Rewrite,
-    Call::ToForm2,
-    Call::ToForm1,
-    Call::AllFigures,
-    Call::Listing,
-    Call::Page,
-    Call::OptimalSchedule,
-];
+const PLACE_CALLS: [Call; 7] =
+    [Call::Rewrite, Call::ToForm2, Call::ToForm1, Call::AllFigures, Call::Listing, Call::Page, Call::OptimalSchedule];
 const PLACE_WAYS: [Way; 9] = [
     Way::OtherNumber,
     Way::Refused(11),
@@ -96,11 +108,28 @@ const LIST_CALLS: [Call; 6] = [Call::Figures, Call::Price, Call::Margin, Call::S
 const LIST_WAYS: [Way; 5] = [Way::OtherNumber, Way::Refused(7), Way::Idle, Way::LastItem, Way::ItemRefused];
 
 /// Wrong ways of single calls.
-const OTHERS: [(Call, Way); 40] = [
+const OTHERS: [(Call, Way); 57] = [
     (Call::Check, Way::OtherNumber),
     (Call::Check, Way::NotRefused(5)),
     (Call::Check, Way::NotRefused(16)),
     (Call::Check, Way::Instead(16, 4)),
+    (Call::Check, Way::NotRefused(19)),
+    (Call::Check, Way::Instead(19, 4)),
+    (Call::Check, Way::Instead(19, 16)),
+    (Call::Check, Way::HoldsEqual),
+    (Call::Check, Way::HoldsFirst),
+    (Call::Figures, Way::WarmMissed),
+    (Call::Figures, Way::WarmLonger),
+    (Call::Figures, Way::WarmNoEnd),
+    (Call::Figures, Way::WarmEndFromOne),
+    (Call::AllFigures, Way::WarmMissed),
+    (Call::AllFigures, Way::WarmLonger),
+    (Call::AllFigures, Way::WarmNoEnd),
+    (Call::AllFigures, Way::WarmEndFromOne),
+    (Call::OptimalSchedule, Way::WarmMissed),
+    (Call::Price, Way::ComesBack),
+    (Call::Margin, Way::WarmNoMargin),
+    (Call::Start, Way::StartsCold),
     (Call::Check, Way::Refused(6)),
     (Call::ToForm1, Way::NotRefused(17)),
     (Call::ToForm1, Way::Refused(17)),
@@ -155,7 +184,7 @@ pub fn put_in(place: usize) {
 }
 
 /// The wrong way put in behind a call.
-fn way(call: Call) -> Option<Way> {
+pub fn way(call: Call) -> Option<Way> {
     let place = PUT_IN.load(Ordering::Relaxed);
     if place == usize::MAX {
         return None;
@@ -224,15 +253,20 @@ pub fn list<T: Item>(call: Call, out: &mut [T], real: impl FnOnce(&mut [T]) -> u
     returned
 }
 
-pub fn start(recorder: &mut Recorder, real: impl FnOnce(&mut Recorder) -> u64) -> u64 {
-    let Some(way) = way(Call::Start) else { return real(recorder) };
+pub fn start(sheet: &[u8], recorder: &mut Recorder, real: impl Fn(&[u8], &mut Recorder) -> u64) -> u64 {
+    let Some(way) = way(Call::Start) else { return real(sheet, recorder) };
     let old = recorder.clone();
-    let returned = real(recorder);
+    let returned = real(sheet, recorder);
     match (way, returned) {
         (Way::Idle, 0) => *recorder = old,
         (Way::OneReference, 0) => recorder.counts[0] = 1,
         (Way::OtherKind, 0) if recorder.head[0] > 0 => recorder.head[0] = 7,
         (Way::LastRefused, 1..) => recorder.last[0] ^= 1,
+        (Way::StartsCold, 0) => {
+            let mut cold = old;
+            real(&mistakes::cold(sheet), &mut cold);
+            recorder.last = cold.last;
+        }
         _ => {}
     }
     number(way, returned)

@@ -17,7 +17,9 @@ use Rattle.analyser.specs.Answers.{printedText}
 module _ (s : List ℕ) where
   printed-on : (o : Outcome) → readSheet s ≡ o → length (onSheet o refusedText listingOf) ≤ mostListing
   printed-on (accepted v) e = listing-most v (accepted-valid 1 newestForm (omega arith) s v e)
-  printed-on (rejected q) e = refused-most q (⊎-elim (λ w. omega (arith, w)) (λ w. omega (arith, w)) (sheet-refusals 1 newestForm s q e))
+  printed-on (rejected q) e =
+      refused-most q
+      (⊎-elim (λ w. omega (arith, w)) (⊎-elim (λ w. omega (arith, w)) (λ w. omega (arith, w))) (sheet-refusals 1 newestForm s q e))
 
   pub printed-most : length (printedText s) ≤ mostListing
   unfolding printedText

@@ -1,4 +1,4 @@
--- What each public call on bytes answers, by what the bytes read as. The sheet's refusals are 1 to 6 and 16. Assumes nothing.
+-- What each public call on bytes answers, by what the bytes read as. The sheet's refusals are 1 to 6, 16 and 19. Assumes nothing.
 use Prim.Native.Nat.{ℕ}
 use mathlib.Core.List.{List}
 use Rattle.model.specs.Places.{Result, gives, refuses}

@@ -1,30 +1,28 @@
--- What is answered for the misses of a sheet with 1, 2, .., segs frames: 26, then 11 by the place. Assumes nothing.
+-- What is answered for the misses of a sheet with 1, 2, .., segs frames: 26, then 27, then 11 by the place. Assumes nothing.
 use Prim.Native.Nat.{ℕ, _*_, _≤_}
 use mathlib.Core.Path.{_≡_}
-use mathlib.Core.Bool.{cond}
 use mathlib.Core.List.{List}
-use Rattle.model.specs.Places.{Result, gives, refuses, answerFor, placeFor}
+use Rattle.model.specs.Places.{Result, answerFor, placeFor}
 use Rattle.model.specs.Sheets.{SheetValue, traceOf}
 use Rattle.model.specs.Traces.{steps, refsOf}
 use Rattle.model.specs.declared.Refusal.{Refusal}
-use Rattle.model.specs.declared.Refusal.the-variants.{SizeNotOne}
 use Rattle.model.specs.declared.Verdict.{Verdict}
 use Rattle.model.specs.declared.Verdict.the-variants.{Accepted, Refused}
 use Rattle.lru.specs.Recency.{lruCurve, entriesLooked, distinct}
 use Rattle.lru.specs.Memory.{simulatedCurve}
-use Rattle.frames.specs.Frames.{allOnes}
+use Rattle.frames.specs.Frames.{onesFor}
 use Rattle.curves.specs.declared.CurveAnswer.{CurveAnswer}
 
 -- no list: 0 beside the refusal
 abbrev pub noCurve : Refusal → CurveAnswer
 noCurve r = record { verdict = Refused r; looked = 0 }
 
--- the list of a sheet, by distances and by simulation: 26 where a size is not 1
+-- the list of a sheet, by distances and by simulation: 26 where a size is not 1, then 27 where a segment is warm
 unfoldable pub curveFor : SheetValue → Result
-curveFor v = cond (allOnes (v .head .sizes)) (gives (lruCurve (traceOf v))) (refuses SizeNotOne)
+curveFor v = onesFor (v .head) (lruCurve (traceOf v))
 
 unfoldable pub plainFor : SheetValue → Result
-plainFor v = cond (allOnes (v .head .sizes)) (gives (simulatedCurve (traceOf v))) (refuses SizeNotOne)
+plainFor v = onesFor (v .head) (simulatedCurve (traceOf v))
 
 -- the entries looked at, 0 beside a refusal
 abbrev pub lookedFor : SheetValue → Verdict → ℕ

@@ -24,45 +24,51 @@ pub fn no_curve(why: Refusal) -> CurveAnswer
     }
 }
 
-// The misses of an accepted sheet with 1, 2, .., segs frames into a lent place, by stack distances: 26, then 11.
+// The misses of an accepted sheet with 1, 2, .., segs frames into a lent place, by stack distances: 26, 27, 11.
 pub fn sheet_curve(s: Sheet, out: &mut [u64]) -> CurveAnswer
     requires { ⌜ Standing s ⌝ }
     ensures { λ r. ⌜ CurveLeft (valueOf s) (now (out .entry)) (now (out .exit)) r ⌝ }
 {
     let head = s.head;
     let segs = head.segs;
+    let warm = head.warm;
     let steps = s.steps;
     let sizes = head.sizes;
     let touches = s.touches;
-    if !frames::all_ones(&sizes[..segs]) {
-        return no_curve(Refusal::SizeNotOne);
-    }
-    if out.len() < segs {
-        return no_curve(Refusal::PlaceTooShort);
-    }
-    let looked = frames::distances::curve(&sizes[..segs], &touches[..steps], out);
-    CurveAnswer {
-        verdict: Verdict::Accepted,
-        looked: looked,
+    match frames::ones_verdict(&sizes[..segs], warm) {
+        Verdict::Refused(why) => no_curve(why),
+        Verdict::Accepted => {
+            if out.len() < segs {
+                return no_curve(Refusal::PlaceTooShort);
+            }
+            let looked = frames::distances::curve(&sizes[..segs], &touches[..steps], out);
+            CurveAnswer {
+                verdict: Verdict::Accepted,
+                looked: looked,
+            }
+        }
     }
 }
 
-// The same list, each number of frames simulated in turn: 26, then 11.
+// The same list, each number of frames simulated in turn: 26, 27, 11.
 pub fn sheet_curve_plain(s: Sheet, place: &mut [u64]) -> Verdict
     requires { ⌜ Standing s ⌝ }
     ensures { λ r. ⌜ PlainLeft (valueOf s) (now (place .entry)) (now (place .exit)) r ⌝ }
 {
     let head = s.head;
     let segs = head.segs;
+    let warm = head.warm;
     let steps = s.steps;
     let sizes = head.sizes;
     let touches = s.touches;
-    if !frames::all_ones(&sizes[..segs]) {
-        return Verdict::Refused(Refusal::SizeNotOne);
+    match frames::ones_verdict(&sizes[..segs], warm) {
+        Verdict::Refused(why) => Verdict::Refused(why),
+        Verdict::Accepted => {
+            if place.len() < segs {
+                return Verdict::Refused(Refusal::PlaceTooShort);
+            }
+            frames::plain::curve(&sizes[..segs], &touches[..steps], place);
+            Verdict::Accepted
+        }
     }
-    if place.len() < segs {
-        return Verdict::Refused(Refusal::PlaceTooShort);
-    }
-    frames::plain::curve(&sizes[..segs], &touches[..steps], place);
-    Verdict::Accepted
 }

@@ -31,23 +31,25 @@ whyOf : Refusal → Verdict → Refusal
 whyOf d Accepted = d
 whyOf d (Refused r) = r
 
--- the answer with a sheet of form 1, kind time and a = 0
-abbrev taken-with : ℕ → List ℕ → ℕ → List PriceRow → ℕ → List ℕ → SheetAnswer
-taken-with segs sizes rows prices steps seen =
+-- the answer with a sheet of form 1, kind time, a = 0 and no warm segment
+abbrev taken-with : ℕ → List ℕ → ℕ → List PriceRow → List ℕ → ℕ → List ℕ → SheetAnswer
+taken-with segs sizes rows prices holds steps seen =
     record {
       verdict = Accepted;
       sheet =
           record {
             form = 1;
-            head = record { kind = Time; a = 0; segs = segs; sizes = sizes; rows = rows; prices = prices };
+            head =
+                record { kind = Time; a = 0; segs = segs; sizes = sizes; rows = rows; prices = prices; warm = 0; holds = holds };
             steps = steps;
             touches = seen;
           };
     }
 
 same-sheet : {n n' : ℕ} → n ≡ n' → {z z' : List ℕ} → z ≡ z' → {r r' : ℕ} → r ≡ r' → {p p' : List PriceRow} → p ≡ p'
-    → {t t' : ℕ} → t ≡ t' → {s s' : List ℕ} → s ≡ s' → taken-with n z r p t s ≡ taken-with n' z' r' p' t' s'
-same-sheet a b c d e f = rw (a, b, c, d, e, f) refl
+    → {w w' : List ℕ} → w ≡ w' → {t t' : ℕ} → t ≡ t' → {s s' : List ℕ} → s ≡ s'
+    → taken-with n z r p w t s ≡ taken-with n' z' r' p' w' t' s'
+same-sheet a b c d e f g = rw (a, b, c, d, e, f, g) refl
 
 module _ (k : ℕ) (bytes : List ℕ) (found : Imported) (is : found ≡ importedOf (touchedWith k bytes)) where
   -- the segments of a trace that is taken are those of a sheet
@@ -74,20 +76,20 @@ module _ (k : ℕ) (bytes : List ℕ) (found : Imported) (is : found ≡ importe
 
   -- the sheet of a trace that is taken, with the rows of a head that was read
   pub import-taken : (h : Head) → h ≡ headOf (headValueOf h) → found .verdict ≡ Accepted
-      → (sizes : List ℕ) → sizes ≡ padded (replicate (found .segs) 1) (zeros mostSegs)
-      → taken-with (found .segs) sizes (h .rows) (h .prices) (found .steps) (found .touches)
+      → (sizes : List ℕ) → sizes ≡ padded (replicate (found .segs) 1) (zeros mostSegs) → (holds : List ℕ) → holds ≡ zeros mostSegs
+      → taken-with (found .segs) sizes (h .rows) (h .prices) holds (found .steps) (found .touches)
       ≡ answerOf (imported k bytes (headValueOf h .rows))
-  unfolding importedOf imported answerOf isAccepted sheetOf headOf
-  import-taken h read taken sizes ones = go (touchedWith k bytes) is
+  unfolding importedOf imported answerOf isAccepted sheetOf headOf padded
+  import-taken h read taken sizes ones holds none = go (touchedWith k bytes) is
     where
       go : (x : Touched) → found ≡ importedOf x
-          → taken-with (found .segs) sizes (h .rows) (h .prices) (found .steps) (found .touches)
+          → taken-with (found .segs) sizes (h .rows) (h .prices) holds (found .steps) (found .touches)
           ≡ answerOf (sheetOfTouched x (headValueOf h .rows))
       go (touches ps) f =
           let count : found .segs ≡ segmentCount ps = ap (λ (m : Imported). m .segs) f in
           same-sheet (count ∙ sym (length-replicate {A = ℕ} (segmentCount ps) 1))
           (ones ∙ ap (λ (n : ℕ). padded (replicate n 1) (zeros mostSegs)) count) (ap (λ (g : Head). g .rows) read)
-          (ap (λ (g : Head). g .prices) read) (ap (λ (m : Imported). m .steps) f) (ap (λ (m : Imported). m .touches) f)
+          (ap (λ (g : Head). g .prices) read) none (ap (λ (m : Imported). m .steps) f) (ap (λ (m : Imported). m .touches) f)
       go (refused r) f = absurd (false≢true (ap (λ (m : Imported). isAccepted (m .verdict)) (sym f) ∙ ap isAccepted taken))
 
 -- the head of an accepted sheet is one that was read, and its rows are those of the sheet's value

@@ -126,6 +126,8 @@ pages-valid ps rows w rows-within =
             entry-within = λ t lt. inl (segment t lt);
           };
       whole = λ first t lt. segment t lt;
+      warm = record { below = λ t lt. absurd (omega arith); ascending = λ t lt. absurd (omega arith) };
+      cold = λ old. refl;
     }
   where
     -- every entry is a segment

@@ -1,7 +1,7 @@
 -- The sheet that stands for a din trace, or the refusal. Assumes nothing.
 use Prim.Native.Nat.{ℕ, max}
 use mathlib.Core.Bool.{cond, _&&_}
-use mathlib.Core.List.{List}
+use mathlib.Core.List.{List, []}
 use lib.Dec.{leb}
 use lib.ListN.{length, replicate}
 use Rattle.model.specs.Sheets.{SheetValue}
@@ -22,10 +22,14 @@ largestPower = 24
 abbrev pub segmentCount : List ℕ → ℕ
 segmentCount ps = max 1 (length (firsts ps))
 
--- the sheet of the pages touched, with the rows: form 1, kind time, a=0, every size 1
+-- the sheet of the pages touched, with the rows: form 1, kind time, a=0, every size 1, no warm segment
 abbrev pub sheetOfPages : List ℕ → List PriceRow → SheetValue
 sheetOfPages ps rows =
-    record { form = 1; head = record { kind = Time; a = 0; sizes = replicate (segmentCount ps) 1; rows = rows }; refs = segmentsOf ps }
+    record {
+      form = 1;
+      head = record { kind = Time; a = 0; sizes = replicate (segmentCount ps) 1; rows = rows; warm = [] };
+      refs = segmentsOf ps;
+    }
 
 -- the sheet of what the lines come to
 abbrev pub sheetOfTouched : Touched → List PriceRow → Outcome

@@ -34,14 +34,19 @@ enum LineAt {
     Malformed,
 }
 
-// The places of the table of pages, twice as many as there are segments.
-const PLACES: usize = 512;
-// The most digits of an address.
-const MAX_DIGITS: usize = 8;
-// The least and the largest power of two of a page's bytes.
-const MIN_POWER: u32 = 8;
+impl LineAt {
+    // The most digits of an address.
+    const MAX_DIGITS: usize = 8;
+}
 
-const MAX_POWER: u32 = 24;
+impl Imported {
+    // The least and the largest power of two of a page's bytes.
+    pub const MIN_POWER: u64 = 8;
+
+    pub const MAX_POWER: u64 = 24;
+    // The places of the table of pages, twice as many as there are segments.
+    const PLACES: usize = 512;
+}
 
 // The value of a hexadecimal digit of either case, 16 for any other byte: how far the byte stands past "0", "A" and "a".
 fn digit(b: u8) -> u32
@@ -91,7 +96,7 @@ fn address(s: &[u8], values: &[u8]) -> LineAt
             }
             return LineAt::Address(value, n + 1);
         }
-        if n == MAX_DIGITS {
+        if n == LineAt::MAX_DIGITS {
             return LineAt::Malformed;
         }
         let d = values[b as usize];
@@ -132,7 +137,7 @@ fn line(s: &[u8], values: &[u8]) -> LineAt
 fn home(page: u32) -> usize
     ensures { λ r. ⌜ r ≡ homeOf page ⌝ }
 {
-    ((page as u64) * 2_654_435_769 / 8_388_608 % 512) as usize
+    ((page as u64) * 2_654_435_769 / 8_388_608 % Imported::PLACES as u64) as usize
 }
 
 // The place of the page in the table, or the empty place at which it is to stand.
@@ -142,8 +147,8 @@ fn place_of(pages: &[u32], marks: &[u16], page: u32) -> usize
 {
     let start = home(page);
     let mut j = 0;
-    while j < PLACES {
-        let place = (start + j) % PLACES;
+    while j < Imported::PLACES {
+        let place = (start + j) % Imported::PLACES;
         if marks[place] == 0 {
             return place;
         }
@@ -188,16 +193,16 @@ fn refused(why: Refusal) -> Imported
 }
 
 // Empty places of the table, 256 zeros and 2,048 idle entries.
-fn no_pages() -> [u32; PLACES]
+fn no_pages() -> [u32; Imported::PLACES]
     ensures { λ r. ⌜ r ≡ zeros tablePlaces ⌝ }
 {
-    [0u32; PLACES]
+    [0u32; Imported::PLACES]
 }
 
-fn no_marks() -> [u16; PLACES]
+fn no_marks() -> [u16; Imported::PLACES]
     ensures { λ r. ⌜ r ≡ zeros tablePlaces ⌝ }
 {
-    [0u16; PLACES]
+    [0u16; Imported::PLACES]
 }
 
 fn no_sizes() -> [u16; Sheet::MAX_SEGS]
@@ -256,16 +261,16 @@ fn lines(bytes: &[u8], k: u32) -> Imported
 
 // The segments and steps of the sheet that stands for a trace, with pages of 2 to the power k bytes: 23 where k is not from 8 to
 // 24, then the lines in order, 24 before 25.
-pub fn trace(bytes: &[u8], k: u32) -> Imported
+pub fn trace(bytes: &[u8], k: u64) -> Imported
     ensures { λ r. ⌜ r ≡ importedOf (touchedWith k (now (bytes .entry))) ⌝ }
 {
-    if k < MIN_POWER {
+    if k < Imported::MIN_POWER {
         return refused(Refusal::PageOutOfRange);
     }
-    if MAX_POWER < k {
+    if Imported::MAX_POWER < k {
         return refused(Refusal::PageOutOfRange);
     }
-    lines(bytes, k)
+    lines(bytes, k as u32)
 }
 
 // Sizes of n segments, each 1, at the front of zeros.
@@ -283,7 +288,7 @@ fn ones(n: usize) -> [u16; Sheet::MAX_SEGS]
 }
 
 // The sheet that stands for a trace, with the rows of a head that was read, or the refusal and the empty sheet.
-pub fn import(bytes: &[u8], k: u32, rows: Head) -> SheetAnswer
+pub fn import(bytes: &[u8], k: u64, rows: Head) -> SheetAnswer
     requires { ⌜ rows ≡ headOf (headValueOf rows) ⌝ }
     ensures { λ r. ⌜ r ≡ answerOf (imported k (now (bytes .entry)) (headValueOf rows .rows)) ⌝ }
 {
@@ -297,6 +302,7 @@ pub fn import(bytes: &[u8], k: u32, rows: Head) -> SheetAnswer
         Verdict::Accepted => {
             let sizes = ones(found.segs);
             let prices = rows.prices;
+            let holds = no_sizes();
             let touches = found.touches;
             SheetAnswer {
                 verdict: Verdict::Accepted,
@@ -309,6 +315,8 @@ pub fn import(bytes: &[u8], k: u32, rows: Head) -> SheetAnswer
                         sizes: sizes,
                         rows: rows.rows,
                         prices: prices,
+                        warm: 0,
+                        holds: holds,
                     },
                     steps: found.steps,
                     touches: touches,

@@ -26,44 +26,44 @@ refused-number : {w : Verdict} {why : Refusal} {n : ℕ} → n ≡ numberOf why 
 refused-number e r = rw r e
 
 module _ (s : List ℕ) (l : RecorderLists) (r : TouchAnswer) (is : r ≡ startAnswer s) where
-  pub start-accepted : (head counts sizes h d last sums : List ℕ) → r .verdict ≡ Accepted
-      → HeadStored (r .recorder) head sizes h d → TakenStored (r .recorder) counts last sums
-      → StartCall s l (lists head counts sizes h d last sums) 0
-  start-accepted head counts sizes h d last sums a stored kept =
+  pub start-accepted : (head counts sizes holds h d last sums : List ℕ) → r .verdict ≡ Accepted
+      → HeadStored (r .recorder) head sizes holds h d → TakenStored (r .recorder) counts last sums
+      → StartCall s l (lists head counts sizes holds h d last sums) 0
+  start-accepted head counts sizes holds h d last sums a stored kept =
       record {
         returned-is = rw (← is) (accepted-number a);
-        lists-are = rw (← is, a) (all-stored (r .recorder) head counts sizes h d last sums stored kept);
+        lists-are = rw (← is, a) (all-stored (r .recorder) head counts sizes holds h d last sums stored kept);
       }
 
   pub start-refused : (why : Refusal) (n : ℕ) → r .verdict ≡ Refused why → n ≡ numberOf why → StartCall s l l n
   start-refused why n f e = record { returned-is = rw (← is) (refused-number e f); lists-are = rw (← is, f) refl }
 
 -- one touch or several, by what the recorder in the lists answers
-module _ (Answers : Recorder → TouchAnswer → Type 0) (head counts sizes h d last sums : List ℕ) (R : Recorder) (r : TouchAnswer)
-    (is : R ≡ recorderIn (lists head counts sizes h d last sums)) (t : Answers R r) where
+module _ (Answers : Recorder → TouchAnswer → Type 0) (head counts sizes holds h d last sums : List ℕ) (R : Recorder) (r : TouchAnswer)
+    (is : R ≡ recorderIn (lists head counts sizes holds h d last sums)) (t : Answers R r) where
   pub touch-accepted : (counts' last' sums' : List ℕ) → r .verdict ≡ Accepted → TakenStored (r .recorder) counts' last' sums'
-      → TouchCall Answers (lists head counts sizes h d last sums) (lists head counts' sizes h d last' sums') 0
+      → TouchCall Answers (lists head counts sizes holds h d last sums) (lists head counts' sizes holds h d last' sums') 0
   touch-accepted counts' last' sums' a kept =
       record {
         answer = r;
         answered = rw is at t;
         returned-is = accepted-number a;
-        lists-are = rw a (taken-stored (r .recorder) head counts sizes h d last sums counts' last' sums' kept);
+        lists-are = rw a (taken-stored (r .recorder) head counts sizes holds h d last sums counts' last' sums' kept);
       }
 
   pub touch-refused : (why : Refusal) (n : ℕ) → r .verdict ≡ Refused why → n ≡ numberOf why
-      → TouchCall Answers (lists head counts sizes h d last sums) (lists head counts sizes h d last sums) n
+      → TouchCall Answers (lists head counts sizes holds h d last sums) (lists head counts sizes holds h d last sums) n
   touch-refused why n f e =
       record { answer = r; answered = rw is at t; returned-is = refused-number e f; lists-are = rw f refl }
 
-module _ (head counts sizes h d last sums : List ℕ) (row : ℕ) (out : List ℕ) (R : Recorder) (r : FiguresAnswer)
-    (is : R ≡ recorderIn (lists head counts sizes h d last sums)) (g : Figured R row r) where
+module _ (head counts sizes holds h d last sums : List ℕ) (row : ℕ) (out : List ℕ) (R : Recorder) (r : FiguresAnswer)
+    (is : R ≡ recorderIn (lists head counts sizes holds h d last sums)) (g : Figured R row r) where
   pub figures-accepted : (out' : List ℕ) → r .verdict ≡ Accepted → out' ≡ figureList (r .figures)
-      → FiguresCall (lists head counts sizes h d last sums) row out out' 0
+      → FiguresCall (lists head counts sizes holds h d last sums) row out out' 0
   figures-accepted out' a e = record { answer = r; figured = rw is at g; returned-is = accepted-number a; out-is = rw a e }
 
   pub figures-refused : (why : Refusal) (n : ℕ) → r .verdict ≡ Refused why → n ≡ numberOf why
-      → FiguresCall (lists head counts sizes h d last sums) row out out n
+      → FiguresCall (lists head counts sizes holds h d last sums) row out out n
   figures-refused why n f e = record { answer = r; figured = rw is at g; returned-is = refused-number e f; out-is = rw f refl }
 
 -- so lists of a recorder that stands for a sheet are, after an accepted call on the references xs, those of the sheet with them

@@ -22,11 +22,11 @@ orOld (Refused r) new old = old
 abbrev pub priceList : PriceAnswer → List ℕ
 priceList p = p .memory .0 ∷ p .load .0 ∷ p .total ∷ []
 
--- the sheet that the bytes stand for, written again: 1 to 6, then 11 by the place
+-- the sheet that the bytes stand for, written again: the sheet's refusals, then 11 by the place
 unfoldable pub rewriteResult : List ℕ → Result
 rewriteResult s = onSheet (readSheet s) refuses (λ v. gives (sheetText v))
 
--- the figures of every row of the sheet that the bytes stand for: 1 to 6, then 11 by the place
+-- the figures of every row of the sheet that the bytes stand for: the sheet's refusals, then 11 by the place
 unfoldable pub rowsResult : List ℕ → Result
 rowsResult s = onSheet (readSheet s) refuses (λ v. gives (figureLists (rowRecords v)))
 

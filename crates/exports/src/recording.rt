@@ -12,30 +12,31 @@ ghost use Rattle.recorder.specs.Recorders.{Touched, TouchedAll};
 ghost use Rattle.numbers.specs.Recorders.{lists};
 ghost use Rattle.exports.specs.Recording.{StartCall, TouchCall, IdleCall, FiguresCall};
 
-// A recorder with the kind, a, sizes and rows of a sheet and no steps: the sheet's refusals.
+// A recorder with the kind, a, sizes, rows and warm segments of a sheet and no steps: the sheet's refusals.
 #[no_mangle]
 pub extern "C" fn segtrace_recorder_start(
     sheet: &[u8],
-    head: &mut [u64; 4],
+    head: &mut [u64; 5],
     counts: &mut [u64; 3],
     sizes: &mut [u16; Sheet::MAX_SEGS],
+    holds: &mut [u16; Sheet::MAX_SEGS],
     h: &mut [u16; Sheet::MAX_ROWS],
     d: &mut [u16; Sheet::MAX_ROWS],
     last: &mut [u16; Sheet::MAX_SEGS],
     sums: &mut [u64; Bucket::SUMS * Tally::BUCKETS],
 ) -> u64
     ensures { λ r. ⌜ StartCall (now (sheet .entry))
-        (lists (now (head .entry)) (now (counts .entry)) (now (sizes .entry)) (now (h .entry))
-        (now (d .entry)) (now (last .entry)) (now (sums .entry)))
-        (lists (now (head .exit)) (now (counts .exit)) (now (sizes .exit)) (now (h .exit))
-        (now (d .exit)) (now (last .exit)) (now (sums .exit))) r ⌝ }
+        (lists (now (head .entry)) (now (counts .entry)) (now (sizes .entry)) (now (holds .entry))
+        (now (h .entry)) (now (d .entry)) (now (last .entry)) (now (sums .entry)))
+        (lists (now (head .exit)) (now (counts .exit)) (now (sizes .exit)) (now (holds .exit))
+        (now (h .exit)) (now (d .exit)) (now (last .exit)) (now (sums .exit))) r ⌝ }
 {
     let answer = analyser::recording::start(sheet);
     let verdict = answer.verdict;
     let r = answer.recorder;
     match verdict {
         Verdict::Accepted => {
-            store_head(r, head, sizes, h, d);
+            store_head(r, head, sizes, holds, h, d);
             store_taken(r, counts, last, sums);
             0
         }
@@ -46,9 +47,10 @@ pub extern "C" fn segtrace_recorder_start(
 // Takes one reference: 4, 13.
 #[no_mangle]
 pub extern "C" fn segtrace_recorder_touch(
-    head: &[u64; 4],
+    head: &[u64; 5],
     counts: &mut [u64; 3],
     sizes: &[u16; Sheet::MAX_SEGS],
+    holds: &[u16; Sheet::MAX_SEGS],
     h: &[u16; Sheet::MAX_ROWS],
     d: &[u16; Sheet::MAX_ROWS],
     last: &mut [u16; Sheet::MAX_SEGS],
@@ -56,12 +58,12 @@ pub extern "C" fn segtrace_recorder_touch(
     segment: u64,
 ) -> u64
     ensures { λ r. ⌜ TouchCall (λ R a. Touched R segment a)
-        (lists (now (head .entry)) (now (counts .entry)) (now (sizes .entry)) (now (h .entry))
-        (now (d .entry)) (now (last .entry)) (now (sums .entry)))
-        (lists (now (head .exit)) (now (counts .exit)) (now (sizes .exit)) (now (h .exit))
-        (now (d .exit)) (now (last .exit)) (now (sums .exit))) r ⌝ }
+        (lists (now (head .entry)) (now (counts .entry)) (now (sizes .entry)) (now (holds .entry))
+        (now (h .entry)) (now (d .entry)) (now (last .entry)) (now (sums .entry)))
+        (lists (now (head .exit)) (now (counts .exit)) (now (sizes .exit)) (now (holds .exit))
+        (now (h .exit)) (now (d .exit)) (now (last .exit)) (now (sums .exit))) r ⌝ }
 {
-    let r = recorder_of(head, counts, sizes, h, d, last, sums);
+    let r = recorder_of(head, counts, sizes, holds, h, d, last, sums);
     let answer = analyser::recording::touch(r, segment as usize);
     let verdict = answer.verdict;
     let next = answer.recorder;
@@ -85,9 +87,10 @@ pub extern "C" fn segtrace_recorder_idle(counts: &mut [u64; 3]) -> u64
 // Takes all references, or none where one would be refused: 4, 13.
 #[no_mangle]
 pub extern "C" fn segtrace_recorder_touch_all(
-    head: &[u64; 4],
+    head: &[u64; 5],
     counts: &mut [u64; 3],
     sizes: &[u16; Sheet::MAX_SEGS],
+    holds: &[u16; Sheet::MAX_SEGS],
     h: &[u16; Sheet::MAX_ROWS],
     d: &[u16; Sheet::MAX_ROWS],
     last: &mut [u16; Sheet::MAX_SEGS],
@@ -95,12 +98,12 @@ pub extern "C" fn segtrace_recorder_touch_all(
     segments: &[u16],
 ) -> u64
     ensures { λ r. ⌜ TouchCall (λ R a. TouchedAll R (now (segments .entry)) a)
-        (lists (now (head .entry)) (now (counts .entry)) (now (sizes .entry)) (now (h .entry))
-        (now (d .entry)) (now (last .entry)) (now (sums .entry)))
-        (lists (now (head .exit)) (now (counts .exit)) (now (sizes .exit)) (now (h .exit))
-        (now (d .exit)) (now (last .exit)) (now (sums .exit))) r ⌝ }
+        (lists (now (head .entry)) (now (counts .entry)) (now (sizes .entry)) (now (holds .entry))
+        (now (h .entry)) (now (d .entry)) (now (last .entry)) (now (sums .entry)))
+        (lists (now (head .exit)) (now (counts .exit)) (now (sizes .exit)) (now (holds .exit))
+        (now (h .exit)) (now (d .exit)) (now (last .exit)) (now (sums .exit))) r ⌝ }
 {
-    let r = recorder_of(head, counts, sizes, h, d, last, sums);
+    let r = recorder_of(head, counts, sizes, holds, h, d, last, sums);
     let answer = analyser::recording::touch_all(r, segments);
     let verdict = answer.verdict;
     let after = answer.recorder;
@@ -116,9 +119,10 @@ pub extern "C" fn segtrace_recorder_touch_all(
 // The figures of a row at this moment: 7.
 #[no_mangle]
 pub extern "C" fn segtrace_recorder_figures(
-    head: &[u64; 4],
+    head: &[u64; 5],
     counts: &[u64; 3],
     sizes: &[u16; Sheet::MAX_SEGS],
+    holds: &[u16; Sheet::MAX_SEGS],
     h: &[u16; Sheet::MAX_ROWS],
     d: &[u16; Sheet::MAX_ROWS],
     last: &[u16; Sheet::MAX_SEGS],
@@ -127,11 +131,11 @@ pub extern "C" fn segtrace_recorder_figures(
     figures: &mut [u64; RowFigures::ITEMS],
 ) -> u64
     ensures { λ r. ⌜ FiguresCall
-        (lists (now (head .entry)) (now (counts .entry)) (now (sizes .entry)) (now (h .entry))
-        (now (d .entry)) (now (last .entry)) (now (sums .entry)))
+        (lists (now (head .entry)) (now (counts .entry)) (now (sizes .entry)) (now (holds .entry))
+        (now (h .entry)) (now (d .entry)) (now (last .entry)) (now (sums .entry)))
         row (now (figures .entry)) (now (figures .exit)) r ⌝ }
 {
-    let r = recorder_of(head, counts, sizes, h, d, last, sums);
+    let r = recorder_of(head, counts, sizes, holds, h, d, last, sums);
     let answer = analyser::recording::figures(r, row as usize);
     let verdict = answer.verdict;
     match verdict {

@@ -10,6 +10,7 @@ use Rattle.model.specs.Sheets.{RunWithin}
 use Rattle.model.specs.Sums.{tabulate}
 use Rattle.model.specs.declared.PriceRow.{PriceRow}
 use Rattle.model.specs.LastTouches.{lastTable}
+use Rattle.model.proofs.LastTouches.{last-time}
 use Rattle.model.proofs.Tables.{tabulate-eq}
 use Rattle.figures.specs.Buckets.{bucketCount, endBucket, allEmpty, noBucket}
 use Rattle.figures.specs.inner.Pass.{touchOf, Limited, withEnd}
@@ -18,7 +19,6 @@ use Rattle.figures.specs.declared.Bucket.{Bucket}
 use Rattle.figures.specs.declared.pass.Touch.{Touch}
 use Rattle.figures.proofs.Filling.{bucketOver, bucketsOver, buckets-start, buckets-step}
 use Rattle.figures.proofs.Touches.{touchAt, endBucket-over}
-use Rattle.figures.proofs.Marks.{last-time}
 
 module _ (rows : List PriceRow) (T : Trace) where
   -- the end interval of segment i

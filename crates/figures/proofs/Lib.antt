@@ -3,8 +3,8 @@ pub mod Ending
 pub mod Filed
 pub mod Filling
 pub mod Limits
-pub mod Marks
 pub mod Passing
+pub mod Starts
 pub mod Sweeping
 pub mod Sweeps
 pub mod SweptRows

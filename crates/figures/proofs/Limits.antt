@@ -18,10 +18,11 @@ use Rattle.model.specs.declared.Kind.{Kind}
 use Rattle.model.specs.declared.Kind.the-variants.{Time, Space}
 use Rattle.model.proofs.Sums.{sum-within}
 use Rattle.model.proofs.Bounds.{product-within, unit-within}
+use Rattle.model.proofs.FirstTouches.{started}
 use Rattle.model.proofs.LastTouches.{unreferenced-within}
 use Rattle.figures.specs.Buckets.{bucketCount, bucketOf, filed, ended, bucketAfter, tallyOf, noBucket}
 use Rattle.figures.specs.inner.Pass.{Within, Roomy, passedAfter, passedOf}
-use Rattle.figures.specs.inner.Sweep.{summed, byKind, largestSwap, retentionBound, Holds}
+use Rattle.figures.specs.inner.Sweep.{summed, withStart, byKind, largestSwap, retentionBound, mostItems, Holds}
 use Rattle.figures.specs.declared.Bucket.{Bucket}
 use Rattle.model.proofs.Tables.{getD-tabulate}
 use Rattle.figures.proofs.Filed.{filed-below, ended-below}
@@ -135,6 +136,27 @@ module _ (T : Trace) (run : RunWithin T) where
             (left-out (ltb (bucketOf rows T (steps T) i) n) (g (steps T) i) m (each (steps T) i (run .steps-within) lt))),
         product-within (segs T) m mostSegs m (run .segs-within) (omega arith),
       ))))
+
+  -- a sum over the start set, which has at most 256 segments
+  started-within : (m : ℕ) (g : ℕ → ℕ) → ((i : ℕ) → i < segs T → g i ≤ m) → started T g ≤ mostSegs * m
+  started-within m g each =
+      omega (
+        arith,
+        sum-within (segs T) m (λ i. cond (T .start i) (g i) 0) (λ i lt. left-out (T .start i) (g i) m (each i lt)),
+        product-within (segs T) m mostSegs m (run .segs-within) (omega arith),
+      )
+
+  -- the touches with the swap costs of the start set are at most 2,304 items
+  pub start-holds : (b : Bucket) → Holds mostSteps b
+      → Holds mostItems (withStart (started T (λ i. swapOf T i)) (started T (λ i. swapOf T i * sizeOf T i)) b)
+  start-holds b h =
+      omega (
+        arith,
+        h,
+        started-within largestSwap (λ i. swapOf T i) swap-within,
+        started-within (largestSwap * largestSize) (λ i. swapOf T i * sizeOf T i)
+            (λ i lt. product-within (swapOf T i) (sizeOf T i) largestSwap largestSize (swap-within i lt) (run .size-within i lt)),
+      )
 
   pub cost-within : refCost T ≤ mostSteps * largestSize
   unfolding refCost

@@ -2,7 +2,6 @@
 -- its steps, it has after the same steps of the longer run. Assumes nothing.
 use Prim.Native.Nat.{ℕ, suc, _+_, _≤_, _<_}
 use mathlib.Core.Path.{_≡_, refl, sym, ap, _∙_}
-use mathlib.Core.Bool.{false}
 use mathlib.Core.List.{List, _++_}
 use native.Mathlib.Omega.{arith}
 use native.Mathlib.Nat.{le-refl, le-of-lt}
@@ -11,11 +10,11 @@ use lib.ListN.{length, getD, set}
 use lib.Seq.{ext-getD, getD-append-add}
 use borrow.Author.Tests.{lt-ltb, le-ltb}
 use Rattle.model.specs.Traces.{Trace, segs, steps, entry, sizeOf}
-use Rattle.model.specs.Sheets.{RunWithin, runOf}
+use Rattle.model.specs.Sheets.{RunWithin, listed, runOf}
 use Rattle.model.specs.declared.Kind.{Kind}
 use Rattle.model.specs.declared.PriceRow.{PriceRow}
-use Rattle.model.specs.LastTouches.{allUntouched, lastFrom, lastTable}
-use Rattle.model.proofs.LastTouches.{length-lastTable, lastTable-at, lastTable-step, lastTable-idle}
+use Rattle.model.specs.LastTouches.{startTable, lastFrom, lastTable}
+use Rattle.model.proofs.LastTouches.{length-lastTable, lastTable-at, startTable-is, lastTable-step, lastTable-idle, last-time}
 use Rattle.model.proofs.Growth.{withRefs, Agree, unreferenced-past}
 use Rattle.model.proofs.Lists.{getD-any}
 use Rattle.model.proofs.Tables.{tabulate-eq}
@@ -28,7 +27,6 @@ use Rattle.figures.specs.declared.pass.Touch.{Touch}
 use Rattle.figures.specs.declared.pass.Passed.{Passed}
 use Rattle.figures.proofs.Filling.{bucketOver, bucketsOver, buckets-start, buckets-step, buckets-skip, bucket-eq}
 use Rattle.figures.proofs.Touches.{touchAt, touches, bucketAfter-over}
-use Rattle.figures.proofs.Marks.{last-start, last-time}
 
 module _ (rows : List PriceRow) (T : Trace) where
   -- the touch in the step at place t
@@ -40,10 +38,11 @@ module _ (rows : List PriceRow) (T : Trace) where
   buckets-over n =
       sym (tabulate-eq bucketCount (bucketAfter rows T n) (bucketOver (touches T) stepTouch n) (λ k l. bucketAfter-over rows T n k))
 
-  -- at the start nothing is touched
-  pub pass-start : ((i : ℕ) → T .start i ≡ false) → record { buckets = allEmpty; last = allUntouched } ≡ passedAfter rows T 0
+  -- at the start the warm segments count as touched, and nothing is in the buckets
+  pub pass-start : (warm : List ℕ) → ((i : ℕ) → T .start i ≡ listed warm i)
+      → record { buckets = allEmpty; last = startTable warm } ≡ passedAfter rows T 0
   unfolding passedAfter
-  pass-start fresh = rw (buckets-start (touches T) stepTouch ∙ buckets-over 0, last-start T fresh) refl
+  pass-start warm same = rw (buckets-start (touches T) stepTouch ∙ buckets-over 0, startTable-is T warm same) refl
 
   -- what the pass has after n steps
   module _ (n : ℕ) (buckets : List Bucket) (last : List ℕ) (s : record { buckets = buckets; last = last } ≡ passedAfter rows T n) where
@@ -88,9 +87,9 @@ module _ (rows : List PriceRow) (T : Trace) where
       pass-step i e segment y lim is b added = rw e at (step-entry (rw e segment) y lim (rw e is) b added)
 
 -- entry t after those `before` is entry t of the others
-pub entry-on : (kind : Kind) (a : ℕ) (sizes before refs : List ℕ) (n t : ℕ) → length before ≡ n → t < length refs
-    → entry (runOf kind a sizes (before ++ refs)) (n + t) ≡ getD refs t 0
-entry-on kind a sizes before refs n t at lt =
+pub entry-on : (kind : Kind) (a : ℕ) (sizes warm before refs : List ℕ) (n t : ℕ) → length before ≡ n → t < length refs
+    → entry (runOf kind a sizes warm (before ++ refs)) (n + t) ≡ getD refs t 0
+entry-on kind a sizes warm before refs n t at lt =
     rw (← at) (getD-append-add before refs t (length sizes) ∙ getD-any refs t (length sizes) 0 lt)
 
 -- where the entries below n agree, so does what the pass has after n steps

@@ -8,10 +8,9 @@ use native.Mathlib.Omega.{arith}
 use lib.Dec.{ltb}
 use lib.ListN.{length, set}
 use borrow.Author.Tests.{lt-ltb, le-ltb, ltb-true, ltb-false}
-use native.Mathlib.Nat.{add-zero}
 use Rattle.model.specs.Traces.{Trace, steps, sizeOf, swapOf, overTouches}
 use Rattle.model.specs.Figures.{refCost, refVolume}
-use Rattle.model.proofs.FirstTouches.{none-started}
+use Rattle.model.proofs.FirstTouches.{started}
 use Rattle.model.specs.Sheets.{rowIn, mostSegs, mostRows, mostSteps}
 use Rattle.model.specs.Costs.{unitCost}
 use Rattle.model.specs.declared.Kind.{Kind}
@@ -22,10 +21,11 @@ use Rattle.model.specs.declared.RowFigures.{RowFigures}
 use Rattle.figures.specs.Buckets.{bucketCount}
 use Rattle.model.specs.Sums.{tabulate}
 use Rattle.figures.specs.Rows.{figuresIn, runFigures}
-use Rattle.figures.specs.inner.Sweep.{summed, byKind, rowFrom, noRowFigures, Holds, RowFits, Tallied}
+use Rattle.figures.specs.inner.Sweep.{summed, withStart, byKind, rowFrom, noRowFigures, mostItems, Holds, RowFits, Tallied}
 use Rattle.figures.specs.declared.Bucket.{Bucket}
 use Rattle.figures.specs.declared.Tally.{Tally}
-use Rattle.figures.proofs.Limits.{buckets-hold, ends-hold, cost-within, volume-within, wsocc-within}
+use Rattle.figures.specs.declared.rows.StartSwaps.{StartSwaps}
+use Rattle.figures.proofs.Limits.{buckets-hold, ends-hold, start-holds, cost-within, volume-within, wsocc-within}
 use Rattle.figures.proofs.Sweeps.{bucketBy, all-sums, kept-sums, ends-sums}
 use Rattle.figures.proofs.SweptRows.{allSums, keptSums, endSums, sweep-parts, wsocc-swept, row-swept}
 use Rattle.model.proofs.Tables.{tabulate-eq, tabulate-set}
@@ -82,22 +82,33 @@ module _ (rows : List PriceRow) (T : Trace) (tally : Tally) (given : Tallied row
       go Time = refl
       go Space = refl
 
-  -- what the sweep has at row r: the row, Q and V, all buckets and those up to it, added
+  -- all buckets added, with the swap costs of the start set
+  abbrev pub allFrom : Bucket
+  allFrom =
+      withStart (started T (λ i. swapOf T i)) (started T (λ i. swapOf T i * sizeOf T i)) (summed (tally .buckets) bucketCount)
+
+  pub all-fits : Holds mostItems allFrom
+  all-fits = start-holds T (given .run-ok) (summed (tally .buckets) bucketCount) (tallied-buckets bucketCount (omega arith))
+
+  -- the same as the code makes it
+  pub tallied-all : {b : Bucket} {start : StartSwaps} → b ≡ summed (tally .buckets) bucketCount
+      → start ≡ record { swap = started T (λ i. swapOf T i); swapz = started T (λ i. swapOf T i * sizeOf T i) }
+      → withStart (start .swap) (start .swapz) b ≡ allFrom
+  tallied-all e s = rw (e, s) refl
+
+  -- what the sweep has at row r: the row, Q and V, all buckets with the start set and those up to the row, added
   pub record SweptTo (r : ℕ) (row : PriceRow) (cost volume : ℕ) (all kept ends : Bucket) : Type 0 where
     pub row-is : row ≡ rowIn rows r
     pub cost-is : cost ≡ refCost T
     pub volume-is : volume ≡ refVolume T
-    pub all-is : all ≡ summed (tally .buckets) bucketCount
+    pub all-is : all ≡ allFrom
     pub kept-is : kept ≡ summed (tally .buckets) (suc r)
     pub ends-is : ends ≡ summed (tally .ends) (suc r)
 
-  module _ (fresh : (i : ℕ) → T .start i ≡ false) (r : ℕ) (lt : r < length rows) {row : PriceRow} {cost volume : ℕ} {all kept ends : Bucket}
+  module _ (r : ℕ) (lt : r < length rows) {row : PriceRow} {cost volume : ℕ} {all kept ends : Bucket}
       (at : SweptTo r row cost volume all kept ends) where
-    -- with an empty start set all sums are those of the touches
     all-are : all ≡ allSums T (rowIn rows r)
-    all-are =
-        at .all-is ∙ tallied-sums
-        ∙ rw (none-started T (λ i. swapOf T i) fresh, none-started T (λ i. swapOf T i * sizeOf T i) fresh) (simp add-zero)
+    all-are = at .all-is ∙ rw tallied-sums refl
 
     kept-are : kept ≡ keptSums T (rowIn rows r)
     kept-are = at .kept-is ∙ rw (given .is-tally) (kept-sums rows (given .rows-ok) T r lt)
@@ -113,7 +124,7 @@ module _ (rows : List PriceRow) (T : Trace) (tally : Tally) (given : Tallied row
         let within : suc r ≤ bucketCount = omega (arith, up .rows-within) in
         rw (at .row-is, at .cost-is, at .volume-is)
         (record {
-          all-holds = rw (at .all-is) (tallied-buckets bucketCount (omega arith));
+          all-holds = rw (at .all-is) all-fits;
           kept-holds = rw (at .kept-is) (tallied-buckets (suc r) within);
           ends-holds = rw (at .ends-is) (tallied-ends (suc r) within);
           parts = rw (all-are, kept-are, ends-are) (sweep-parts T (rowIn rows r));

@@ -1,5 +1,6 @@
--- The 65 buckets: one per row and the last, which the single pass fills. Each reuse goes to the first row that keeps it; a reuse that
--- no row keeps, and each first touch (with retention 0), goes to the last bucket. End intervals are counted apart. Assumes nothing.
+-- The 65 buckets: one per row and the last, which the single pass fills. Each reuse, the first touch of a warm segment among them, goes to
+-- the first row that keeps it; a reuse that no row keeps, and each other first touch (with retention 0), goes to the last bucket. End
+-- intervals are counted apart. Assumes nothing.
 use Prim.Native.Nat.{ℕ, _*_}
 use mathlib.Core.Bool.{cond}
 use mathlib.Core.List.{List}
@@ -37,7 +38,7 @@ bucketAfter rows T n k =
       swapz = filed rows T n k (λ t i. swapOf T i * sizeOf T i);
     }
 
--- the sum of g i over the first m segments whose end interval goes to bucket k; a never-touched segment has none
+-- the sum of g i over the first m segments whose end interval goes to bucket k; one that never counts as touched has none
 unfoldable pub ended : List PriceRow → Trace → ℕ → ℕ → (ℕ → ℕ) → ℕ
 ended rows T m k g =
     sum m (λ i. cond (isReuse (unreferenced T (steps T) i)) (cond (eqb (bucketOf rows T (steps T) i) k) (g i) 0) 0)

@@ -38,7 +38,7 @@ pub struct Tally {
 impl Tally {
     // How many buckets: one per row, and the last.
     pub const BUCKETS: usize = Sheet::MAX_ROWS + 1;
-    // The last bucket: first touches, and reuses that no row keeps.
+    // The last bucket: first touches of segments that are not warm, and reuses that no row keeps.
     pub const LAST: usize = search::LAST;
 }
 
@@ -50,7 +50,7 @@ pub struct FiguresAnswer {
 
 // The figures of every row of a sheet with this head and these entries, one per step; zeros beyond the rows.
 pub fn figures(head: Head, refs: &[u16]) -> [RowFigures; Sheet::MAX_ROWS]
-    requires { ⌜ (head .segs ≤ mostSegs) × (head .rows ≤ mostRows) ⌝ }
+    requires { ⌜ (head .segs ≤ mostSegs) × (head .rows ≤ mostRows) × (head .warm ≤ mostSegs) ⌝ }
     requires { ⌜ RowsWithin (headValueOf head .rows) × RunWithin (headRun (headValueOf head) (now refs)) ⌝ }
     ensures { λ r. ⌜ r ≡ runFigures (headValueOf head .rows) (headRun (headValueOf head) (now (refs .entry))) ⌝ }
 {
@@ -61,6 +61,9 @@ pub fn figures(head: Head, refs: &[u16]) -> [RowFigures; Sheet::MAX_ROWS]
     let all_sizes = head.sizes;
     let segs = head.segs;
     let sizes = &all_sizes[..segs];
-    let tally = pass::tally(kind, a, prices, rows, sizes, refs);
-    rows::all_rows(kind, a, prices, rows, sizes, refs, tally)
+    let holds = head.holds;
+    let count = head.warm;
+    let warm = &holds[..count];
+    let tally = pass::tally(kind, a, prices, rows, sizes, warm, refs);
+    rows::all_rows(kind, a, prices, rows, sizes, warm, refs, tally)
 }

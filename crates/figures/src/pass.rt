@@ -85,7 +85,7 @@ pub fn add_touch(b: Bucket, x: Touch) -> Bucket
     }
 }
 
-// The bucket with one more end interval; a never-touched segment has none.
+// The bucket with one more end interval; a segment that never counts as touched has none.
 pub fn add_end(b: Bucket, x: Touch) -> Bucket
     requires { ⌜ Within b (2 ^ 61) ⌝ }
     requires { ⌜ Limited x ⌝ }
@@ -162,27 +162,28 @@ pub fn ends(
     buckets
 }
 
-// One pass over the references, then one over the segments for the end intervals.
+// One pass over the references from the warm segments on, then one over the segments for the end intervals.
 pub fn tally(
     kind: Kind,
     a: u8,
     prices: [PriceRow; Sheet::MAX_ROWS],
     rows: usize,
     sizes: &[u16],
+    warm: &[u16],
     refs: &[u16],
 ) -> Tally
-    requires { ⌜ (rows ≤ mostRows) × RowsWithin (take rows prices) × RunWithin (runOf kind a (now sizes) (now refs)) ⌝ }
-    ensures { λ r. ⌜ r ≡ tallyOf (take rows prices) (runOf kind a (now (sizes .entry)) (now (refs .entry))) ⌝ }
+    requires { ⌜ (rows ≤ mostRows) × RowsWithin (take rows prices) × RunWithin (runOf kind a (now sizes) (now warm) (now refs)) ⌝ }
+    ensures { λ r. ⌜ r ≡ tallyOf (take rows prices) (runOf kind a (now (sizes .entry)) (now (warm .entry)) (now (refs .entry))) ⌝ }
 {
     let quotients = search::quotients(a, prices, rows);
     let rates = search::rates(kind, a, sizes);
     let qs = &quotients[..Sheet::MAX_ROWS];
     let of_segments = &rates[..Sheet::MAX_SEGS];
     let empty = empty_buckets();
-    let untouched = model::untouched();
+    let table = model::start_table(warm);
     let start = Passed {
         buckets: empty,
-        last: untouched,
+        last: table,
     };
     let passed = references(kind, a, rows, qs, of_segments, sizes, start, 0, refs);
     let buckets = passed.buckets;

@@ -10,12 +10,15 @@ use model::RowFigures;
 use model::Sheet;
 ghost use mathlib.Core.Path.{_≡_};
 ghost use Prim.Native.Nat.{ℕ, _+_, _*_, _-_, _≤_, _<_, _^_};
-ghost use lib.ListN.{take};
+ghost use mathlib.Core.Bool.{cond};
+ghost use lib.Dec.{eqb};
+ghost use lib.ListN.{length, take};
+ghost use Rattle.model.specs.Costs.{swapCost};
 ghost use Rattle.model.specs.Sheets.{runOf, mostSteps, mostSegs, largestSize, mostRows};
 ghost use Rattle.figures.specs.Buckets.{bucketCount, noBucket};
 ghost use Rattle.figures.specs.Rows.{runFigures};
-ghost use Rattle.figures.specs.inner.Sweep.{added, summed, byKind, wsmemFrom, wsspaceFrom, meanFrom, rowFrom, noRowFigures};
-ghost use Rattle.figures.specs.inner.Sweep.{Holds, KeptWithin, Summable, RowFits, Tallied};
+ghost use Rattle.figures.specs.inner.Sweep.{added, summed, startSwaps, withStart, byKind, wsmemFrom, wsspaceFrom, meanFrom, rowFrom};
+ghost use Rattle.figures.specs.inner.Sweep.{noRowFigures, mostItems, Holds, KeptWithin, Summable, RowFits, Tallied};
 
 // A bucket that holds nothing.
 fn none() -> Bucket
@@ -59,6 +62,60 @@ fn add_up(buckets: [Bucket; Tally::BUCKETS]) -> Bucket
     all
 }
 
+// The swap costs of the warm segments, added, and the same with each multiplied by its size.
+pub struct StartSwaps {
+    pub swap: u64,
+    pub swapz: u64,
+}
+
+// The swap cost of a segment of size z with that mark in the table before step 1: nothing where it is not warm.
+fn start_swap(a: u8, z: u16, mark: u16) -> u64
+    ensures within { λ r. ⌜ r < 2 ^ 25 ⌝ }
+    ensures exact { λ r. ⌜ r ≡ cond (eqb mark 0) (swapCost a z) 0 ⌝ }
+{
+    if mark == 0 {
+        return model::swap_cost(a, z).0;
+    }
+    0
+}
+
+// The swap costs of the warm segments: nothing to look for where there are none.
+pub fn start_swaps(a: u8, sizes: &[u16], warm: &[u16]) -> StartSwaps
+    requires { ⌜ length (now sizes) ≤ mostSegs ⌝ }
+    ensures { λ r. ⌜ r ≡ startSwaps a (now (sizes .entry)) (now (warm .entry)) ⌝ }
+{
+    let mut swap = 0;
+    let mut swapz = 0;
+    if warm.len() == 0 {
+        return StartSwaps { swap, swapz };
+    }
+    let table = model::start_table(warm);
+    let mut i = 0;
+    while i < sizes.len() {
+        let z = sizes[i];
+        let w = start_swap(a, z, table[i]);
+        swap += w;
+        swapz += w * (z as u64);
+        i += 1;
+    }
+    StartSwaps { swap, swapz }
+}
+
+// The sums of all buckets with the swap costs of the warm segments, which are no touches.
+fn with_start(b: Bucket, start: StartSwaps) -> Bucket
+    requires { ⌜ Holds mostItems (withStart (start .swap) (start .swapz) b) ⌝ }
+    ensures { λ r. ⌜ r ≡ withStart (start .swap) (start .swapz) b ⌝ }
+{
+    Bucket {
+        count: b.count,
+        volume: b.volume,
+        retention: b.retention,
+        swap: b.swap + start.swap,
+        retentionz: b.retentionz,
+        swapz: b.swapz + start.swapz,
+    }
+}
+
 // No figures: what the rows beyond the sheet's have.
 fn no_figures() -> [RowFigures; Sheet::MAX_ROWS]
     ensures { λ r. ⌜ r ≡ noRowFigures ⌝ }
@@ -69,7 +126,7 @@ fn no_figures() -> [RowFigures; Sheet::MAX_ROWS]
 
 // The load of some misses and their sizes.
 fn load_of(a: u8, misses: u64, missed: u64) -> LoadUnits
-    requires { ⌜ (misses ≤ mostSteps) × (missed ≤ mostSteps * largestSize) ⌝ }
+    requires { ⌜ (misses ≤ mostItems) × (missed ≤ mostItems * largestSize) ⌝ }
     ensures { λ r. ⌜ r .0 ≡ misses + a * missed ⌝ }
 {
     LoadUnits(misses + (a as u64) * missed)
@@ -97,9 +154,9 @@ fn retained_space(volume: u64, kept: Bucket, ends: Bucket) -> MemoryUnits
     MemoryUnits(volume + kept.retentionz + ends.retentionz)
 }
 
-// The swap costs that the row does not keep. The first touches and the end intervals have the same ones.
+// The swap costs that the row does not keep. The end intervals have those of the first touches and of the warm segments.
 fn removed(all: Bucket, kept: Bucket, ends: Bucket) -> LoadUnits
-    requires { ⌜ Holds mostSteps all × KeptWithin all kept ends ⌝ }
+    requires { ⌜ Holds mostItems all × KeptWithin all kept ends ⌝ }
     ensures { λ r. ⌜ (r .0 ≡ all .swap - kept .swap - ends .swap) × (r .0 < 2 ^ 47) ⌝ }
 {
     LoadUnits(all.swap - kept.swap - ends.swap)
@@ -107,7 +164,7 @@ fn removed(all: Bucket, kept: Bucket, ends: Bucket) -> LoadUnits
 
 // The same with each item multiplied by its size.
 fn removed_space(all: Bucket, kept: Bucket, ends: Bucket) -> LoadUnits
-    requires { ⌜ Holds mostSteps all × KeptWithin all kept ends ⌝ }
+    requires { ⌜ Holds mostItems all × KeptWithin all kept ends ⌝ }
     ensures { λ r. ⌜ (r .0 ≡ all .swapz - kept .swapz - ends .swapz) × (r .0 < 2 ^ 47) ⌝ }
 {
     LoadUnits(all.swapz - kept.swapz - ends.swapz)
@@ -193,24 +250,27 @@ pub fn row_figures(
     }
 }
 
-// The figures of every row from the buckets; zeros beyond the rows. Q and V are sums of all buckets.
+// The figures of every row from the buckets and the warm segments; zeros beyond the rows. Q and V are sums over the touches alone.
 pub fn all_rows(
     kind: Kind,
     a: u8,
     prices: [PriceRow; Sheet::MAX_ROWS],
     rows: usize,
     sizes: &[u16],
+    warm: &[u16],
     refs: &[u16],
     tally: Tally,
 ) -> [RowFigures; Sheet::MAX_ROWS]
-    requires { ⌜ (rows ≤ mostRows) × Tallied (take rows prices) (runOf kind a (now sizes) (now refs)) tally ⌝ }
-    ensures { λ r. ⌜ r ≡ runFigures (take rows prices) (runOf kind a (now (sizes .entry)) (now (refs .entry))) ⌝ }
+    requires { ⌜ (rows ≤ mostRows) × Tallied (take rows prices) (runOf kind a (now sizes) (now warm) (now refs)) tally ⌝ }
+    ensures { λ r. ⌜ r ≡ runFigures (take rows prices) (runOf kind a (now (sizes .entry)) (now (warm .entry)) (now (refs .entry))) ⌝ }
 {
     let steps = refs.len();
     let buckets = tally.buckets;
     let tally_ends = tally.ends;
-    let all = add_up(buckets);
-    let cost = by_kind(kind, all.count, all.volume);
+    let touches = add_up(buckets);
+    let start = start_swaps(a, sizes, warm);
+    let all = with_start(touches, start);
+    let cost = by_kind(kind, touches.count, touches.volume);
     let mut kept = none();
     let mut ends = none();
     let mut out = no_figures();
@@ -220,7 +280,7 @@ pub fn all_rows(
         kept = add(kept, b);
         ends = add(ends, e);
         let row = prices[r];
-        out[r] = row_figures(kind, a, row, steps, cost, all.volume, all, kept, ends);
+        out[r] = row_figures(kind, a, row, steps, cost, touches.volume, all, kept, ends);
     }
     out
 }

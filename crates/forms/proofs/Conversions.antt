@@ -3,7 +3,7 @@ use Prim.Native.Nat.{ℕ, _<_}
 use mathlib.Core.Path.{_≡_, refl, sym, ap, _∙_}
 use mathlib.Core.Logic.{⊎-elim}
 use mathlib.Core.Bool.{Bool, true, false}
-use mathlib.Core.List.{List}
+use mathlib.Core.List.{List, []}
 use native.Mathlib.Omega.{arith}
 use borrow.Author.Tests.{leb-true, leb-false}
 use lib.Dec.{leb}
@@ -32,13 +32,21 @@ pub same-figures : (form : ℕ) (v : SheetValue) (r : ℕ)
     ≡ rowFigures (traceOf v) (rowAt v r .h) (rowAt v r .d)
 same-figures form v r = refl
 
--- ---- a valid sheet stays valid
+-- ---- a valid sheet without warm segments stays valid
 
-module _ (v : SheetValue) (c : Valid v) where
+module _ (v : SheetValue) (c : Valid v) (w : v .head .warm ≡ []) where
   -- in form 2
   pub valid-in-2 : Valid (inForm 2 v)
   valid-in-2 =
-      record { some-form = omega arith; form-within = omega arith; rows = c .rows; run = c .run; whole = λ e. absurd (omega (arith, e)) }
+      record {
+        some-form = omega arith;
+        form-within = omega arith;
+        rows = c .rows;
+        run = c .run;
+        whole = λ e. absurd (omega (arith, e));
+        warm = c .warm;
+        cold = λ _. w;
+      }
 
   -- in form 1, where no step is idle
   pub valid-in-1 : hasIdle v ≡ false → Valid (inForm 1 v)
@@ -49,12 +57,14 @@ module _ (v : SheetValue) (c : Valid v) where
         rows = c .rows;
         run = c .run;
         whole = λ e t l. ⊎-elim (λ m. m) (λ i. absurd (none-idle (v .refs) t (length (v .head .sizes)) n l i)) (c .run .entry-within t l);
+        warm = c .warm;
+        cold = λ _. w;
       }
 
-  -- a sheet of form 1 has no idle step
-  pub whole-in-1 : v .form ≡ 1 → hasIdle v ≡ false
-  whole-in-1 e =
-      idle-none (v .refs) (length (v .head .sizes)) (λ t l i. omega (arith, c .whole e t l, i, c .run .segs-within))
+-- a sheet of form 1 has no idle step
+pub whole-in-1 : (v : SheetValue) → Valid v → v .form ≡ 1 → hasIdle v ≡ false
+whole-in-1 v c e =
+    idle-none (v .refs) (length (v .head .sizes)) (λ t l i. omega (arith, c .whole e t l, i, c .run .segs-within))
 
 -- ---- when 17 is given
 
@@ -97,7 +107,7 @@ pub there-and-back : (s : List ℕ) (v : SheetValue) → readForms 1 1 s ≡ acc
 there-and-back s v e =
     let c = accepted-valid 1 1 (omega arith) s v e in
     let one = form-1 s v e in (
-      written-then-read 2 2 (inForm 2 v) (omega arith) (omega arith) (valid-in-2 v c),
+      written-then-read 2 2 (inForm 2 v) (omega arith) (omega arith) (valid-in-2 v c (c .cold (omega (arith, one)))),
       rw (whole-in-1 v c one) (ap gives (ap sheetText (in-and-back 1 2 v one) ∙ read-then-written 1 1 s v e)),
     )
 
@@ -105,7 +115,8 @@ there-and-back s v e =
 pub back-and-there : (s : List ℕ) (v : SheetValue) → readForms 2 2 s ≡ accepted v → hasIdle v ≡ false
     → (readForms 1 1 (sheetText (inForm 1 v)) ≡ accepted (inForm 1 v)) × (toForm2 (inForm 1 v) ≡ gives s)
 back-and-there s v e n =
-    let c = accepted-valid 2 2 (omega arith) s v e in (
-      written-then-read 1 1 (inForm 1 v) (omega arith) (omega arith) (valid-in-1 v c n),
-      ap gives (ap sheetText (in-and-back 2 1 v (form-2 s v e)) ∙ read-then-written 2 2 s v e),
+    let c = accepted-valid 2 2 (omega arith) s v e in
+    let two = form-2 s v e in (
+      written-then-read 1 1 (inForm 1 v) (omega arith) (omega arith) (valid-in-1 v c (c .cold (omega (arith, two))) n),
+      ap gives (ap sheetText (in-and-back 2 1 v two) ∙ read-then-written 2 2 s v e),
     )

@@ -1,7 +1,7 @@
 -- The misses simulated for each number of frames in turn: the start of the list, one number more, and its end. Assumes nothing.
 use Prim.Native.Nat.{ℕ, suc, _+_, _≤_, _<_}
 use mathlib.Core.Path.{_≡_, refl, ap, _∙_}
-use mathlib.Core.List.{List, _++_}
+use mathlib.Core.List.{List, [], _++_}
 use native.Mathlib.Numerals.{add-one}
 use native.Mathlib.Omega.{arith}
 use lib.ListN.{length, drop, set, length-set}
@@ -39,4 +39,4 @@ module _ (sizes refs place : List ℕ) (room : length sizes ≤ length place) wh
     pub filled-end : length sizes ≤ k → EveryRun sizes refs (λ U. BySimulation U place place')
     filled-end done kind a =
         rw (v .place-is, front-end (length sizes) (λ j. lruSimulated (touchesOf sizes refs) (suc j)) place room k (v .within) done)
-        (ap (λ (q : List ℕ). q ++ drop (length sizes) place) (simulated-same (touchesOf sizes refs) (runOf kind a sizes refs) refl refl))
+        (ap (λ (q : List ℕ). q ++ drop (length sizes) place) (simulated-same (touchesOf sizes refs) (runOf kind a sizes [] refs) refl refl))

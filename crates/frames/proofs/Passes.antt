@@ -15,6 +15,7 @@ use Rattle.model.specs.Sums.{sum}
 use Rattle.model.specs.Traces.{Trace, segs, steps, entry, touching}
 use Rattle.model.specs.Values.{zeros}
 use Rattle.model.proofs.Bounds.{product-within}
+use Rattle.model.proofs.LastTouches.{listed-none}
 use Rattle.model.proofs.Lists.{getD-any}
 use Rattle.lru.specs.Orders.{toFront}
 use Rattle.lru.specs.Recency.{recency, distance, lookedIn, entriesLooked}
@@ -70,7 +71,7 @@ module _ (sizes refs : List ℕ) where
   unfolding distance
   looked-room t =
       touches-within T (λ t i. lookedIn (recency T t) (distance T t i)) (length sizes) t
-      (λ t i. omega (arith, looked-within i (recency T t), recency-within T (λ i. refl) t))
+      (λ t i. omega (arith, looked-within i (recency T t), recency-within T listed-none t))
 
   module _ (list : List ℕ) (n : ℕ) (at : List ℕ) (looked t : ℕ) (v : Passed sizes refs list n at looked t)
       (segments : length sizes ≤ mostSegs) (short : length refs ≤ mostSteps) where
@@ -91,7 +92,7 @@ module _ (sizes refs : List ℕ) where
         let all : t ≡ steps T = omega (arith, v .within) in
         record {
           at-are = λ p lt. v .at-are p lt ∙ rw all;
-          first-is = sym size ∙ (length-recency T (λ i. refl) t ∙ rw all);
+          first-is = sym size ∙ (length-recency T listed-none t ∙ rw all);
           looked-is = v .looked-is ∙ rw all;
         }
 
@@ -174,7 +175,7 @@ module _ (sizes refs : List ℕ) where
               few =
                   omega (
                     arith,
-                    rw (← front) at (recency-within T (λ i. refl) (suc t)),
+                    rw (← front) at (recency-within T listed-none (suc t)),
                     length-take-le (suc n) list' (omega (arith, whole, v .few)),
                   );
               at-are = λ q lq. v .at-are q lq ∙ sym (at-next (suc q) ∙ rw (le-ltb p n le) (omega arith));

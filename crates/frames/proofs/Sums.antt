@@ -2,7 +2,7 @@
 use Prim.Native.Nat.{ℕ, zero, suc, _+_, _-_, _*_, _≤_, _<_}
 use mathlib.Core.Path.{_≡_, refl, sym, _∙_}
 use mathlib.Core.Bool.{Bool, true, false, cond}
-use mathlib.Core.List.{List}
+use mathlib.Core.List.{List, []}
 use mathlib.Core.Option.{Option, none, some}
 use native.Mathlib.Omega.{arith}
 use lib.Dec.{eqb, ltb}
@@ -10,6 +10,7 @@ use lib.ListN.{length, getD, set, length-set}
 use borrow.Author.Tests.{lt-ltb, le-ltb, ltb-true, ltb-false, eqb-true, eqb-false}
 use Rattle.model.specs.Sheets.{mostSegs, runOf}
 use Rattle.model.specs.Traces.{Trace, segs, steps, entry, touching}
+use Rattle.model.proofs.LastTouches.{listed-none}
 use Rattle.model.proofs.Sums.{sum-eq, sum-add}
 use Rattle.lru.specs.Recency.{distance, missBeyond, lruMisses, entriesLooked, distinct}
 use Rattle.lru.proofs.Bounds.{misses-distinct, distinct-within, looked-bound}
@@ -80,7 +81,7 @@ module _ (sizes refs place : List ℕ) (room : length sizes ≤ length place) (c
         within = omega arith;
         same-length = refl;
         place-is = back-start (length sizes) (λ j. lruMisses T (suc j)) place room;
-        misses-is = counted .first-is ∙ misses-most T (λ i. refl);
+        misses-is = counted .first-is ∙ misses-most T listed-none;
       }
 
   module _ (few : length sizes ≤ mostSegs) (place' : List ℕ) (misses k : ℕ) (v : Summed sizes refs place place' misses k) where
@@ -118,8 +119,8 @@ module _ (sizes refs place : List ℕ) (room : length sizes ≤ length place) (c
         record {
           place-is = rw (v .place-is, none-left, ← curve-same T U refl refl);
           looked-is = looked;
-          bounded = rw looked (looked-bound U (λ i. refl));
+          bounded = rw looked (looked-bound U listed-none);
         }
       where
         U : Trace
-        U = runOf kind a sizes refs
+        U = runOf kind a sizes [] refs

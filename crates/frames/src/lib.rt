@@ -3,8 +3,10 @@
 pub mod distances;
 pub mod plain;
 
+use model::Refusal;
+use model::Verdict;
 ghost use mathlib.Core.Path.{_≡_};
-ghost use Rattle.frames.specs.Frames.{allOnes};
+ghost use Rattle.frames.specs.Frames.{allOnes, onesVerdict};
 
 // Whether every size is 1.
 pub fn all_ones(sizes: &[u16]) -> bool
@@ -18,4 +20,19 @@ pub fn all_ones(sizes: &[u16]) -> bool
         i += 1;
     }
     true
+}
+
+// Whether every size is 1 and none of the segments is warm: 26, then 27.
+pub fn ones_verdict(sizes: &[u16], warm: usize) -> Verdict
+    ensures { λ r. ⌜ r ≡ onesVerdict (now (sizes .entry)) warm ⌝ }
+{
+    let ones = all_ones(sizes);
+    let cold = warm == 0;
+    if !ones {
+        return Verdict::Refused(Refusal::SizeNotOne);
+    }
+    if !cold {
+        return Verdict::Refused(Refusal::WarmSegment);
+    }
+    Verdict::Accepted
 }

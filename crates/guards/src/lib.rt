@@ -3,22 +3,25 @@
 use figures::Bucket;
 use figures::Tally;
 use figures::pass::Touch;
+use figures::rows::StartSwaps;
 use model::Sheet;
 ghost use mathlib.Core.Path.{_≡_};
 ghost use Prim.Native.Nat.{ℕ, _+_, _≤_, _^_, min};
 ghost use Rattle.figures.specs.Buckets.{bucketCount};
 ghost use Rattle.model.specs.Sheets.{mostSteps, mostSegs};
 ghost use Rattle.figures.specs.inner.Pass.{Limited, Within, Roomy, withTouch};
-ghost use Rattle.figures.specs.inner.Sweep.{added, summed, Holds, KeptWithin};
+ghost use Rattle.figures.specs.inner.Sweep.{added, summed, withStart, mostItems, Holds, KeptWithin};
 ghost use Rattle.guards.specs.inner.Tests.{Tells};
 
 // What a sum holds at most before something is added to it.
 const ROOM: u64 = 1_152_921_504_606_846_976;
 
-// The most steps and segments of a sheet.
+// The most steps and segments of a sheet, and both together: the items of all buckets with those of the warm segments.
 pub const STEPS: u64 = Sheet::MAX_STEPS as u64;
 
 pub const SEGS: u64 = Sheet::MAX_SEGS as u64;
+
+pub const ITEMS: u64 = STEPS + SEGS;
 
 // The largest size of a segment, a number that no retention exceeds, and neither Q nor V, and the largest swap cost; and the last two
 // times the largest size.
@@ -144,9 +147,23 @@ pub fn sum_first(buckets: [Bucket; Tally::BUCKETS], n: usize) -> Bucket
     all
 }
 
+// The sums of all buckets with the swap costs of the warm segments, where both leave room; else as they were.
+pub fn with_start(b: Bucket, start: StartSwaps) -> Bucket
+    ensures { λ r. ⌜ (Holds mostItems (withStart (start .swap) (start .swapz) b) → r ≡ withStart (start .swap) (start .swapz) b) ⌝ }
+{
+    Bucket {
+        count: b.count,
+        volume: b.volume,
+        retention: b.retention,
+        swap: more(b.swap, start.swap),
+        retentionz: b.retentionz,
+        swapz: more(b.swapz, start.swapz),
+    }
+}
+
 // Whether a bucket can be one of n items.
 pub fn holds(b: Bucket, n: u64) -> bool
-    requires { ⌜ n ≤ mostSteps ⌝ }
+    requires { ⌜ n ≤ mostItems ⌝ }
     ensures { λ r. ⌜ Tells r (Holds n b) ⌝ }
 {
     if n < b.count {

@@ -41,6 +41,14 @@ rowsKey = 114 ∷ 111 ∷ 119 ∷ 115 ∷ 61 ∷ []
 abbrev pub rowKey : List ℕ
 rowKey = 114 ∷ 111 ∷ 119 ∷ 61 ∷ []
 
+-- warm=
+abbrev pub warmKey : List ℕ
+warmKey = 119 ∷ 97 ∷ 114 ∷ 109 ∷ 61 ∷ []
+
+-- hold=
+abbrev pub holdKey : List ℕ
+holdKey = 104 ∷ 111 ∷ 108 ∷ 100 ∷ 61 ∷ []
+
 -- steps=
 abbrev pub stepsKey : List ℕ
 stepsKey = 115 ∷ 116 ∷ 101 ∷ 112 ∷ 115 ∷ 61 ∷ []

@@ -6,7 +6,7 @@ use mathlib.Core.Bool.{Bool, true, false, _&&_}
 use mathlib.Core.List.{List, [], _∷_}
 use lib.Dec.{eqb}
 use lib.ListN.{replicate}
-use Rattle.model.specs.Sheets.{runOf}
+use Rattle.model.specs.Sheets.{listed, runOf}
 use Rattle.model.specs.Sums.{sum, tabulate}
 use Rattle.model.specs.Traces.{Trace, steps, touching, refsBy, refsOf, later, unreferenced}
 use Rattle.model.specs.declared.Kind.the-variants.{Time}
@@ -25,7 +25,7 @@ pub record Example : Type 0 where
 -- the run of that many segments of size 1 and these entries of its steps
 abbrev of : ℕ → List ℕ → List ℕ → ℕ → ℕ → ℕ → Example
 of segs refs misses looked segments touches =
-    record { run = runOf Time 0 (replicate segs 1) refs; misses = misses; looked = looked; segments = segments; touches = touches }
+    record { run = runOf Time 0 (replicate segs 1) [] refs; misses = misses; looked = looked; segments = segments; touches = touches }
 
 -- two lists are the same
 same : List ℕ → List ℕ → Bool
@@ -60,5 +60,5 @@ table =
     ∷ []
 
 pub table-holds : allHold table ≡ true
-unfolding allHold same table tabulate sum touching later unreferenced has placeOf without recency distance lruMisses entriesLooked distinct refsBy reloaded memory lruSimulated
+unfolding allHold same table listed tabulate sum touching later unreferenced has placeOf without recency distance lruMisses entriesLooked distinct refsBy reloaded memory lruSimulated
 table-holds = refl

@@ -1,15 +1,18 @@
 -- Unreferenced times by value: at the start, after one step more, and their range. Assumes nothing.
 use Prim.Native.Nat.{ℕ, suc, _+_, _≤_, _<_}
 use mathlib.Core.Path.{_≡_, refl, _∙_}
-use mathlib.Core.Bool.{Bool, true, false}
+use mathlib.Core.Bool.{Bool, true, false, cond, not}
+use mathlib.Core.List.{List}
 use mathlib.Core.Option.{Option, none, some}
 use native.Mathlib.Numerals.{add-one}
 use native.Mathlib.Omega.{arith}
 use lib.Dec.{eqb}
 use lib.ListN.{getD}
-use Rattle.model.specs.Sheets.{SheetValue, traceOf}
+use Rattle.model.specs.LastTouches.{untouchedMark, startTable}
+use Rattle.model.specs.Sheets.{SheetValue, mostSegs, listed, traceOf}
 use Rattle.model.specs.Traces.{Trace, segs, entry, later, unreferenced}
 use Rattle.model.proofs.LastTouches.{unreferenced-within}
+use Rattle.model.proofs.Tables.{getD-tabulate}
 use Rattle.model.proofs.Touches.{touched-entry, unreferenced-none, unreferenced-touched, unreferenced-later}
 use Rattle.model.specs.Values.{valueOf}
 use Rattle.model.specs.declared.Sheet.{Sheet}
@@ -18,9 +21,23 @@ use Rattle.margin.specs.inner.Times.{timeOf, nextTime, HasTouch}
 use Rattle.margin.specs.declared.Unreferenced.{Unreferenced}
 use Rattle.model.proofs.Standing.{segs-counted, entry-of}
 
--- no segment was touched before step 1
-pub time-start : (v : SheetValue) (i : ℕ) → timeOf (unreferenced (traceOf v) 0 i) ≡ timeOf none
-time-start v i = rw (unreferenced-none (traceOf v) i)
+-- before step 1 a warm segment has the time 0, and no other has one
+pub time-start : (v : SheetValue) (i : ℕ) (warm : Bool) → warm ≡ listed (v .head .warm) i
+    → record { reuse = warm; time = 0 } ≡ timeOf (unreferenced (traceOf v) 0 i)
+time-start v i warm same = rw (unreferenced-none (traceOf v) i, same) (go (listed (v .head .warm) i))
+  where
+    go : (b : Bool) → _≡_ {A = Unreferenced} (record { reuse = b; time = 0 }) (timeOf (cond b (some 0) none))
+    go true = refl
+    go false = refl
+
+-- the mark of a segment in the table before step 1 tells whether it is warm
+pub warm-mark : (warm : List ℕ) (i : ℕ) → i < mostSegs → not (eqb (getD (startTable warm) i 0) untouchedMark) ≡ listed warm i
+unfolding startTable
+warm-mark warm i lt = rw (getD-tabulate mostSegs (λ j. cond (listed warm j) 0 untouchedMark) i 0 lt) (go (listed warm i))
+  where
+    go : (b : Bool) → not (eqb (cond b 0 untouchedMark) untouchedMark) ≡ b
+    go true = refl
+    go false = refl
 
 later-time : (o : Option ℕ) → nextTime (timeOf o) false ≡ timeOf (later o)
 unfolding later

@@ -16,7 +16,7 @@ use Rattle.margin.specs.declared.MarginAnswer.{MarginAnswer}
 abbrev pub noMargin : Refusal → MarginAnswer
 noMargin r = record { verdict = Refused r; margin = pos 0 }
 
--- the margin of the touch at place t: 15 where it is a first touch
+-- the margin of the touch at place t: 15 where it is the first touch of a segment that is not warm (F-6)
 unfoldable pub touchMargin : SheetValue → ℕ → ℕ → MarginAnswer
 touchMargin v r t =
     cond (isReuse (unreferenced (traceOf v) t (entry (traceOf v) t)))

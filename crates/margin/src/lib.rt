@@ -7,7 +7,7 @@ ghost use mathlib.Core.Path.{_≡_};
 ghost use mathlib.Core.Bool.{_&&_};
 ghost use Prim.Native.Nat.{_≤_, _<_};
 ghost use lib.Dec.{eqb};
-ghost use Rattle.model.specs.Sheets.{traceOf};
+ghost use Rattle.model.specs.Sheets.{listed, traceOf};
 ghost use Rattle.model.specs.Traces.{entry, unreferenced};
 ghost use Rattle.model.specs.Values.{valueOf};
 ghost use Rattle.model.specs.Standing.{Standing};
@@ -57,14 +57,26 @@ fn next_time(before: Unreferenced, touched: bool) -> Unreferenced
     before
 }
 
-// The unreferenced time, just before the step at place t, of the segment that this step touches.
+// Whether a segment of an accepted sheet is warm: it counts as touched at step 0.
+fn is_warm(s: Sheet, segment: u16) -> bool
+    requires { ⌜ Standing s × (segment < s .head .segs) ⌝ }
+    ensures { λ r. ⌜ r ≡ listed (valueOf s .head .warm) segment ⌝ }
+{
+    let head = s.head;
+    let warm = head.warm;
+    let holds = head.holds;
+    let start = model::start_table(&holds[..warm]);
+    start[segment as usize] != model::UNTOUCHED
+}
+
+// The unreferenced time, just before the step at place t, of the segment that this step touches. That of a warm segment begins at step 0.
 fn unreferenced_time(s: Sheet, t: usize) -> Unreferenced
     requires { ⌜ Standing s × HasTouch s t ⌝ }
     ensures { λ r. ⌜ r ≡ timeOf (unreferenced (traceOf (valueOf s)) t (entry (traceOf (valueOf s)) t)) ⌝ }
 {
     let segment = s.touches[t];
     let mut time = Unreferenced {
-        reuse: false,
+        reuse: is_warm(s, segment),
         time: 0,
     };
     let mut i = 0;
@@ -75,7 +87,7 @@ fn unreferenced_time(s: Sheet, t: usize) -> Unreferenced
     time
 }
 
-// The margin of the touch at place t of an accepted sheet: 15 where it is a first touch.
+// The margin of the touch at place t of an accepted sheet: 15 where it is the first touch of a segment that is not warm.
 fn touch_margin(s: Sheet, row: usize, t: usize) -> MarginAnswer
     requires { ⌜ Standing s × (row < s .head .rows) × HasTouch s t ⌝ }
     ensures { λ r. ⌜ r ≡ touchMargin (valueOf s) row t ⌝ }

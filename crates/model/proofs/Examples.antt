@@ -11,7 +11,7 @@ use Rattle.model.specs.Sums.{sum, tabulate}
 use Rattle.model.specs.Traces.{Trace, entry, touching, later, unreferenced, refsBy, refsOf, refPlace, placeOf}
 use Rattle.model.specs.Figures.{misses, volume, load, optmem, opttotal, optocc, wsmem, wsocc, mean, kept, marginAt, refCost, refVolume, smaller, wsspace}
 use Rattle.model.specs.Schedules.{Permitted, held, scheduleMemory, scheduleLoad, scheduleTotal, optimalSchedule, nextKept, optimalHeld, optimalByte}
-use Rattle.model.specs.Sheets.{idle, runOf}
+use Rattle.model.specs.Sheets.{idle, listed, runOf}
 use Rattle.model.specs.declared.Kind.{Kind}
 use Rattle.model.specs.declared.Kind.the-variants.{Time, Space}
 
@@ -88,41 +88,57 @@ allHold (e ∷ es) = claims (e .run) (e .h) (e .d) (e .gives) && allHold es
 
 -- the run of the listing
 listing : Trace
-listing = runOf Space 1 (1 ∷ 3 ∷ []) (0 ∷ 1 ∷ 0 ∷ 1 ∷ 1 ∷ 0 ∷ [])
+listing = runOf Space 1 (1 ∷ 3 ∷ []) [] (0 ∷ 1 ∷ 0 ∷ 1 ∷ 1 ∷ 0 ∷ [])
 
 -- the reference string of document 002, segments A to E numbered from 0
 paper : Kind → Trace
-paper k = runOf k 0 (1 ∷ 2 ∷ 3 ∷ 4 ∷ 5 ∷ []) (4 ∷ 2 ∷ 1 ∷ 4 ∷ 0 ∷ 1 ∷ 3 ∷ 2 ∷ 3 ∷ 4 ∷ 1 ∷ 2 ∷ 1 ∷ 1 ∷ [])
+paper k = runOf k 0 (1 ∷ 2 ∷ 3 ∷ 4 ∷ 5 ∷ []) [] (4 ∷ 2 ∷ 1 ∷ 4 ∷ 0 ∷ 1 ∷ 3 ∷ 2 ∷ 3 ∷ 4 ∷ 1 ∷ 2 ∷ 1 ∷ 1 ∷ [])
 
 -- two segments, the second of which stays untouched and so has no end interval
 untouched : Trace
-untouched = runOf Space 0 (1 ∷ 1 ∷ []) (0 ∷ 0 ∷ [])
+untouched = runOf Space 0 (1 ∷ 1 ∷ []) [] (0 ∷ 0 ∷ [])
 
 -- one reference with a = 3: load is 1 + 3 × 2
 weighted : Trace
-weighted = runOf Time 3 (2 ∷ []) (0 ∷ [])
+weighted = runOf Time 3 (2 ∷ []) [] (0 ∷ [])
 
 -- wsmem is 3 + 1 and wsocc is 4 + 1, so that the mean is 5,000 / 3
 rounded : Trace
-rounded = runOf Time 0 (1 ∷ 2 ∷ []) (0 ∷ 0 ∷ 1 ∷ [])
+rounded = runOf Time 0 (1 ∷ 2 ∷ []) [] (0 ∷ 0 ∷ 1 ∷ [])
 
 -- segment 0 is touched in steps 1 and 4, segment 1 between
 pub between : Trace
-between = runOf Time 0 (1 ∷ 1 ∷ []) (0 ∷ 1 ∷ 1 ∷ 0 ∷ [])
+between = runOf Time 0 (1 ∷ 1 ∷ []) [] (0 ∷ 1 ∷ 1 ∷ 0 ∷ [])
 
 -- kind time with a > 0 and reuses: w is 2 and 4; the row 1/2 keeps the reuses of steps 3 to 5 (R = 1, 1, 0) and not that of step 6
 -- (R = 2), and segment 1 has an end interval of R = 1. wsocc is 2 × 12 + (2 + 6 + 0 + 2) + 6
 timed : Trace
-timed = runOf Time 1 (1 ∷ 3 ∷ []) (0 ∷ 1 ∷ 0 ∷ 1 ∷ 1 ∷ 0 ∷ [])
+timed = runOf Time 1 (1 ∷ 3 ∷ []) [] (0 ∷ 1 ∷ 0 ∷ 1 ∷ 1 ∷ 0 ∷ [])
 
 -- ten segments of size 1, of which segment 9 stands in the second byte of a step; at the row 1/1 its reuse is kept (R = w = 1)
 distant : Trace
-distant = runOf Time 0 (replicate 10 1) (9 ∷ 0 ∷ 9 ∷ [])
+distant = runOf Time 0 (replicate 10 1) [] (9 ∷ 0 ∷ 9 ∷ [])
 
 -- the listing's run with two steps without a touch, the third and the eighth (F-3): the reuses of segment 0 have R = 2 and 2, those of
 -- segment 1 R = 6 and 0, the end intervals R = 1 and 6, and the mean is over 8 steps
 idling : Trace
-idling = runOf Space 1 (1 ∷ 3 ∷ []) (0 ∷ 1 ∷ idle ∷ 0 ∷ 1 ∷ 1 ∷ 0 ∷ idle ∷ [])
+idling = runOf Space 1 (1 ∷ 3 ∷ []) [] (0 ∷ 1 ∷ idle ∷ 0 ∷ 1 ∷ 1 ∷ 0 ∷ idle ∷ [])
+
+-- the listing's run with segment 1 warm (F-6): its first touch, in step 2, is a reuse with R = 3; the row 1/1 keeps it, the row 1/2 does not
+warmed : Trace
+warmed = runOf Space 1 (1 ∷ 3 ∷ []) (1 ∷ []) (0 ∷ 1 ∷ 0 ∷ 1 ∷ 1 ∷ 0 ∷ [])
+
+-- and with both segments warm: the first touch in step 1 is a reuse with R = 0
+bothWarm : Trace
+bothWarm = runOf Space 1 (1 ∷ 3 ∷ []) (0 ∷ 1 ∷ []) (0 ∷ 1 ∷ 0 ∷ 1 ∷ 1 ∷ 0 ∷ [])
+
+-- a warm segment that is never touched: its end interval runs from step 0, so R = 2 after two steps
+lingering : Trace
+lingering = runOf Space 0 (1 ∷ 1 ∷ []) (1 ∷ []) (0 ∷ 0 ∷ [])
+
+-- a warm segment and no references: nothing after 0 steps, R = 2 after two idle ones, and w is 22
+resting : List ℕ → Trace
+resting refs = runOf Time 3 (7 ∷ 2 ∷ []) (0 ∷ []) refs
 
 -- P1 to P10, then the further ones
 pub table : List Example
@@ -136,7 +152,7 @@ table =
     ∷ at (paper Space) 25 1 (Misses is 5 ∷ Volume is 15 ∷ Optmem is 120 ∷ Wsmem is 175 ∷ [])
     ∷ at (paper Time) 2 1 (Misses is 9 ∷ Volume is 28 ∷ Optocc is 63 ∷ Wsocc is 115 ∷ [])
     ∷ at (paper Time) 5 1 (Misses is 5 ∷ Volume is 15 ∷ Optocc is 120 ∷ Wsocc is 171 ∷ [])
-    ∷ at (runOf Time 3 (7 ∷ 2 ∷ []) []) 5 2 (Misses is 0 ∷ Volume is 0 ∷ Load is 0 ∷ Optmem is 0 ∷ Opttotal is 0 ∷ Optocc is 0 ∷ Wsmem is 0 ∷ Wsocc is 0 ∷ Mean is 0 ∷ [])
+    ∷ at (runOf Time 3 (7 ∷ 2 ∷ []) [] []) 5 2 (Misses is 0 ∷ Volume is 0 ∷ Load is 0 ∷ Optmem is 0 ∷ Opttotal is 0 ∷ Optocc is 0 ∷ Wsmem is 0 ∷ Wsocc is 0 ∷ Mean is 0 ∷ [])
     ∷ at untouched 5 1 (Misses is 1 ∷ Volume is 1 ∷ Load is 1 ∷ Optmem is 2 ∷ Opttotal is 7 ∷ Optocc is 2 ∷ Wsmem is 2 ∷ Wsocc is 2 ∷ Mean is 1000 ∷ [])
     ∷ at weighted 1 1 (Misses is 1 ∷ Volume is 2 ∷ Load is 7 ∷ Optmem is 1 ∷ Opttotal is 8 ∷ Optocc is 2 ∷ Wsmem is 1 ∷ Wsocc is 2 ∷ Mean is 2000 ∷ [])
     ∷ at rounded 1 1 (Misses is 2 ∷ Volume is 3 ∷ Load is 2 ∷ Optmem is 3 ∷ Opttotal is 5 ∷ Optocc is 4 ∷ Wsmem is 4 ∷ Wsocc is 5 ∷ Mean is 1666 ∷ [])
@@ -150,6 +166,18 @@ table =
     ∷ at idling 1 1 (Misses is 3 ∷ Volume is 7 ∷ Load is 10 ∷ Optmem is 16 ∷ Opttotal is 26 ∷ Optocc is 16 ∷ Wsmem is 25 ∷ Wsocc is 25 ∷ Mean is 3125 ∷ [])
     ∷ at idling 1 1 (ScheduleByte 0 is 1 ∷ ScheduleByte 32 is 3 ∷ ScheduleByte 64 is 1 ∷ ScheduleByte 96 is 1 ∷ ScheduleByte 128 is 3 ∷ ScheduleByte 160 is 3 ∷ ScheduleByte 192 is 1 ∷ ScheduleByte 224 is 0 ∷ [])
     ∷ at idling 1 1 (References is 6 ∷ PlaceOf 1 is 0 ∷ PlaceOf 2 is 1 ∷ PlaceOf 3 is 3 ∷ PlaceOf 6 is 6 ∷ [])
+    ∷ at warmed 1 2 (Misses is 4 ∷ Volume is 8 ∷ Load is 12 ∷ Optmem is 13 ∷ Opttotal is 38 ∷ Optocc is 13 ∷ Wsmem is 40 ∷ Wsocc is 40 ∷ Mean is 3333 ∷ [])
+    ∷ at warmed 1 1 (Misses is 1 ∷ Volume is 1 ∷ Load is 2 ∷ Optmem is 21 ∷ Opttotal is 23 ∷ Optocc is 21 ∷ Wsmem is 24 ∷ Wsocc is 24 ∷ Mean is 4000 ∷ [])
+    ∷ at bothWarm 1 2 (Misses is 3 ∷ Volume is 7 ∷ Load is 10 ∷ Optmem is 13 ∷ Opttotal is 36 ∷ Optocc is 13 ∷ Wsmem is 40 ∷ Wsocc is 40 ∷ Mean is 3333 ∷ [])
+    ∷ at bothWarm 1 1 (Misses is 0 ∷ Volume is 0 ∷ Load is 0 ∷ Optmem is 21 ∷ Opttotal is 21 ∷ Optocc is 21 ∷ Wsmem is 24 ∷ Wsocc is 24 ∷ Mean is 4000 ∷ [])
+    ∷ at lingering 5 1 (Misses is 1 ∷ Volume is 1 ∷ Load is 1 ∷ Optmem is 2 ∷ Opttotal is 7 ∷ Optocc is 2 ∷ Wsmem is 4 ∷ Wsocc is 4 ∷ Mean is 2000 ∷ [])
+    ∷ at (resting []) 5 2 (Misses is 0 ∷ Volume is 0 ∷ Load is 0 ∷ Optmem is 0 ∷ Opttotal is 0 ∷ Optocc is 0 ∷ Wsmem is 0 ∷ Wsocc is 0 ∷ Mean is 0 ∷ [])
+    ∷ at (resting (idle ∷ idle ∷ [])) 5 2 (Misses is 0 ∷ Volume is 0 ∷ Load is 0 ∷ Optmem is 0 ∷ Opttotal is 0 ∷ Optocc is 0 ∷ Wsmem is 4 ∷ Wsocc is 28 ∷ Mean is 7000 ∷ [])
+    ∷ at warmed 1 1 (ScheduleByte 0 is 3 ∷ ScheduleByte 32 is 3 ∷ ScheduleByte 64 is 3 ∷ ScheduleByte 96 is 3 ∷ ScheduleByte 128 is 3 ∷ ScheduleByte 160 is 1 ∷ [])
+    ∷ at warmed 1 2 (ScheduleByte 0 is 1 ∷ ScheduleByte 32 is 3 ∷ ScheduleByte 64 is 1 ∷ ScheduleByte 96 is 2 ∷ ScheduleByte 128 is 2 ∷ ScheduleByte 160 is 1 ∷ [])
+    ∷ at warmed 1 1 (MemoryOf (3 ∷ 3 ∷ 3 ∷ 3 ∷ 3 ∷ 1 ∷ []) is 21 ∷ LoadOf (3 ∷ 3 ∷ 3 ∷ 3 ∷ 3 ∷ 1 ∷ []) is 2 ∷ TotalOf (3 ∷ 3 ∷ 3 ∷ 3 ∷ 3 ∷ 1 ∷ []) is 23 ∷ [])
+    ∷ at warmed 1 1 (MarginAbove 1 is 1 ∷ MarginBelow 1 is 0 ∷ [])
+    ∷ at warmed 1 2 (MarginAbove 1 is 0 ∷ MarginBelow 1 is 2 ∷ [])
     ∷ at between 3 1 (Optmem is 6 ∷ Load is 2 ∷ Opttotal is 12 ∷ [])
     ∷ at between 3 1 (MemoryOf (1 ∷ 3 ∷ 3 ∷ 1 ∷ []) is 6 ∷ LoadOf (1 ∷ 3 ∷ 3 ∷ 1 ∷ []) is 2 ∷ TotalOf (1 ∷ 3 ∷ 3 ∷ 1 ∷ []) is 12 ∷ [])
     ∷ at between 3 1 (MemoryOf (1 ∷ 2 ∷ 2 ∷ 1 ∷ []) is 4 ∷ LoadOf (1 ∷ 2 ∷ 2 ∷ 1 ∷ []) is 3 ∷ TotalOf (1 ∷ 2 ∷ 2 ∷ 1 ∷ []) is 13 ∷ [])
@@ -157,7 +185,7 @@ table =
     ∷ []
 
 pub table-holds : allHold table ≡ true
-unfolding allHold claims valueOf bytesOf above below _is_ table listing paper untouched weighted rounded between timed distant idling held scheduleMemory scheduleLoad scheduleTotal misses volume load optmem opttotal optocc wsmem wsocc mean optimalSchedule sum tabulate touching refsBy refPlace later unreferenced kept refCost refVolume smaller wsspace nextKept optimalHeld optimalByte
+unfolding allHold claims valueOf bytesOf above below _is_ table listing paper untouched weighted rounded between timed distant idling warmed bothWarm lingering resting held scheduleMemory scheduleLoad scheduleTotal misses volume load optmem opttotal optocc wsmem wsocc mean optimalSchedule sum tabulate touching refsBy refPlace later unreferenced kept refCost refVolume smaller wsspace nextKept optimalHeld optimalByte listed
 table-holds = refl
 
 -- the last schedule of the table drops segment 0 in step 2 and lets it enter again, untouched, in step 3. It would cost less than the

@@ -2,15 +2,18 @@
 use Prim.Native.Nat.{ℕ, zero, suc, _-_, _≤_, _<_}
 use mathlib.Core.Path.{_≡_, refl, sym, ap, _∙_}
 use mathlib.Core.Bool.{Bool, true, false, cond}
+use mathlib.Core.List.{List, [], _∷_, _++_}
 use mathlib.Core.Option.{Option, none, some}
 use native.Mathlib.Omega.{arith}
-use lib.Dec.{leb}
-use lib.ListN.{length, getD, set}
-use borrow.Author.Tests.{ne-eqb, le-leb, lt-leb}
+use lib.Dec.{eqb, leb}
+use lib.ListN.{length, getD, set, take}
+use lib.Seq.{take-suc}
+use borrow.Author.Tests.{eq-eqb, ne-eqb, le-leb, lt-leb}
 use Rattle.model.specs.Sums.{tabulate}
-use Rattle.model.specs.LastTouches.{untouchedMark, allUntouched, lastFrom, lastTable}
+use Rattle.model.specs.LastTouches.{untouchedMark, startTable, lastFrom, lastTable}
+use Rattle.model.specs.Sheets.{listed, mostSegs}
 use Rattle.model.specs.Traces.{Trace, segs, entry, touched, later, unreferenced}
-use Rattle.model.proofs.Tables.{length-tabulate, getD-tabulate, tabulate-eq, tabulate-const, tabulate-set}
+use Rattle.model.proofs.Tables.{length-tabulate, getD-tabulate, tabulate-eq, tabulate-set}
 use Rattle.model.proofs.Touches.{touched-at, touched-is, idle-touched, unreferenced-none, unreferenced-touched, unreferenced-later}
 
 pub length-lastTable : (T : Trace) (n : ℕ) → length (lastTable T n) ≡ 256
@@ -20,6 +23,42 @@ length-lastTable T n = length-tabulate 256 (λ i. lastFrom n (unreferenced T n i
 pub lastTable-at : (T : Trace) (n i d : ℕ) → i < 256 → getD (lastTable T n) i d ≡ lastFrom n (unreferenced T n i)
 unfolding lastTable
 lastTable-at T n i d lt = getD-tabulate 256 (λ i. lastFrom n (unreferenced T n i)) i d lt
+
+-- no segment is one of none; one more is listed after the others
+pub listed-none : (i : ℕ) → listed [] i ≡ false
+unfolding listed
+listed-none i = refl
+
+pub listed-more : (xs : List ℕ) (x i : ℕ) → listed (xs ++ (x ∷ [])) i ≡ cond (eqb x i) true (listed xs i)
+unfolding listed
+listed-more [] x i = refl
+listed-more (y ∷ ys) x i = rw (listed-more ys x i) (go (eqb y i) (eqb x i) (listed ys i))
+  where
+    go : (b c d : Bool) → cond b true (cond c true d) ≡ cond c true (cond b true d)
+    go true true d = refl
+    go true false d = refl
+    go false true d = refl
+    go false false d = refl
+
+-- the table of warm segments, filled one by one: one more, and one that has no place in it
+module _ (xs : List ℕ) (n : ℕ) (lt : n < length xs) where
+  more : (i : ℕ) → listed (take (suc n) xs) i ≡ cond (eqb (getD xs n 0) i) true (listed (take n xs) i)
+  more i = rw (take-suc xs n 0 lt) (listed-more (take n xs) (getD xs n 0) i)
+
+  pub startTable-more : getD xs n 0 < mostSegs → set (startTable (take n xs)) (getD xs n 0) 0 ≡ startTable (take (suc n) xs)
+  unfolding startTable
+  startTable-more few =
+      let here : cond (listed (take (suc n) xs) (getD xs n 0)) 0 untouchedMark ≡ 0 =
+      rw (more (getD xs n 0), eq-eqb (getD xs n 0) (getD xs n 0) refl) refl in
+      ap (λ (x : ℕ). set (startTable (take n xs)) (getD xs n 0) x) (sym here)
+      ∙ tabulate-set mostSegs (λ i. cond (listed (take n xs) i) 0 untouchedMark) (λ i. cond (listed (take (suc n) xs) i) 0 untouchedMark)
+      (getD xs n 0) few (λ i l other. rw (more i, ne-eqb (getD xs n 0) i (λ same. other (sym same))) refl)
+
+  pub startTable-beyond : mostSegs ≤ getD xs n 0 → startTable (take n xs) ≡ startTable (take (suc n) xs)
+  unfolding startTable
+  startTable-beyond many =
+      tabulate-eq mostSegs (λ i. cond (listed (take n xs) i) 0 untouchedMark) (λ i. cond (listed (take (suc n) xs) i) 0 untouchedMark)
+      (λ i l. rw (more i, ne-eqb (getD xs n 0) i (λ same. absurd (omega arith))) refl)
 
 -- one more step changes what the table holds for no other segment
 pub last-later : (n : ℕ) (o : Option ℕ) → lastFrom (suc n) (later o) ≡ lastFrom n o
@@ -44,11 +83,12 @@ lastTable-from T =
     go true = omega arith
     go false = refl
 
--- so with an empty start set all are
-pub lastTable-start : (T : Trace) → ((i : ℕ) → T .start i ≡ false) → lastTable T 0 ≡ allUntouched
-unfolding allUntouched
-lastTable-start T fresh =
-    lastTable-from T ∙ sym (tabulate-const 256 untouchedMark (λ i. cond (T .start i) 0 untouchedMark) (λ i lt. rw (fresh i)))
+-- so it is the table of the warm segments
+pub startTable-is : (T : Trace) (warm : List ℕ) → ((i : ℕ) → T .start i ≡ listed warm i) → startTable warm ≡ lastTable T 0
+unfolding startTable
+startTable-is T warm same =
+    tabulate-eq mostSegs (λ i. cond (listed warm i) 0 untouchedMark) (λ i. cond (T .start i) 0 untouchedMark) (λ i lt. rw (same i) refl)
+    ∙ sym (lastTable-from T)
 
 -- an unreferenced time is at most the number of steps
 pub unreferenced-within : (T : Trace) (n i k : ℕ) → unreferenced T n i ≡ some k → k ≤ n

@@ -27,3 +27,4 @@ pub mod Tables
 pub mod TariffExamples
 pub mod Touches
 pub mod Values
+pub mod Warm

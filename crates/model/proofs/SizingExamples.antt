@@ -8,7 +8,7 @@ use lib.Dec.{eqb}
 use Rattle.model.specs.Sums.{sum}
 use Rattle.model.specs.Traces.{touching, later, unreferenced}
 use Rattle.model.specs.Figures.{misses, volume, load, optmem, kept, refCost}
-use Rattle.model.specs.Sheets.{SheetValue}
+use Rattle.model.specs.Sheets.{SheetValue, listed}
 use Rattle.model.specs.Sizing.{chosenOf, sizedRow}
 use Rattle.model.specs.declared.Kind.the-variants.{Space}
 use Rattle.model.specs.declared.PriceRow.{PriceRow}
@@ -19,7 +19,7 @@ h over d = record { h = h; d = d }
 
 -- the listing's run, whose ratios R/w are 0, 1/2, 3/4 and 1, or another one of its segments, at these rows
 sheetOf : List ℕ → List PriceRow → SheetValue
-sheetOf refs rows = record { form = 1; head = record { kind = Space; a = 1; sizes = 1 ∷ 3 ∷ []; rows = rows }; refs = refs }
+sheetOf refs rows = record { form = 1; head = record { kind = Space; a = 1; sizes = 1 ∷ 3 ∷ []; rows = rows; warm = [] }; refs = refs }
 
 listing : List PriceRow → SheetValue
 listing rows = sheetOf (0 ∷ 1 ∷ 0 ∷ 1 ∷ 1 ∷ 0 ∷ []) rows
@@ -76,6 +76,6 @@ sizes =
     ∷ []
 
 pub sizes-hold : allGiven sizes ≡ true
-unfolding allGiven same sizes at six three idle unordered listing sheetOf _over_ chosenOf
+unfolding allGiven same sizes at six three idle unordered listing sheetOf _over_ chosenOf listed
     misses volume load optmem sum touching later unreferenced kept refCost
 sizes-hold = refl

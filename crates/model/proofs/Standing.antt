@@ -22,6 +22,10 @@ module _ (s : Sheet) (c : Standing s) where
   unfolding valueOf headValueOf
   rows-counted = length-take-le (s .head .rows) (s .head .prices) (omega arith)
 
+  pub warm-counted : length (valueOf s .head .warm) ≡ s .head .warm
+  unfolding valueOf headValueOf
+  warm-counted = length-take-le (s .head .warm) (s .head .holds) (omega arith)
+
   pub steps-counted : length (valueOf s .refs) ≡ s .steps
   unfolding valueOf
   steps-counted = length-take-le (s .steps) (s .touches) (omega arith)

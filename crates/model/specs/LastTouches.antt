@@ -1,9 +1,9 @@
 -- The table of last touches: for each of 256 segments the number of the step of its last touch, or the mark "untouched". Assumes nothing.
 use Prim.Native.Nat.{ℕ, _-_}
+use mathlib.Core.Bool.{cond}
 use mathlib.Core.List.{List}
 use mathlib.Core.Option.{Option, none, some}
-use lib.ListN.{replicate}
-use Rattle.model.specs.Sheets.{mostSegs}
+use Rattle.model.specs.Sheets.{mostSegs, listed}
 use Rattle.model.specs.Sums.{tabulate}
 use Rattle.model.specs.Traces.{Trace, unreferenced}
 
@@ -11,9 +11,9 @@ use Rattle.model.specs.Traces.{Trace, unreferenced}
 abbrev pub untouchedMark : ℕ
 untouchedMark = 65535
 
--- the table before step 1, where no segment counts as touched
-unfoldable pub allUntouched : List ℕ
-allUntouched = replicate mostSegs untouchedMark
+-- the table before step 1: a warm segment counts as touched at step 0, no other does
+unfoldable pub startTable : List ℕ → List ℕ
+startTable warm = tabulate mostSegs (λ i. cond (listed warm i) 0 untouchedMark)
 
 -- what the table holds after n steps for a segment with this unreferenced time
 abbrev pub lastFrom : ℕ → Option ℕ → ℕ

@@ -2,8 +2,8 @@
 use Prim.Native.Nat.{ℕ, suc, _*_, _≤_, _<_}
 use mathlib.Core.Path.{_≡_}
 use mathlib.Core.Logic.{_⊎_}
-use mathlib.Core.Bool.{false, cond}
-use mathlib.Core.List.{List}
+use mathlib.Core.Bool.{Bool, true, false, cond}
+use mathlib.Core.List.{List, [], _∷_}
 use lib.ListN.{length, getD}
 use lib.Dec.{eqb}
 use Rattle.model.specs.Traces.{Trace, segs, steps, sizeOf, entry}
@@ -11,12 +11,13 @@ use Rattle.model.specs.Figures.{optmem, load}
 use Rattle.model.specs.declared.Kind.{Kind}
 use Rattle.model.specs.declared.PriceRow.{PriceRow}
 
--- the head of a sheet: kind, a, the sizes and the rows
+-- the head of a sheet: kind, a, the sizes, the rows, and the warm segments, which are loaded before step 1 (request F-6)
 pub record HeadValue : Type 0 where
   pub kind : Kind
   pub a : ℕ
   pub sizes : List ℕ
   pub rows : List PriceRow
+  pub warm : List ℕ
 
 -- a sheet's value: its form, its head and the entry of each step, a segment or `idle` (request F-3). Every step of a sheet of form 1 has a touch
 pub record SheetValue : Type 0 where
@@ -30,11 +31,11 @@ idle = 65535
 
 -- the newest form of a sheet
 abbrev pub newestForm : ℕ
-newestForm = 2
+newestForm = 3
 
 -- the limits: the most bytes by the form, the largest a, the most segments, the largest size, the most rows, the largest price, the most steps
 abbrev pub formBytes : ℕ → ℕ
-formBytes form = cond (eqb form 2) 29163 20012
+formBytes form = cond (eqb form 2) 29163 (cond (eqb form 3) 31366 20012)
 
 abbrev pub largestA : ℕ
 largestA = 255
@@ -54,13 +55,19 @@ largestPrice = 65535
 abbrev pub mostSteps : ℕ
 mostSteps = 2048
 
--- the run of a kind, a weight a, sizes and references: no segment counts as touched or held before step 1
-abbrev pub runOf : Kind → ℕ → List ℕ → List ℕ → Trace
-runOf kind a sizes refs = record { kind = kind; a = a; sizes = sizes; start = λ i. false; refs = refs }
+-- segment i is one of those listed
+unfoldable pub listed : List ℕ → ℕ → Bool
+listed [] i = false
+listed (x ∷ xs) i = cond (eqb x i) true (listed xs i)
+
+-- the run of a kind, a weight a, sizes, warm segments and references: a warm segment counts as touched and held at step 0 without cost
+-- (F-6, in place of document 01's empty memory)
+abbrev pub runOf : Kind → ℕ → List ℕ → List ℕ → List ℕ → Trace
+runOf kind a sizes warm refs = record { kind = kind; a = a; sizes = sizes; start = listed warm; refs = refs }
 
 -- the run of a head and the entry of each step
 abbrev pub headRun : HeadValue → List ℕ → Trace
-headRun head refs = runOf (head .kind) (head .a) (head .sizes) refs
+headRun head refs = runOf (head .kind) (head .a) (head .sizes) (head .warm) refs
 
 -- the run that a sheet records
 abbrev pub traceOf : SheetValue → Trace
@@ -96,13 +103,21 @@ pub record RunWithin (T : Trace) : Type 0 where
   pub steps-within : steps T ≤ mostSteps
   pub entry-within : (t : ℕ) → t < steps T → (entry T t < segs T) ⊎ (entry T t ≡ idle)
 
--- a sheet's value within the limits: its form is known, its rows, its run, and a sheet of form 1 has a touch in every step
+-- warm segments of n segments: their numbers ascend
+pub record WarmWithin (n : ℕ) (warm : List ℕ) : Type 0 where
+  pub below : (k : ℕ) → k < length warm → getD warm k 0 < n
+  pub ascending : (k : ℕ) → suc k < length warm → getD warm k 0 < getD warm (suc k) 0
+
+-- a sheet's value within the limits: its form is known, its rows, its run, a sheet of form 1 has a touch in every step, and its warm
+-- segments, of which forms 1 and 2 have none
 pub record Valid (s : SheetValue) : Type 0 where
   pub some-form : 1 ≤ s .form
   pub form-within : s .form ≤ newestForm
   pub rows : RowsWithin (s .head .rows)
   pub run : RunWithin (traceOf s)
   pub whole : s .form ≡ 1 → (t : ℕ) → t < length (s .refs) → entry (traceOf s) t < length (s .head .sizes)
+  pub warm : WarmWithin (length (s .head .sizes)) (s .head .warm)
+  pub cold : s .form ≤ 2 → s .head .warm ≡ []
 
 -- optmem and load of row r of a sheet
 abbrev pub rowOptmem : SheetValue → ℕ → ℕ

@@ -11,7 +11,9 @@ pub record Standing (s : Sheet) : Type 0 where
   pub valid : Valid (valueOf s)
   pub segs-within : s .head .segs ≤ mostSegs
   pub rows-within : s .head .rows ≤ mostRows
+  pub warm-within : s .head .warm ≤ mostSegs
   pub steps-within : s .steps ≤ mostSteps
   pub sizes-whole : length (s .head .sizes) ≡ mostSegs
   pub prices-whole : length (s .head .prices) ≡ mostRows
+  pub holds-whole : length (s .head .holds) ≡ mostSegs
   pub touches-whole : length (s .touches) ≡ mostSteps

@@ -16,6 +16,7 @@ sheetLimits =
       form = newestForm;
       bytes = formBytes 1;
       «bytes_2» = formBytes 2;
+      «bytes_3» = formBytes 3;
       a = largestA;
       segs = mostSegs;
       size = largestSize;
@@ -49,12 +50,20 @@ headOf v =
       sizes = padded (v .sizes) (zeros mostSegs);
       rows = length (v .rows);
       prices = padded (v .rows) (zeroRows mostRows);
+      warm = length (v .warm);
+      holds = padded (v .warm) (zeros mostSegs);
     }
 
--- the value of a head: as many sizes and rows as it counts
+-- the value of a head: as many sizes, rows and warm segments as it counts
 unfoldable pub headValueOf : Head → HeadValue
 headValueOf h =
-    record { kind = h .kind; a = h .a; sizes = take (h .segs) (h .sizes); rows = take (h .rows) (h .prices) }
+    record {
+      kind = h .kind;
+      a = h .a;
+      sizes = take (h .segs) (h .sizes);
+      rows = take (h .rows) (h .prices);
+      warm = take (h .warm) (h .holds);
+    }
 
 -- the sheet with a value: its entries at the front of idle ones
 unfoldable pub sheetOf : SheetValue → Sheet
@@ -65,10 +74,19 @@ sheetOf v =
 unfoldable pub valueOf : Sheet → SheetValue
 valueOf s = record { form = s .form; head = headValueOf (s .head); refs = take (s .steps) (s .touches) }
 
--- no segments and no rows
+-- no segments, no rows, no warm segments
 unfoldable pub emptyHead : Head
 emptyHead =
-    record { kind = Time; a = 0; segs = 0; sizes = zeros mostSegs; rows = 0; prices = zeroRows mostRows }
+    record {
+      kind = Time;
+      a = 0;
+      segs = 0;
+      sizes = zeros mostSegs;
+      rows = 0;
+      prices = zeroRows mostRows;
+      warm = 0;
+      holds = zeros mostSegs;
+    }
 
 -- form 0, which no sheet has, no segments, no rows, no steps
 unfoldable pub emptySheet : Sheet

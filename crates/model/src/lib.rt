@@ -3,9 +3,10 @@
 pub mod tariff;
 
 ghost use mathlib.Core.Path.{_≡_};
+ghost use mathlib.Core.List.{[]};
 ghost use Prim.Native.Nat.{_+_, _*_, _<_, _^_};
 ghost use Rattle.model.specs.Costs.{swapCost, unitCost, retention, keeps, totalCost, marginOf};
-ghost use Rattle.model.specs.LastTouches.{allUntouched};
+ghost use Rattle.model.specs.LastTouches.{startTable};
 ghost use Rattle.model.specs.Places.{nothingPlaced};
 ghost use Rattle.model.specs.Rows.{zeroFigures};
 ghost use Rattle.model.specs.Refusals.{numberOf, verdictNumber};
@@ -29,7 +30,7 @@ pub struct PriceRow {
     pub d: u16,
 }
 
-// The head of a sheet: kind, a, the first `segs` sizes and the first `rows` price rows.
+// The head of a sheet: kind, a, the first `segs` sizes, the first `rows` price rows and the first `warm` of `holds`, the warm segments.
 // In a head that was read, what stands beyond the counts is 0.
 pub struct Head {
     pub kind: Kind,
@@ -38,6 +39,8 @@ pub struct Head {
     pub sizes: [u16; Sheet::MAX_SEGS],
     pub rows: usize,
     pub prices: [PriceRow; Sheet::MAX_ROWS],
+    pub warm: usize,
+    pub holds: [u16; Sheet::MAX_SEGS],
 }
 
 // A sheet by value: its form, its head and, for each of the first `steps` steps, the segment that it touches or `Sheet::IDLE`. In a sheet
@@ -54,6 +57,7 @@ pub struct SheetLimits {
     pub form: u8,
     pub bytes: usize,
     pub bytes_2: usize,
+    pub bytes_3: usize,
     pub a: u32,
     pub segs: usize,
     pub size: u32,
@@ -65,11 +69,13 @@ pub struct SheetLimits {
 
 impl Sheet {
     // The newest form.
-    pub const NEWEST_FORM: u8 = 2;
-    // The most bytes of a sheet of form 1, and of form 2.
+    pub const NEWEST_FORM: u8 = 3;
+    // The most bytes of a sheet of form 1, of form 2 and of form 3.
     pub const MAX_BYTES: usize = 20_012;
 
     pub const MAX_BYTES_2: usize = 29_163;
+
+    pub const MAX_BYTES_3: usize = 31_366;
     // The largest weight of volume a.
     pub const MAX_A: u32 = 255;
     // The most segments.
@@ -93,6 +99,7 @@ impl Sheet {
             form: Sheet::NEWEST_FORM,
             bytes: Sheet::MAX_BYTES,
             bytes_2: Sheet::MAX_BYTES_2,
+            bytes_3: Sheet::MAX_BYTES_3,
             a: Sheet::MAX_A,
             segs: Sheet::MAX_SEGS,
             size: Sheet::MAX_SIZE,
@@ -117,7 +124,7 @@ impl Sheet {
 }
 
 impl Head {
-    // The head that a refusal hands back: no segments, no rows.
+    // The head that a refusal hands back: no segments, no rows, no warm segments.
     pub fn empty() -> Head
         ensures { λ r. ⌜ r ≡ emptyHead ⌝ }
     {
@@ -128,6 +135,8 @@ impl Head {
             sizes: [0u16; Sheet::MAX_SEGS],
             rows: 0,
             prices: [PriceRow { h: 0, d: 0 }; Sheet::MAX_ROWS],
+            warm: 0,
+            holds: [0u16; Sheet::MAX_SEGS],
         }
     }
 }
@@ -283,11 +292,27 @@ pub fn swap_cost(a: u8, z: u16) -> LoadUnits
 // The mark of a segment that was not touched yet, in a table of last touches. It is past every step.
 pub const UNTOUCHED: u16 = 65_535;
 
-// The table of last touches before step 1: every segment is untouched.
-pub fn untouched() -> [u16; Sheet::MAX_SEGS]
-    ensures { λ r. ⌜ r ≡ allUntouched ⌝ }
+// The table of last touches before step 1 where no segment is warm.
+fn untouched() -> [u16; Sheet::MAX_SEGS]
+    ensures { λ r. ⌜ r ≡ startTable [] ⌝ }
 {
     [UNTOUCHED; Sheet::MAX_SEGS]
+}
+
+// The table of last touches before step 1: 0 for each warm segment, and every other is untouched.
+pub fn start_table(warm: &[u16]) -> [u16; Sheet::MAX_SEGS]
+    ensures { λ r. ⌜ r ≡ startTable (now (warm .entry)) ⌝ }
+{
+    let mut last = untouched();
+    let mut n = 0;
+    while n < warm.len() {
+        let i = warm[n] as usize;
+        if i < Sheet::MAX_SEGS {
+            last[i] = 0;
+        }
+        n += 1;
+    }
+    last
 }
 
 // What one step of a segment of size z in memory costs, in memory units.

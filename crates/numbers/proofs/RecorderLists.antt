@@ -27,17 +27,17 @@ use Rattle.numbers.specs.inner.Stored.{HeadStored, TakenStored}
 use Rattle.numbers.proofs.RecorderSums.{sums-whole}
 
 -- lists in which all of a recorder was stored are its lists
-pub all-stored : (R : Recorder) (head counts sizes h d last sums : List ℕ) → HeadStored R head sizes h d → TakenStored R counts last sums
-    → lists head counts sizes h d last sums ≡ listsOf R
+pub all-stored : (R : Recorder) (head counts sizes holds h d last sums : List ℕ) → HeadStored R head sizes holds h d → TakenStored R counts last sums
+    → lists head counts sizes holds h d last sums ≡ listsOf R
 unfolding listsOf
-all-stored R head counts sizes h d last sums s t =
-    rw (s .head-is, s .sizes-are, s .h-are, s .d-are, t .counts-are, t .last-is, t .sums-are) refl
+all-stored R head counts sizes holds h d last sums s t =
+    rw (s .head-is, s .sizes-are, s .holds-are, s .h-are, s .d-are, t .counts-are, t .last-is, t .sums-are) refl
 
 -- and where only what it has taken was stored, the others stay
-pub taken-stored : (R : Recorder) (head counts sizes h d last sums counts' last' sums' : List ℕ) → TakenStored R counts' last' sums'
-    → lists head counts' sizes h d last' sums' ≡ withTaken (lists head counts sizes h d last sums) R
+pub taken-stored : (R : Recorder) (head counts sizes holds h d last sums counts' last' sums' : List ℕ) → TakenStored R counts' last' sums'
+    → lists head counts' sizes holds h d last' sums' ≡ withTaken (lists head counts sizes holds h d last sums) R
 unfolding withTaken
-taken-stored R head counts sizes h d last sums counts' last' sums' t = rw (t .counts-are, t .last-is, t .sums-are) refl
+taken-stored R head counts sizes holds h d last sums counts' last' sums' t = rw (t .counts-are, t .last-is, t .sums-are) refl
 
 -- the rows of the prices of rows
 rows-again : (rows : List PriceRow) → rowsOf (map (λ q. q .h) rows) (map (λ q. q .d) rows) ≡ rows
@@ -103,29 +103,29 @@ unfolding idleCounts
 counts-stay counts why f = rw (le-ltb (getD counts 0 0) mostSteps (step-full (getD counts 0 0) why f)) refl
 
 -- so the lists in which only the counts change are those after an idle step of the recorder that they hold
-pub record Idled (head counts sizes h d last sums : List ℕ) (w : Verdict) : Type 0 where
+pub record Idled (head counts sizes holds h d last sums : List ℕ) (w : Verdict) : Type 0 where
   pub answer : TouchAnswer
-  pub answered : Rested (recorderIn (lists head counts sizes h d last sums)) answer
+  pub answered : Rested (recorderIn (lists head counts sizes holds h d last sums)) answer
   pub verdict-is : answer .verdict ≡ w
   pub taken : w ≡ Accepted
-      → lists head (idleCounts counts) sizes h d last sums ≡ withTaken (lists head counts sizes h d last sums) (answer .recorder)
+      → lists head (idleCounts counts) sizes holds h d last sums ≡ withTaken (lists head counts sizes holds h d last sums) (answer .recorder)
   pub unchanged : (why : Refusal) → w ≡ Refused why → idleCounts counts ≡ counts
 
-pub idled : (head counts sizes h d last sums : List ℕ) → length sums ≡ 390 → (w : Verdict) → w ≡ stepVerdict (getD counts 0 0)
-    → Idled head counts sizes h d last sums w
+pub idled : (head counts sizes holds h d last sums : List ℕ) → length sums ≡ 390 → (w : Verdict) → w ≡ stepVerdict (getD counts 0 0)
+    → Idled head counts sizes holds h d last sums w
 unfolding recorderIn withTaken listsOf
-idled head counts sizes h d last sums long Accepted is =
+idled head counts sizes holds h d last sums long Accepted is =
     record {
-      answer = record { verdict = Accepted; recorder = withStep (recorderIn (lists head counts sizes h d last sums)) };
-      answered = idle-accepted (recorderIn (lists head counts sizes h d last sums)) (sym is);
+      answer = record { verdict = Accepted; recorder = withStep (recorderIn (lists head counts sizes holds h d last sums)) };
+      answered = idle-accepted (recorderIn (lists head counts sizes holds h d last sums)) (sym is);
       verdict-is = refl;
       taken = λ a. rw (← counts-more counts (sym is), sums-whole sums long) refl;
       unchanged = λ why f. sym (counts-stay counts why (sym is ∙ f));
     }
-idled head counts sizes h d last sums long (Refused why) is =
+idled head counts sizes holds h d last sums long (Refused why) is =
     record {
-      answer = record { verdict = Refused why; recorder = recorderIn (lists head counts sizes h d last sums) };
-      answered = idle-refused (recorderIn (lists head counts sizes h d last sums)) why (sym is);
+      answer = record { verdict = Refused why; recorder = recorderIn (lists head counts sizes holds h d last sums) };
+      answered = idle-refused (recorderIn (lists head counts sizes holds h d last sums)) why (sym is);
       verdict-is = refl;
       taken = λ a. refused-accepted why a;
       unchanged = λ other f. sym (counts-stay counts other (sym is ∙ f));

@@ -40,15 +40,16 @@ pub record RecorderLists : Type 0 where
   pub head : List ℕ
   pub counts : List ℕ
   pub sizes : List ℕ
+  pub holds : List ℕ
   pub h : List ℕ
   pub d : List ℕ
   pub last : List ℕ
   pub sums : List ℕ
 
 -- the same from the lists
-abbrev pub lists : (head counts sizes h d last sums : List ℕ) → RecorderLists
-lists head counts sizes h d last sums =
-    record { head = head; counts = counts; sizes = sizes; h = h; d = d; last = last; sums = sums }
+abbrev pub lists : (head counts sizes holds h d last sums : List ℕ) → RecorderLists
+lists head counts sizes holds h d last sums =
+    record { head = head; counts = counts; sizes = sizes; holds = holds; h = h; d = d; last = last; sums = sums }
 
 -- the recorder that they hold, whatever the numbers are; a is cut off at 255
 unfoldable pub recorderIn : RecorderLists → Recorder
@@ -62,6 +63,8 @@ recorderIn l =
             sizes = l .sizes;
             rows = getD (l .head) 3 0;
             prices = rowsOf (l .h) (l .d);
+            warm = getD (l .head) 4 0;
+            holds = l .holds;
           };
       steps = getD (l .counts) 0 0;
       last = l .last;
@@ -80,13 +83,14 @@ unfoldable pub sumsOf : List Bucket → List ℕ
 sumsOf [] = []
 sumsOf (b ∷ bs) = b .count ∷ b .volume ∷ b .retention ∷ b .swap ∷ b .retentionz ∷ b .swapz ∷ sumsOf bs
 
--- the lists of a recorder: kind, a, segs and rows; steps, Q and V; sizes; prices; last touches; sums
+-- the lists of a recorder: kind, a, segs, rows and warm; steps, Q and V; sizes; warm segments; prices; last touches; sums
 unfoldable pub listsOf : Recorder → RecorderLists
 listsOf R =
     record {
-      head = kindNumber (R .head .kind) ∷ R .head .a ∷ R .head .segs ∷ R .head .rows ∷ [];
+      head = kindNumber (R .head .kind) ∷ R .head .a ∷ R .head .segs ∷ R .head .rows ∷ R .head .warm ∷ [];
       counts = R .steps ∷ R .cost ∷ R .volume ∷ [];
       sizes = R .head .sizes;
+      holds = R .head .holds;
       h = map (λ q. q .h) (R .head .prices);
       d = map (λ q. q .d) (R .head .prices);
       last = R .last;
@@ -96,7 +100,7 @@ listsOf R =
 -- lists with what a recorder has taken: its steps, Q and V, last touches and sums; the others stay
 unfoldable pub withTaken : RecorderLists → Recorder → RecorderLists
 withTaken l R =
-    lists (l .head) (listsOf R .counts) (l .sizes) (l .h) (l .d) (listsOf R .last) (listsOf R .sums)
+    lists (l .head) (listsOf R .counts) (l .sizes) (l .holds) (l .h) (l .d) (listsOf R .last) (listsOf R .sums)
 
 -- the counts after an idle step: one step more, Q and V as they were; as they were where there are 2,048 steps
 unfoldable pub idleCounts : List ℕ → List ℕ

@@ -126,21 +126,23 @@ fn store_buckets(buckets: [Bucket; Tally::BUCKETS], sums: &mut [u64])
 
 // The recorder that the lists hold.
 pub fn recorder_of(
-    head: &[u64; 4],
+    head: &[u64; 5],
     counts: &[u64; 3],
     sizes: &[u16; Sheet::MAX_SEGS],
+    holds: &[u16; Sheet::MAX_SEGS],
     h: &[u16; Sheet::MAX_ROWS],
     d: &[u16; Sheet::MAX_ROWS],
     last: &[u16; Sheet::MAX_SEGS],
     sums: &[u64; Bucket::SUMS * Tally::BUCKETS],
 ) -> Recorder
-    ensures { λ r. ⌜ r ≡ recorderIn (lists (now (head .entry)) (now (counts .entry)) (now (sizes .entry)) (now (h .entry))
-        (now (d .entry)) (now (last .entry)) (now (sums .entry))) ⌝ }
+    ensures { λ r. ⌜ r ≡ recorderIn (lists (now (head .entry)) (now (counts .entry)) (now (sizes .entry)) (now (holds .entry))
+        (now (h .entry)) (now (d .entry)) (now (last .entry)) (now (sums .entry))) ⌝ }
 {
     let kind = kind_of(head[0]);
     let prices = rows_of(h, d);
     let buckets = buckets_of(sums);
     let of_segments = *sizes;
+    let warm = *holds;
     let table = *last;
     Recorder {
         head: Head {
@@ -150,6 +152,8 @@ pub fn recorder_of(
             sizes: of_segments,
             rows: head[3] as usize,
             prices: prices,
+            warm: head[4] as usize,
+            holds: warm,
         },
         steps: counts[0] as usize,
         last: table,
@@ -159,19 +163,21 @@ pub fn recorder_of(
     }
 }
 
-// Stores the kind, a, segs and rows, the sizes and the prices.
+// Stores the kind, a, segs, rows and warm, the sizes, the warm segments and the prices.
 pub fn store_head(
     r: Recorder,
-    head: &mut [u64; 4],
+    head: &mut [u64; 5],
     sizes: &mut [u16; Sheet::MAX_SEGS],
+    holds: &mut [u16; Sheet::MAX_SEGS],
     h: &mut [u16; Sheet::MAX_ROWS],
     d: &mut [u16; Sheet::MAX_ROWS],
 )
-    ensures { λ u. ⌜ HeadStored r (now (head .exit)) (now (sizes .exit)) (now (h .exit)) (now (d .exit)) ⌝ }
+    ensures { λ u. ⌜ HeadStored r (now (head .exit)) (now (sizes .exit)) (now (holds .exit)) (now (h .exit)) (now (d .exit)) ⌝ }
 {
     let from = r.head;
     let kind = from.kind;
     let of_segments = from.sizes;
+    let warm = from.holds;
     let prices = from.prices;
     let apart = split(prices);
     let of_load = apart.h;
@@ -181,8 +187,10 @@ pub fn store_head(
         from.a as u64,
         from.segs as u64,
         from.rows as u64,
+        from.warm as u64,
     ];
     *sizes = of_segments;
+    *holds = warm;
     *h = of_load;
     *d = of_memory;
 }

@@ -28,6 +28,8 @@ pub fn sheet_schedule(s: Sheet, row: usize, out: &mut [u8]) -> PlaceAnswer
         return PlaceAnswer::refused(Refusal::PlaceTooShort);
     }
     let sizes = head.sizes;
+    let warm = head.warm;
+    let holds = head.holds;
     let touches = s.touches;
     let prices = head.prices;
     schedule::writing::write_optimal(
@@ -35,6 +37,7 @@ pub fn sheet_schedule(s: Sheet, row: usize, out: &mut [u8]) -> PlaceAnswer
         head.a,
         prices[row],
         &sizes[..segs],
+        &holds[..warm],
         &touches[..steps],
         out,
     );
@@ -57,6 +60,8 @@ pub fn sheet_price(s: Sheet, row: usize, schedule: &[u8]) -> PriceAnswer
     let segs = head.segs;
     let steps = s.steps;
     let sizes = head.sizes;
+    let warm = head.warm;
+    let holds = head.holds;
     let touches = s.touches;
     let prices = head.prices;
     pricing::price(
@@ -64,6 +69,7 @@ pub fn sheet_price(s: Sheet, row: usize, schedule: &[u8]) -> PriceAnswer
         head.a,
         prices[row],
         &sizes[..segs],
+        &holds[..warm],
         &touches[..steps],
         schedule,
     )

@@ -13,13 +13,13 @@ use lib.Seq.{getD-set-same, getD-set-other}
 use borrow.Author.Tests.{lt-ltb, ltb-true, ltb-false, eqb-true, eqb-false}
 use Rattle.model.specs.Costs.{swapCost, unitCost, retention}
 use Rattle.model.specs.Figures.{retentionOf, refCost}
-use Rattle.model.specs.LastTouches.{allUntouched, lastTable}
-use Rattle.model.specs.Sheets.{RunWithin}
+use Rattle.model.specs.LastTouches.{startTable, lastTable}
+use Rattle.model.specs.Sheets.{listed, RunWithin}
 use Rattle.model.specs.Sums.{sum}
 use Rattle.model.specs.declared.Kind.{Kind}
 use Rattle.model.specs.Traces.{Trace, segs, steps, entry, sizeOf, swapOf, unitOf, touching, unreferenced}
 use Rattle.model.proofs.Bounds.{unit-within, retention-within, swap-within}
-use Rattle.model.proofs.LastTouches.{lastTable-at, lastTable-start, lastTable-step, lastTable-idle, unreferenced-within}
+use Rattle.model.proofs.LastTouches.{lastTable-at, startTable-is, lastTable-step, lastTable-idle, unreferenced-within}
 use Rattle.model.proofs.Sums.{sum-none, sum-suc}
 use Rattle.model.proofs.Touches.{touching-at, touching-idle}
 use Rattle.points.specs.Points.{Ratio, reuses, ratioAt, thresholds, thresholdAt, Below, Same}
@@ -267,12 +267,12 @@ pub record Charging (T : Trace) (n : ℕ) (mem cost : List ℕ) (memory load : �
   pub load-small : load ≤ t * 4294967296
 
 module _ (T : Trace) (ok : RunWithin T) (n : ℕ) where
-  pub charging-start : ((i : ℕ) → T .start i ≡ false) → Charging T n noSums noSums 0 0 allUntouched 0
-  unfolding noSums allUntouched groupMemory groupLoad
-  charging-start fresh =
+  pub charging-start : (warm : List ℕ) → ((i : ℕ) → T .start i ≡ listed warm i) → Charging T n noSums noSums 0 0 (startTable warm) 0
+  unfolding noSums groupMemory groupLoad
+  charging-start warm same =
       record {
         within = omega arith;
-        last-is = sym (lastTable-start T fresh);
+        last-is = startTable-is T warm same;
         sums =
             record {
               mem-whole = length-replicate {A = ℕ} places 0;

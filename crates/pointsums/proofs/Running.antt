@@ -143,7 +143,7 @@ module _ (rs ws mem cost : List ℕ) (memory load : ℕ) where
         }
 
 -- how many numbers the points are
-numbers-length : (T : Trace) (k : ℕ) → length (pointNumbers T k) ≡ 4 * k
+pub numbers-length : (T : Trace) (k : ℕ) → length (pointNumbers T k) ≡ 4 * k
 unfolding pointNumbers
 numbers-length T zero = refl
 numbers-length T (suc k) =

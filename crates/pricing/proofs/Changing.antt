@@ -1,5 +1,5 @@
 -- One step against the step before: what passing one segment more, or a run of segments whose bits did not change, adds. Assumes nothing.
-use Prim.Native.Nat.{ℕ, zero, suc, _+_, _%_, _<_}
+use Prim.Native.Nat.{ℕ, zero, suc, _+_, _<_}
 use mathlib.Core.Path.{_≡_, refl, sym, _∙_}
 use mathlib.Core.Bool.{Bool, true, false, cond, not, _&&_, _||_}
 use mathlib.Core.List.{List}
@@ -7,14 +7,14 @@ use native.Mathlib.Omega.{arith}
 use native.Mathlib.Nat.{add-suc, add-zero}
 use native.Mathlib.Numerals.{add-one}
 use lib.Dec.{eqb, ltb}
-use borrow.Author.Tests.{eq-eqb, ne-eqb}
+use borrow.Author.Tests.{eq-eqb, ne-eqb, ltb-true}
 use Rattle.model.specs.Sums.{sum}
 use Rattle.model.specs.Traces.{Trace, touched}
 use Rattle.model.specs.Schedules.{held}
 use Rattle.pricing.specs.declared.Changes.{Changes}
+use Rattle.pricing.specs.declared.StartWords.{StartWords}
 use Rattle.pricing.specs.Checking.{enters, someEnters}
-use Rattle.pricing.specs.inner.Steps.{byteOf, heldOf, unitAt, leaving, SegmentsPassed, Passing}
-use Rattle.pricing.proofs.Words.{bit-zero}
+use Rattle.pricing.specs.inner.Steps.{heldOf, unitAt, leaving, Step, SegmentsPassed, Passing}
 
 -- tests and costs of which a part is known
 or-false : (a : Bool) → a ≡ a || false
@@ -56,20 +56,28 @@ pass-enters old new x i u c o n ne = record { others-with = rw (o, n, ne-eqb x i
     go true = refl
     go false = refl
 
--- where nothing is held before step 1, what is held is what the bytes say
-module _ (T : Trace) (fresh : (i : ℕ) → T .start i ≡ false) (p : List ℕ) where
-  pub held-of : (t i : ℕ) → held T p t i ≡ heldOf p t i
-  unfolding held byteOf
-  held-of zero i = fresh i ∙ sym (bit-zero (i % 8))
-  held-of (suc t) i = refl
+-- what is held is what the start set and the bytes say
+module _ (T : Trace) (start : StartWords) (p : List ℕ) (s : ℕ) (ok : Step T start p s) where
+  pub held-of : (t i : ℕ) → i < 256 → held T p t i ≡ heldOf start p t i
+  unfolding held heldOf
+  held-of zero i lt = sym (ok .start-bits i lt)
+  held-of (suc t) i lt = refl
 
   -- the same of answers that go by whether x is a segment
-  pub lacks-told : (t x : ℕ) (r : Bool) → r ≡ cond (ltb x 256) (not (heldOf p (t + 1) x)) false
+  pub lacks-told : (t x : ℕ) (r : Bool) → r ≡ cond (ltb x 256) (not (heldOf start p (t + 1) x)) false
       → cond (ltb x 256) (not (held T p (suc t) x)) false ≡ r
-  lacks-told t x r e = rw (held-of (suc t) x) (sym (rw (add-one t) at e))
+  lacks-told t x r e = go (ltb x 256) refl ∙ sym (rw (add-one t) at e)
+    where
+      go : (b : Bool) → ltb x 256 ≡ b → cond b (not (held T p (suc t) x)) false ≡ cond b (not (heldOf start p (suc t) x)) false
+      go true l = rw (held-of (suc t) x (ltb-true x 256 l))
+      go false l = refl
 
-  pub loads-told : (t x : ℕ) (r : Bool) → r ≡ cond (ltb x 256) (heldOf p t x) true → r ≡ cond (ltb x 256) (held T p t x) true
-  loads-told t x r e = rw (held-of t x) e
+  pub loads-told : (t x : ℕ) (r : Bool) → r ≡ cond (ltb x 256) (heldOf start p t x) true → r ≡ cond (ltb x 256) (held T p t x) true
+  loads-told t x r e = e ∙ go (ltb x 256) refl
+    where
+      go : (b : Bool) → ltb x 256 ≡ b → cond b (heldOf start p t x) true ≡ cond b (held T p t x) true
+      go true l = rw (held-of t x (ltb-true x 256 l))
+      go false l = refl
 
 module _ (T : Trace) (p : List ℕ) (t : ℕ) where
   -- before the first segment

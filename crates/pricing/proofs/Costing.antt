@@ -17,16 +17,16 @@ use Rattle.model.specs.Schedules.{held, Permitted, scheduleMemory, scheduleLoad
 use Rattle.model.specs.declared.Refusal.the-variants.{TouchedNotHeld, HeldNotBefore}
 use Rattle.model.specs.declared.Verdict.the-variants.{Accepted, Refused}
 use Rattle.model.proofs.Bounds.{product-within, unit-within, either-within}
-use Rattle.model.proofs.Sums.{sum-suc, sum-none, sum-eq, sum-add, sum-zero, sum-within}
+use Rattle.model.proofs.Sums.{sum-suc, sum-none, sum-eq, sum-add, sum-within}
 use Rattle.model.proofs.Touches.{touching-sum}
 use Rattle.model.proofs.Loads.{touching-within}
 use Rattle.pricing.specs.declared.Changes.{Changes}
 use Rattle.pricing.specs.declared.Costs.{Costs}
 use Rattle.pricing.specs.Checking.{missing, enters, someEnters, stepVerdict, stepsVerdict, scheduleVerdict, priceAnswer}
-use Rattle.model.specs.Sheets.{RunWithin}
+use Rattle.model.specs.Sheets.{RunWithin, listed}
 use Rattle.schedule.proofs.Segments.{by-segment}
 use Rattle.schedule.specs.inner.Segments.{segmentOf}
-use Rattle.pricing.specs.inner.Steps.{unitAt, leaving, SegmentsPassed, heldCost, memoryThrough, loadThrough, Through, Moved}
+use Rattle.pricing.specs.inner.Steps.{startCost, unitAt, leaving, SegmentsPassed, heldCost, memoryThrough, loadThrough, Through, Moved}
 use Rattle.pricing.proofs.Verdicts.{none-enters, step-accepted, one-more, held-touched}
 use Rattle.pricing.proofs.Verdicts.{accepted-permitted, whole-verdict, accepted-answer, priced}
 
@@ -162,13 +162,16 @@ module _ (T : Trace) (ok : RunWithin T) (p : List ℕ) where
     omega (arith, done .load-cost, load-within n le),
   )
 
-  -- before the first step
-  pub through-none : ((i : ℕ) → T .start i ≡ false) → Through T p 0 (record { held = 0; memory = 0; load = 0 })
-  unfolding stepsVerdict heldCost memoryThrough loadThrough held
-  through-none fresh =
+  -- before the first step: what is held is the start set
+  pub through-none : (warm : List ℕ) (c : ℕ) → ((i : ℕ) → T .start i ≡ listed warm i) → c ≡ startCost (T .kind) (T .sizes) warm
+      → Through T p 0 (record { held = c; memory = 0; load = 0 })
+  unfolding stepsVerdict heldCost memoryThrough loadThrough held startCost
+  through-none warm c same e =
       record {
         accepted = refl;
-        held-cost = sym (sum-zero (segs T) (λ i. cond (T .start i) (unitOf T i) 0) (λ i l. rw (fresh i)));
+        held-cost =
+            e
+            ∙ sum-eq (segs T) (λ i. cond (listed warm i) (unitOf T i) 0) (λ i. cond (T .start i) (unitOf T i) 0) (λ i l. rw (same i));
         memory-cost = sym (sum-none (λ t. heldCost T p (suc t)));
         load-cost = sym (sum-none (touching T (λ t i. cond (held T p t i) 0 (swapOf T i))));
       }

@@ -18,7 +18,7 @@ ghost use Rattle.model.specs.Costs.{unitCost, swapCost};
 ghost use Rattle.model.specs.Schedules.{bit};
 ghost use Rattle.pricing.specs.Checking.{noPrice, priceAnswer};
 ghost use Rattle.schedule.specs.inner.Segments.{segmentOf};
-ghost use Rattle.pricing.specs.inner.Steps.{heldOf, unitAt, Step, SegmentsPassed, Passing, Through, After, Moved};
+ghost use Rattle.pricing.specs.inner.Steps.{startWord, startBit, StartBits, heldOf, startCost, unitAt, Step, SegmentsPassed, Passing, Through, After, Moved};
 
 // What pricing a schedule gives: its memory, load and total, all zero where it is refused.
 pub struct PriceAnswer {
@@ -26,6 +26,14 @@ pub struct PriceAnswer {
     pub memory: MemoryUnits,
     pub load: LoadUnits,
     pub total: u64,
+}
+
+// What is held before step 1, segment i at bit i % 64 of number i / 64.
+struct StartWords {
+    first: u64,
+    second: u64,
+    third: u64,
+    fourth: u64,
 }
 
 // What the segments passed so far show of a step: whether an untouched one entered, and the cost of those that left.
@@ -69,26 +77,55 @@ fn joined(s: &[u8], at: usize) -> u64
         + wide(s[at + 7]) * 72057594037927936
 }
 
-// Bits 64 × m to 64 × m + 63 of step t, counted from 1, as one number: 0 before step 1.
-fn word_at(schedule: &[u8], t: usize, m: usize) -> u64
+// The bytes of the start mask as four numbers.
+fn start_words(mask: &[u8]) -> StartWords
+    requires { ⌜ length (now mask) ≡ 32 ⌝ }
+    ensures { λ r. ⌜ ((i : ℕ) → i < 256 → startBit r i ≡ bit (getD (now (mask .entry)) (i / 8) 0) (i % 8)) ⌝ }
+{
+    StartWords {
+        first: joined(mask, 0),
+        second: joined(mask, 8),
+        third: joined(mask, 16),
+        fourth: joined(mask, 24),
+    }
+}
+
+// Number m of the four.
+fn start_word(start: StartWords, m: usize) -> u64
+    ensures { λ r. ⌜ r ≡ startWord start m ⌝ }
+{
+    if m == 0 {
+        return start.first;
+    }
+    if m == 1 {
+        return start.second;
+    }
+    if m == 2 {
+        return start.third;
+    }
+    start.fourth
+}
+
+// Bits 64 × m to 64 × m + 63 of step t, counted from 1, as one number: before step 1 those of the start set.
+fn word_at(start: StartWords, schedule: &[u8], t: usize, m: usize) -> u64
     requires { ⌜ (32 * t ≤ length (now schedule)) × (m < 4) ⌝ }
-    ensures { λ r. ⌜ ((k : ℕ) → k < 64 → bit r k ≡ heldOf (now (schedule .entry)) t (64 * m + k)) ⌝ }
+    ensures { λ r. ⌜ ((k : ℕ) → k < 64 → bit r k ≡ heldOf start (now (schedule .entry)) t (64 * m + k)) ⌝ }
 {
     if t == 0 {
-        return 0;
+        return start_word(start, m);
     }
     joined(schedule, Schedule::STEP_BYTES * (t - 1) + 8 * m)
 }
 
-// Whether segment i is held in step t, counted from 1: nothing is before step 1.
-fn holds(schedule: &[u8], t: usize, i: usize) -> bool
+// Whether segment i is held in step t, counted from 1: before step 1 a warm one is.
+fn holds(start: StartWords, schedule: &[u8], t: usize, i: usize) -> bool
     requires { ⌜ (32 * t ≤ length (now schedule)) × (i < 256) ⌝ }
-    ensures { λ r. ⌜ r ≡ heldOf (now (schedule .entry)) t i ⌝ }
+    ensures { λ r. ⌜ r ≡ heldOf start (now (schedule .entry)) t i ⌝ }
 {
-    if t == 0 {
-        return false;
+    if 0 < t {
+        return (schedule[Schedule::STEP_BYTES * (t - 1) + i / 8] >> (i % 8)) % 2 == 1;
     }
-    (schedule[Schedule::STEP_BYTES * (t - 1) + i / 8] >> (i % 8)) % 2 == 1
+    (start_word(start, i / 64) >> (i % 64)) % 2 == 1
 }
 
 // What segment i costs for one step: 0 where i is no segment.
@@ -97,6 +134,16 @@ fn unit_at(kind: Kind, sizes: &[u16], i: usize) -> u64
 {
     if i < sizes.len() {
         return model::unit_cost(kind, sizes[i]);
+    }
+    0
+}
+
+// What a segment of size z costs for one step where it is held, else 0.
+fn unit_where(held: bool, kind: Kind, z: u16) -> u64
+    ensures { λ r. ⌜ (r ≡ cond held (unitCost kind z) 0) × (r < 65536) ⌝ }
+{
+    if held {
+        return model::unit_cost(kind, z);
     }
     0
 }
@@ -132,20 +179,24 @@ fn pass_word(
     kind: Kind,
     a: u8,
     sizes: &[u16],
+    warm: &[u16],
     refs: &[u16],
+    start: StartWords,
     schedule: &[u8],
     t: usize,
     x: usize,
     m: usize,
     c: Changes,
 ) -> Changes
-    requires { ⌜ Step (runOf kind a (now sizes) (now refs)) (now schedule) t ⌝ }
+    requires { ⌜ Step (runOf kind a (now sizes) (now warm) (now refs)) start (now schedule) t ⌝ }
     requires { ⌜ x ≡ segmentOf (length (now sizes)) (getD (now refs) t 0) ⌝ }
-    requires { ⌜ (m < 4) × SegmentsPassed (runOf kind a (now sizes) (now refs)) (now schedule) t (64 * m) c ⌝ }
-    ensures { λ r. ⌜ SegmentsPassed (runOf kind a (now (sizes .entry)) (now (refs .entry))) (now (schedule .entry)) t (64 * m + 64) r ⌝ }
+    requires { ⌜ (m < 4) × SegmentsPassed (runOf kind a (now sizes) (now warm) (now refs)) (now schedule) t (64 * m) c ⌝ }
+    ensures { λ r.
+        ⌜ SegmentsPassed (runOf kind a (now (sizes .entry)) (now (warm .entry)) (now (refs .entry)))
+        (now (schedule .entry)) t (64 * m + 64) r ⌝ }
 {
-    let mut old = word_at(schedule, t, m);
-    let mut new = word_at(schedule, t + 1, m);
+    let mut old = word_at(start, schedule, t, m);
+    let mut new = word_at(start, schedule, t + 1, m);
     let mut i = 64 * m;
     let mut c = c;
     while (old ^ new) != 0 {
@@ -166,14 +217,18 @@ fn pass_step(
     kind: Kind,
     a: u8,
     sizes: &[u16],
+    warm: &[u16],
     refs: &[u16],
+    start: StartWords,
     schedule: &[u8],
     t: usize,
     x: usize,
 ) -> Changes
-    requires { ⌜ Step (runOf kind a (now sizes) (now refs)) (now schedule) t ⌝ }
+    requires { ⌜ Step (runOf kind a (now sizes) (now warm) (now refs)) start (now schedule) t ⌝ }
     requires { ⌜ x ≡ segmentOf (length (now sizes)) (getD (now refs) t 0) ⌝ }
-    ensures { λ r. ⌜ SegmentsPassed (runOf kind a (now (sizes .entry)) (now (refs .entry))) (now (schedule .entry)) t 256 r ⌝ }
+    ensures { λ r.
+        ⌜ SegmentsPassed (runOf kind a (now (sizes .entry)) (now (warm .entry)) (now (refs .entry)))
+        (now (schedule .entry)) t 256 r ⌝ }
 {
     let mut c = Changes {
         others: false,
@@ -181,7 +236,7 @@ fn pass_step(
     };
     let mut m = 0;
     while m < 4 {
-        c = pass_word(kind, a, sizes, refs, schedule, t, x, m, c);
+        c = pass_word(kind, a, sizes, warm, refs, start, schedule, t, x, m, c);
         m += 1;
     }
     c
@@ -210,23 +265,23 @@ fn moved(kind: Kind, a: u8, z: u16, before: bool, left: u64, c: Costs) -> Costs
 }
 
 // Whether the step at place t touches a segment x that it does not hold; 256 is none.
-fn lacks(schedule: &[u8], t: usize, x: usize) -> bool
+fn lacks(start: StartWords, schedule: &[u8], t: usize, x: usize) -> bool
     requires { ⌜ (32 * t + 32 ≤ length (now schedule)) × (x ≤ mostSegs) ⌝ }
-    ensures { λ r. ⌜ r ≡ cond (ltb x mostSegs) (not (heldOf (now (schedule .entry)) (t + 1) x)) false ⌝ }
+    ensures { λ r. ⌜ r ≡ cond (ltb x mostSegs) (not (heldOf start (now (schedule .entry)) (t + 1) x)) false ⌝ }
 {
     if x < NO_SEGMENT {
-        return !holds(schedule, t + 1, x);
+        return !holds(start, schedule, t + 1, x);
     }
     false
 }
 
 // Whether the step at place t loads nothing: it touches a segment x that was held before, or none, where x is 256.
-fn loads_none(schedule: &[u8], t: usize, x: usize) -> bool
+fn loads_none(start: StartWords, schedule: &[u8], t: usize, x: usize) -> bool
     requires { ⌜ (32 * t ≤ length (now schedule)) × (x ≤ mostSegs) ⌝ }
-    ensures { λ r. ⌜ r ≡ cond (ltb x mostSegs) (heldOf (now (schedule .entry)) t x) true ⌝ }
+    ensures { λ r. ⌜ r ≡ cond (ltb x mostSegs) (heldOf start (now (schedule .entry)) t x) true ⌝ }
 {
     if x < NO_SEGMENT {
-        return holds(schedule, t, x);
+        return holds(start, schedule, t, x);
     }
     true
 }
@@ -246,24 +301,26 @@ fn step(
     kind: Kind,
     a: u8,
     sizes: &[u16],
+    warm: &[u16],
     refs: &[u16],
+    start: StartWords,
     schedule: &[u8],
     t: usize,
     c: Costs,
 ) -> Stepped
-    requires { ⌜ Step (runOf kind a (now sizes) (now refs)) (now schedule) t ⌝ }
-    requires { ⌜ Through (runOf kind a (now sizes) (now refs)) (now schedule) t c ⌝ }
-    ensures { λ r. ⌜ After (runOf kind a (now (sizes .entry)) (now (refs .entry))) (now (schedule .entry)) t r ⌝ }
+    requires { ⌜ Step (runOf kind a (now sizes) (now warm) (now refs)) start (now schedule) t ⌝ }
+    requires { ⌜ Through (runOf kind a (now sizes) (now warm) (now refs)) (now schedule) t c ⌝ }
+    ensures { λ r. ⌜ After (runOf kind a (now (sizes .entry)) (now (warm .entry)) (now (refs .entry))) (now (schedule .entry)) t r ⌝ }
 {
     let x = schedule::writing::segment_of(sizes.len(), refs[t]);
-    if lacks(schedule, t, x) {
+    if lacks(start, schedule, t, x) {
         return Stepped::Faulty(Refusal::TouchedNotHeld);
     }
-    let found = pass_step(kind, a, sizes, refs, schedule, t, x);
+    let found = pass_step(kind, a, sizes, warm, refs, start, schedule, t, x);
     if found.others {
         return Stepped::Faulty(Refusal::HeldNotBefore);
     }
-    let before = loads_none(schedule, t, x);
+    let before = loads_none(start, schedule, t, x);
     Stepped::Priced(moved(kind, a, size_at(sizes, x), before, found.left, c))
 }
 
@@ -279,29 +336,51 @@ pub fn refused(r: Refusal) -> PriceAnswer
     }
 }
 
-// The price of a schedule handed in at a row, or why it is refused: 8, then 9 or 10 of the earliest faulty step.
-pub fn price(
+// What the warm segments cost for one step.
+fn start_cost(kind: Kind, sizes: &[u16], warm: &[u16]) -> u64
+    requires { ⌜ length (now sizes) ≤ mostSegs ⌝ }
+    ensures { λ r. ⌜ r ≡ startCost kind (now (sizes .entry)) (now (warm .entry)) ⌝ }
+{
+    if warm.len() == 0 {
+        return 0;
+    }
+    let last = model::start_table(warm);
+    let mut cost = 0;
+    let mut i = 0;
+    while i < sizes.len() {
+        cost += unit_where(last[i] == 0, kind, sizes[i]);
+        i += 1;
+    }
+    cost
+}
+
+// The price of a schedule by the start set.
+fn price_from(
     kind: Kind,
     a: u8,
     row: PriceRow,
     sizes: &[u16],
+    warm: &[u16],
     refs: &[u16],
+    start: StartWords,
     schedule: &[u8],
 ) -> PriceAnswer
-    requires { ⌜ RunWithin (runOf kind a (now sizes) (now refs)) ⌝ }
-    ensures { λ r. ⌜ r ≡ priceAnswer (runOf kind a (now (sizes .entry)) (now (refs .entry))) (row .h) (row .d) (now (schedule .entry)) ⌝ }
+    requires { ⌜ RunWithin (runOf kind a (now sizes) (now warm) (now refs)) × StartBits (now warm) start ⌝ }
+    ensures { λ r.
+        ⌜ r ≡ priceAnswer (runOf kind a (now (sizes .entry)) (now (warm .entry)) (now (refs .entry))) (row .h) (row .d)
+        (now (schedule .entry)) ⌝ }
 {
     if schedule.len() != Schedule::STEP_BYTES * refs.len() {
         return refused(Refusal::ScheduleLength);
     }
     let mut c = Costs {
-        held: 0,
+        held: start_cost(kind, sizes, warm),
         memory: 0,
         load: 0,
     };
     let mut t = 0;
     while t < refs.len() {
-        let next = step(kind, a, sizes, refs, schedule, t, c);
+        let next = step(kind, a, sizes, warm, refs, start, schedule, t, c);
         match next {
             Stepped::Faulty(r) => return refused(r),
             Stepped::Priced(s) => c = s,
@@ -316,4 +395,26 @@ pub fn price(
         load,
         total: model::total(row, memory, load),
     }
+}
+
+// The price of a schedule handed in at a row, or why it is refused: 8, then 9 or 10 of the earliest faulty step. A warm segment counts as
+// held before step 1.
+pub fn price(
+    kind: Kind,
+    a: u8,
+    row: PriceRow,
+    sizes: &[u16],
+    warm: &[u16],
+    refs: &[u16],
+    schedule: &[u8],
+) -> PriceAnswer
+    requires { ⌜ RunWithin (runOf kind a (now sizes) (now warm) (now refs)) ⌝ }
+    ensures { λ r.
+        ⌜ r ≡ priceAnswer (runOf kind a (now (sizes .entry)) (now (warm .entry)) (now (refs .entry))) (row .h) (row .d)
+        (now (schedule .entry)) ⌝ }
+{
+    let mask = schedule::starting::start_mask(warm);
+    let n = Schedule::STEP_BYTES;
+    let start = start_words(&mask[..n]);
+    price_from(kind, a, row, sizes, warm, refs, start, schedule)
 }

@@ -5,6 +5,7 @@ use mathlib.Core.Path.{_≡_, refl, sym, ap, _∙_}
 use mathlib.Core.Bool.{Bool, true, false, cond}
 use mathlib.Core.List.{List, [], _∷_, _++_, map}
 use native.Mathlib.Omega.{arith}
+use borrow.Author.Tests.{le-leb, lt-leb, leb-true, leb-false}
 use lib.Dec.{leb}
 use lib.ListN.{length, getD, length-append, length-map}
 use Rattle.decimal.specs.Decimal.{written}
@@ -12,9 +13,9 @@ use Rattle.model.specs.Sheets.{SheetValue}
 use Rattle.model.specs.declared.Kind.{Kind}
 use Rattle.model.specs.declared.Kind.the-variants.{Time, Space}
 use Rattle.model.specs.declared.PriceRow.{PriceRow}
-use Rattle.lines.specs.Keys.{lineFeed, slash, atSign, formKey, sizeKey, rowKey, refKey, kindWord}
+use Rattle.lines.specs.Keys.{lineFeed, slash, atSign, formKey, sizeKey, rowKey, holdKey, refKey, kindWord}
 use Rattle.sheet.specs.Lines.{splitAt}
-use Rattle.sheet.specs.Order.{sizesPart, pricesPart, tablesPart, headPart, refsPart, stepsPart, entriesPart}
+use Rattle.sheet.specs.Order.{sizesPart, pricesPart, warmPart, warmFor, tablesPart, headPart, refsPart, stepsPart, entriesPart}
 use Rattle.sheet.specs.Order.{runPart, bodyPart, formLines, sheetPart, linesOf}
 use Rattle.sheet.specs.Parts.{Line}
 use Rattle.sheet.specs.Reading.{accepted, readForms}
@@ -54,6 +55,12 @@ unfolding pricesPart splitAt
 prices-plain qs =
     ((refl, refl, plain-number (length qs)), plain-map (λ q. (rowKey, rowWord q)) (λ q. (refl, refl, plain-row q)) qs)
 
+warm-plain : (later : Bool) (segs : ℕ) (xs : List ℕ) → AllPlain (warmFor later segs .lines xs)
+unfolding warmPart splitAt
+warm-plain true segs xs =
+    ((refl, refl, plain-number (length xs)), plain-map (λ x. (holdKey, written x)) (λ x. (refl, refl, plain-number x)) xs)
+warm-plain false segs xs = tt
+
 refs-plain : (segs : ℕ) (xs : List ℕ) → AllPlain (refsPart segs .lines xs)
 unfolding refsPart splitAt
 refs-plain segs xs =
@@ -85,12 +92,15 @@ form-plain form = go (leb 2 form)
 lines-plain : (v : SheetValue) → AllPlain (linesOf v)
 unfolding sheetPart bodyPart runPart headPart tablesPart splitAt
 lines-plain v =
+    let later = leb 3 (v .form) in
+    let segs = length (v .head .sizes) in
+    let warm = plain-append (warmFor later segs .lines (v .head .warm)) [] (warm-plain later segs (v .head .warm)) tt in
     let tables = plain-append (sizesPart .lines (v .head .sizes)) _ (sizes-plain (v .head .sizes))
-    (plain-append (pricesPart .lines (v .head .rows)) [] (prices-plain (v .head .rows)) tt) in
-    let entries = entriesPart (leb 2 (v .form)) (length (v .head .sizes)) .lines (v .refs) in
-    let run = plain-append entries [] (entries-plain (leb 2 (v .form)) (length (v .head .sizes)) (v .refs)) tt in
+    (plain-append (pricesPart .lines (v .head .rows)) _ (prices-plain (v .head .rows)) warm) in
+    let entries = entriesPart (leb 2 (v .form)) segs .lines (v .refs) in
+    let run = plain-append entries [] (entries-plain (leb 2 (v .form)) segs (v .refs)) tt in
     plain-append (formLines (v .form)) _ (form-plain (v .form))
-    (plain-append (headPart true .lines (v .head)) _
+    (plain-append (headPart true later .lines (v .head)) _
     ((refl, refl, plain-kind (v .head .kind)), ((refl, refl, plain-number (v .head .a)), tables)) run)
 
 -- the text of a sheet
@@ -103,19 +113,22 @@ pub accepted-shows : (lo hi : ℕ) (s : List ℕ) (v : SheetValue) → readForms
     → (shown (length (sheetShown v)) s ≡ sheetShown v) × (leftAfter (length (sheetShown v)) s ≡ [])
 accepted-shows lo hi s v e = let h = sheet-shows v in rw (← read-then-written lo hi s v e) (h .lines, h .left)
 
--- how many lines there are: a form line where the form has one, kind=, a=, and those of the sizes, the rows and the entries
+-- how many lines there are: a form line where the form has one, kind=, a=, and those of the sizes, the rows, the warm segments and the
+-- entries
 parts-count : (v : SheetValue) → length (sheetShown v)
     ≡ length (formLines (v .form)) + (2 + (length (sizesPart .lines (v .head .sizes)) + (length (pricesPart .lines (v .head .rows))
-    + length (entriesPart (leb 2 (v .form)) (length (v .head .sizes)) .lines (v .refs)))))
+    + (length (warmFor (leb 3 (v .form)) (length (v .head .sizes)) .lines (v .head .warm))
+    + length (entriesPart (leb 2 (v .form)) (length (v .head .sizes)) .lines (v .refs))))))
 unfolding sheetPart bodyPart runPart headPart tablesPart
 parts-count v =
     length-map (linesOf v) (λ (l : Line). keyed (l .0) (l .1))
     ∙ all (formLines (v .form)) (sizesPart .lines (v .head .sizes)) (pricesPart .lines (v .head .rows))
+    (warmFor (leb 3 (v .form)) (length (v .head .sizes)) .lines (v .head .warm))
     (entriesPart (leb 2 (v .form)) (length (v .head .sizes)) .lines (v .refs)) _ _
   where
-    all : (f s p e : List Line) (k a : Line) → length (f ++ ((k ∷ a ∷ (s ++ (p ++ []))) ++ (e ++ [])))
-        ≡ length f + (2 + (length s + (length p + length e)))
-    all f s p e k a = simp length-append (omega arith)
+    all : (f s p w e : List Line) (k a : Line) → length (f ++ ((k ∷ a ∷ (s ++ (p ++ (w ++ [])))) ++ (e ++ [])))
+        ≡ length f + (2 + (length s + (length p + (length w + length e))))
+    all f s p w e k a = simp length-append (omega arith)
 
 -- a count, and a line for each element
 counted-count : {A : Type 0} (f : A → Line) (xs : List A) → suc (length (map f xs)) ≡ 1 + length xs
@@ -129,6 +142,10 @@ prices-count : (qs : List PriceRow) → length (pricesPart .lines qs) ≡ 1 + le
 unfolding pricesPart
 prices-count qs = counted-count (λ q. (rowKey, rowWord q)) qs
 
+warm-count : (segs : ℕ) (xs : List ℕ) → length (warmPart segs .lines xs) ≡ 1 + length xs
+unfolding warmPart
+warm-count segs xs = counted-count (λ x. (holdKey, written x)) xs
+
 refs-count : (segs : ℕ) (xs : List ℕ) → length (refsPart segs .lines xs) ≡ 1 + length xs
 unfolding refsPart
 refs-count segs xs = counted-count (λ x. (refKey, written x)) xs
@@ -141,15 +158,34 @@ steps-count segs xs = omega (arith, length-map {B = Line} (touchesOf xs) (λ x. 
 pub lines-count : (v : SheetValue) → leb 2 (v .form) ≡ false
     → length (sheetShown v) ≡ 5 + (length (v .head .sizes) + (length (v .head .rows) + length (v .refs)))
 lines-count v e =
+    let f = lt-leb 3 (v .form) (omega (arith, leb-false 2 (v .form) e)) in
     parts-count v
-    ∙ rw (e, sizes-count (v .head .sizes), prices-count (v .head .rows), refs-count (length (v .head .sizes)) (v .refs)) (omega arith)
+    ∙ rw (e, f, sizes-count (v .head .sizes), prices-count (v .head .rows), refs-count (length (v .head .sizes)) (v .refs)) (omega arith)
 
--- and form 2 has 7 and one for each touch
-pub lines-count-2 : (v : SheetValue) → leb 2 (v .form) ≡ true
+-- form 2 has 7 and one for each touch
+pub lines-count-2 : (v : SheetValue) → leb 2 (v .form) ≡ true → leb 3 (v .form) ≡ false
     → length (sheetShown v) ≡ 7 + (length (v .head .sizes) + (length (v .head .rows) + length (touchesOf (v .refs))))
-lines-count-2 v e =
+lines-count-2 v e f =
     parts-count v
-    ∙ rw (e, sizes-count (v .head .sizes), prices-count (v .head .rows), steps-count (length (v .head .sizes)) (v .refs)) (omega arith)
+    ∙ rw (e, f, sizes-count (v .head .sizes), prices-count (v .head .rows), steps-count (length (v .head .sizes)) (v .refs)) (omega arith)
+
+-- and form 3 has 8, one for each warm segment and one for each touch
+pub lines-count-3 : (v : SheetValue) → leb 3 (v .form) ≡ true
+    → length (sheetShown v)
+    ≡ 8 + (length (v .head .sizes) + (length (v .head .rows) + (length (v .head .warm) + length (touchesOf (v .refs)))))
+lines-count-3 v f =
+    let e = le-leb 2 (v .form) (omega (arith, leb-true 3 (v .form) f)) in
+    let segs = length (v .head .sizes) in
+    parts-count v
+    ∙ rw (
+      e,
+      f,
+      sizes-count (v .head .sizes),
+      prices-count (v .head .rows),
+      warm-count segs (v .head .warm),
+      steps-count segs (v .refs),
+    )
+    (omega arith)
 
 -- the line n of an accepted sheet: what `value_of` gives for it is the value of the sheet's line n
 pub accepted-line : (lo hi : ℕ) (s : List ℕ) (v : SheetValue) (n : ℕ) → readForms lo hi s ≡ accepted v → n < length (sheetShown v)

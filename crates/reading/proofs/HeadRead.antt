@@ -2,7 +2,7 @@
 use Prim.Native.Nat.{ℕ, _+_, _-_, _≤_}
 use mathlib.Core.Path.{_≡_, refl, sym, ap, _∙_}
 use mathlib.Core.Bool.{Bool, true, false}
-use mathlib.Core.List.{List}
+use mathlib.Core.List.{List, []}
 use native.Mathlib.Omega.{arith}
 use lib.ListN.{length, take, drop}
 use Rattle.lines.specs.Keys.{aKey, stepsKey, refsKey, refKey}
@@ -16,9 +16,9 @@ use Rattle.sheet.specs.Order.{numberPart, numbersPart, sizesPart, pricesPart, t
 use Rattle.sheet.specs.Order.{refsPart, stepsPart, entriesPart}
 use Rattle.sheet.specs.Parts.{counted}
 use Rattle.sheet.specs.Touches.{entryLines}
-use Rattle.sheet.proofs.SheetLines.{head-segs}
+use Rattle.sheet.proofs.SheetLines.{tables-segs, head-segs}
 use Rattle.scan.specs.AtPlace.{parsedLines, movedOn}
-use Rattle.reading.specs.inner.AtPlace.{HeadFilled}
+use Rattle.reading.specs.inner.AtPlace.{withWarm, HeadFilled}
 use Rattle.scan.specs.declared.numbers.LinesRead.{LinesRead}
 use Rattle.scan.specs.declared.numbers.LinesRead.the-variants.{Done, Refused as NoLines}
 use Rattle.scan.proofs.Blanks.{filled-length, filled-start}
@@ -31,17 +31,36 @@ made : {A B : Type 0} (g : A → B) (s : List ℕ) (l : LinesRead) (y : A)
 made g s (Done next) y = refl
 made g s (NoLines why) y = refl
 
--- the sizes, then the rows
-pub table-read : (kind : Kind) (a segs : ℕ) (sizes : List ℕ) (rows : ℕ) (prices : List PriceRow) (s : List ℕ) (at : ℕ) (l q : LinesRead)
+-- the sizes, then the rows, and no warm segments
+pub table-read : (kind : Kind) (a segs : ℕ) (sizes : List ℕ) (rows : ℕ) (prices : List PriceRow) (holds s : List ℕ) (at : ℕ) (l q : LinesRead)
     → sizesPart .reads s ≡ read (take segs sizes) (drop at s)
     → parsedLines (tail s at) l (take rows prices) ≡ pricesPart .reads (tail s at) → q ≡ movedOn at l
-    → parsedLines s q (headValueOf (record { kind = kind; a = a; segs = segs; sizes = sizes; rows = rows; prices = prices }))
-    ≡ tablesPart kind a .reads s
+    → parsedLines s q
+    (headValueOf (record { kind = kind; a = a; segs = segs; sizes = sizes; rows = rows; prices = prices; warm = 0; holds = holds }))
+    ≡ tablesPart false kind a .reads s
 unfolding tablesPart headValueOf
-table-read kind a segs sizes rows prices s at l q e h m =
-    let g : List PriceRow → HeadValue = λ qs. record { kind = kind; a = a; sizes = take segs sizes; rows = qs } in
+table-read kind a segs sizes rows prices holds s at l q e h m =
+    let g : List PriceRow → HeadValue = λ qs. record { kind = kind; a = a; sizes = take segs sizes; rows = qs; warm = [] } in
     then-part _ _ (take segs sizes) s at l q (g (take rows prices)) e
     (made g (tail s at) l (take rows prices) ∙ ap (λ p. andThen p (λ qs end. read (g qs) end)) h) m
+
+-- a head, then its warm segments
+pub warm-read : (h : Head) (warm : ℕ) (holds s : List ℕ) (l : LinesRead) (p : Parsed (List ℕ)) → parsedLines s l (take warm holds) ≡ p
+    → parsedLines s l (headValueOf (record {
+      kind = h .kind;
+      a = h .a;
+      segs = h .segs;
+      sizes = h .sizes;
+      rows = h .rows;
+      prices = h .prices;
+      warm = warm;
+      holds = holds;
+    }))
+    ≡ andThen p (withWarm (headValueOf h))
+unfolding headValueOf
+warm-read h warm holds s l p e =
+    let g : List ℕ → HeadValue = λ ws. record { kind = h .kind; a = h .a; sizes = take (h .segs) (h .sizes); rows = take (h .rows) (h .prices); warm = ws } in
+    made g s l (take warm holds) ∙ ap (λ p. andThen p (withWarm (headValueOf h))) e
 
 -- two parts, and what was read after them
 after-two : {A B C : Type 0} (p : Parsed A) (g : A → List ℕ → Parsed B) (f : A → B → List ℕ → Parsed C) (s : List ℕ) (i j : ℕ)
@@ -52,14 +71,14 @@ after-two p g f s i j x y l q v e₁ e₂ h m =
     let r = ap (λ k. parsedLines s k v) m ∙ (moved s (i + j) l v ∙ (h ∙ ap (f x y) (sym (tail-tail s i j)))) in
     stage-read (λ p. p) _ _ x s i (parsedLines s q v) (stage-read (λ p. p) _ _ y (tail s i) j (parsedLines s q v) r e₂) e₁
 
--- kind and a, then the sizes and the rows
-pub head-read : (taken : Bool) (s : List ℕ) (i j : ℕ) (kind : Kind) (a : ℕ) (l q : LinesRead) (v : HeadValue)
+-- kind and a, then the sizes, the rows and the warm segments
+pub head-read : (taken later : Bool) (s : List ℕ) (i j : ℕ) (kind : Kind) (a : ℕ) (l q : LinesRead) (v : HeadValue)
     → kindFor taken .reads s ≡ read kind (drop i s) → numberLine aKey 0 largestA (tail s i) ≡ read a (drop j (tail s i))
-    → parsedLines (tail s (i + j)) l v ≡ tablesPart kind a .reads (tail s (i + j)) → q ≡ movedOn (i + j) l
-    → parsedLines s q v ≡ headPart taken .reads s
+    → parsedLines (tail s (i + j)) l v ≡ tablesPart later kind a .reads (tail s (i + j)) → q ≡ movedOn (i + j) l
+    → parsedLines s q v ≡ headPart taken later .reads s
 unfolding headPart
-head-read taken s i j kind a l q v =
-    after-two (kindFor taken .reads s) (λ _. numberLine aKey 0 largestA) (λ k n. tablesPart k n .reads) s i j kind a l q v
+head-read taken later s i j kind a l q v =
+    after-two (kindFor taken .reads s) (λ _. numberLine aKey 0 largestA) (λ k n. tablesPart later k n .reads) s i j kind a l q v
 
 -- the number of steps and that of references, then the touches
 pub steps-read : (segs : ℕ) (s : List ℕ) (i j steps n : ℕ) (l q : LinesRead) (xs : List ℕ)
@@ -81,19 +100,25 @@ pub entries-first : (later : Bool) (segs : ℕ) (s : List ℕ) (m : ℕ) (q : Pa
 unfolding refsPart
 entries-first later segs s m q t e d = rw t (sym (counted-most refsKey refKey 0 0 (segs - 1) m mostSteps s q e d))
 
+-- a head counts its sizes
+pub sizes-counted : (h : Head) → HeadFilled h → length (headValueOf h .sizes) ≡ h .segs
+unfolding headValueOf
+sizes-counted h f = filled-length (h .segs) (h .sizes) (zeros mostSegs) (f .sizes)
+
 -- the entries of a sheet with a head
 pub entries-read : (later : Bool) (h : Head) (s : List ℕ) (q : Parsed (List ℕ)) → HeadFilled h → q ≡ entriesPart later (h .segs) .reads s
     → entriesPart later (length (headValueOf h .sizes)) .reads s ≡ q
-unfolding headValueOf
-entries-read later h s q f d =
-    ap (λ n. entriesPart later n .reads s) (filled-length (h .segs) (h .sizes) (zeros mostSegs) (f .sizes)) ∙ sym d
+entries-read later h s q f d = ap (λ n. entriesPart later n .reads s) (sizes-counted h f) ∙ sym d
 
 -- a head that was read has a segment
-pub some-segs : (taken : Bool) (h : Head) (s rest : List ℕ) → HeadFilled h → headPart taken .reads s ≡ read (headValueOf h) rest
+pub some-segs : (taken later : Bool) (h : Head) (s rest : List ℕ) → HeadFilled h → headPart taken later .reads s ≡ read (headValueOf h) rest
     → 1 ≤ h .segs
-unfolding headValueOf
-some-segs taken h s rest f e =
-    rw (filled-length (h .segs) (h .sizes) (zeros mostSegs) (f .sizes)) at (head-segs taken s (headValueOf h) rest e .0)
+some-segs taken later h s rest f e = rw (sizes-counted h f) at (head-segs taken later s (headValueOf h) rest e .0)
+
+-- and so have its sizes and rows
+pub table-segs : (later : Bool) (kind : Kind) (a : ℕ) (h : Head) (s rest : List ℕ) → HeadFilled h
+    → tablesPart later kind a .reads s ≡ read (headValueOf h) rest → 1 ≤ h .segs
+table-segs later kind a h s rest f e = rw (sizes-counted h f) at (tables-segs later kind a s (headValueOf h) rest e .0)
 
 -- the lists of the empty head
 pub empty-filled : HeadFilled emptyHead
@@ -102,4 +127,5 @@ empty-filled =
     record {
       sizes = filled-start 0 (zeros mostSegs) (zeros mostSegs) (omega arith) refl;
       prices = filled-start 0 (zeroRows mostRows) (zeroRows mostRows) (omega arith) refl;
+      holds = filled-start 0 (zeros mostSegs) (zeros mostSegs) (omega arith) refl;
     }

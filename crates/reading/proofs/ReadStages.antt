@@ -41,6 +41,8 @@ head-held h f =
       filled-padded (h .segs) (h .sizes) (zeros mostSegs) (f .sizes),
       filled-length (h .rows) (h .prices) (zeroRows mostRows) (f .prices),
       filled-padded (h .rows) (h .prices) (zeroRows mostRows) (f .prices),
+      filled-length (h .warm) (h .holds) (zeros mostSegs) (f .holds),
+      filled-padded (h .warm) (h .holds) (zeros mostSegs) (f .holds),
     )
 
 -- so is a sheet, and the answer with it
@@ -53,11 +55,12 @@ finished form h steps touches f g =
 
 -- no form has a smaller limit than form 1
 least-limit : (form : ℕ) → formBytes 1 ≤ formBytes form
-least-limit form = go (eqb form 2)
+least-limit form = go (eqb form 2) (eqb form 3)
   where
-    go : (b : Bool) → 20012 ≤ cond b 29163 20012
-    go true = omega arith
-    go false = omega arith
+    go : (b d : Bool) → 20012 ≤ cond b 29163 (cond d 31366 20012)
+    go true d = omega arith
+    go false true = omega arith
+    go false false = omega arith
 
 pub within-least : (s : List ℕ) → length s ≤ formBytes 1 → false ≡ ltb (formBytes (namedForm s)) (length s)
 within-least s h = sym (le-ltb (formBytes (namedForm s)) (length s) (omega (arith, h, least-limit (namedForm s))))

@@ -3,6 +3,7 @@
 pub mod head;
 pub mod rows;
 pub mod touching;
+pub mod warming;
 
 use model::Head;
 use model::Refusal;
@@ -106,6 +107,9 @@ fn form_bytes(form: u32) -> usize
     if form == 2 {
         return Sheet::MAX_BYTES_2;
     }
+    if form == 3 {
+        return Sheet::MAX_BYTES_3;
+    }
     Sheet::MAX_BYTES
 }
 
@@ -150,7 +154,7 @@ pub fn read_forms(bytes: &[u8], lo: u8, hi: u8) -> SheetAnswer
     match form_line(bytes, lo, hi) {
         NumberAt::Refused(why) => refused(why),
         NumberAt::Number(form, first) => {
-            let found = head::head_lines(&bytes[first..], lo as u32 <= form);
+            let found = head::head_lines(&bytes[first..], lo as u32 <= form, 3 <= form);
             let lines = found.lines;
             let head = found.head;
             match lines {

@@ -17,16 +17,17 @@ use Rattle.model.specs.declared.Refusal.{Refusal}
 use Rattle.model.specs.declared.Refusal.the-variants.{OutOfRange, NoSuchRow, RecorderFull}
 use Rattle.model.specs.declared.Verdict.{Verdict}
 use Rattle.model.specs.declared.Verdict.the-variants.{Accepted, Refused}
-use Rattle.model.specs.Values.{headOf, sheetOf}
+use Rattle.model.specs.Values.{zeros, headOf, sheetOf}
 use Rattle.model.specs.declared.Sheet.{Sheet}
 use Rattle.figures.specs.Buckets.{allEmpty}
-use Rattle.model.specs.LastTouches.{allUntouched}
+use Rattle.model.specs.LastTouches.{startTable}
 use Rattle.figures.specs.Rows.{figuresAt, figuresOf}
 use Rattle.figures.proofs.Passing.{pass-start}
 use Rattle.recorder.specs.Recorders.{recorderOf, started, appended, taken, withStep, stepVerdict, refsVerdict, touchAllVerdict, idleVerdict}
 use Rattle.recorder.specs.Recorders.{Touched, TouchedAll, Rested, Figured}
+use Rattle.recorder.specs.inner.Passes.{begun}
 use Rattle.recorder.specs.declared.Recorder.{Recorder}
-use Rattle.recorder.proofs.Standing.{recorder-passed}
+use Rattle.recorder.proofs.Standing.{front, few-warm, recorder-passed}
 use Rattle.recorder.proofs.Stepping.{rested-stands}
 
 -- an answer is not both
@@ -48,15 +49,19 @@ step-full count why = go (ltb count mostSteps) refl
     go true t a = refused-accepted why (sym a)
     go false t a = ltb-false count mostSteps t
 
--- a start: nothing was touched yet
-pub start-stands : (v : SheetValue) → (sheet : Sheet) → sheet ≡ sheetOf v
-    → record { head = sheet .head; steps = 0; last = allUntouched; buckets = allEmpty; cost = 0; volume = 0 } ≡ recorderOf (started v)
-unfolding sheetOf refCost refVolume
-start-stands v sheet e =
+-- a start: the warm segments count as touched
+begun-stands : (v : SheetValue) → Valid v → begun (headOf (v .head)) ≡ recorderOf (started v)
+unfolding headOf refCost refVolume
+begun-stands v valid =
     let T = traceOf (started v) in
-    rw e
-    (recorder-passed (started v) 0 refl allEmpty allUntouched 0 0 (pass-start (v .head .rows) T (λ i. refl))
+    let warm = v .head .warm in
+    rw (front warm (zeros mostSegs) (min (length warm) mostSegs) mostSegs (few-warm v valid) refl)
+    (recorder-passed (started v) 0 refl allEmpty (startTable warm) 0 0 (pass-start (v .head .rows) T warm (λ i. refl))
     (sym (sum-none (touching T (λ t i. unitOf T i)))) (sym (sum-none (touching T (λ t i. sizeOf T i)))))
+
+pub start-stands : (v : SheetValue) → Valid v → (sheet : Sheet) → sheet ≡ sheetOf v → begun (sheet .head) ≡ recorderOf (started v)
+unfolding sheetOf
+start-stands v valid sheet e = rw e (begun-stands v valid)
 
 module _ (R : Recorder) (x : ℕ) where
   pub out-of-range : min (R .head .segs) mostSegs ≤ x → Touched R x (record { verdict = Refused OutOfRange; recorder = R })

@@ -1,6 +1,6 @@
 -- The figures of a row, as the code reads them off a recorder that stands for a sheet, are the sheet's. Assumes nothing.
-use Prim.Native.Nat.{ℕ, _+_, _≤_, _<_, min}
-use mathlib.Core.Path.{_≡_, refl, ap}
+use Prim.Native.Nat.{ℕ, _+_, _*_, _≤_, _<_, min}
+use mathlib.Core.Path.{_≡_, refl, ap, _∙_}
 use mathlib.Core.List.{List}
 use native.Mathlib.Omega.{arith}
 use native.Mathlib.Numerals.{add-one}
@@ -11,18 +11,23 @@ use Rattle.model.specs.declared.PriceRow.{PriceRow}
 use Rattle.model.specs.declared.RowFigures.{RowFigures}
 use Rattle.model.specs.Values.{zeros, zeroRows, headOf}
 use Rattle.model.specs.LastTouches.{lastTable}
+use Rattle.model.specs.Traces.{sizeOf, swapOf}
+use Rattle.model.proofs.FirstTouches.{started}
 use Rattle.figures.specs.Buckets.{bucketCount, tallyOf}
 use Rattle.figures.specs.inner.Pass.{EndedAt}
 use Rattle.search.specs.inner.Quotients.{unitsFor, Quoted}
 use Rattle.figures.specs.Rows.{figuresAt}
-use Rattle.figures.specs.inner.Sweep.{summed, Holds, Summable, RowFits, rowFrom, Tallied}
+use Rattle.figures.specs.inner.Sweep.{summed, withStart, mostItems, Holds, Summable, RowFits, rowFrom, Tallied}
 use Rattle.figures.specs.declared.Bucket.{Bucket}
 use Rattle.figures.specs.declared.Tally.{Tally}
+use Rattle.figures.specs.declared.rows.StartSwaps.{StartSwaps}
+use Rattle.figures.proofs.Starts.{starts-are}
 use Rattle.figures.proofs.Sweeps.{holds-more}
-use Rattle.figures.proofs.Sweeping.{SweptTo, tallied-buckets, tallied-ends, tallied-fits, tallied-row}
+use Rattle.figures.proofs.Sweeping.{SweptTo, all-fits, tallied-buckets, tallied-ends, tallied-all, tallied-fits, tallied-row}
+use Rattle.recorder.specs.inner.Passes.{headSwaps}
 use Rattle.recorder.specs.Recorders.{recorderOf}
 use Rattle.recorder.specs.declared.Recorder.{Recorder}
-use Rattle.recorder.proofs.Standing.{front, padded-at, head-rows}
+use Rattle.recorder.proofs.Standing.{front, padded-at, head-rows, few-warm}
 
 -- sums from which no figure exceeds 64 bits are such that a working set can be made of them
 pub summable-of : {kind : Kind} {row : PriceRow} {refs cost volume : ℕ} {all kept ends : Bucket}
@@ -49,7 +54,7 @@ unfolding recorderOf headOf
 ends-of v valid rows segs steps qs b rows-are segs-are steps-are quoted ended =
     let all : length (v .refs) ≡ steps = omega (arith, valid .run .steps-within) in
     let sizes = front (v .head .sizes) (zeros mostSegs) segs mostSegs (valid .run .segs-within) segs-are in
-    (rw sizes at ended) (v .head .rows) (head-rows (v .head) (valid .rows) rows rows-are qs quoted) (v .refs) all (valid .run)
+    (rw sizes at ended) (v .head .rows) (head-rows (v .head) (valid .rows) rows rows-are qs quoted) (v .head .warm) (v .refs) all (valid .run)
     (ap (lastTable (traceOf v)) all)
 
 pub ends-stand : (R : Recorder) (rows segs steps : ℕ) (qs : List ℕ) (b : List Bucket)
@@ -60,14 +65,31 @@ pub ends-stand : (R : Recorder) (rows segs steps : ℕ) (qs : List ℕ) (b : Lis
 ends-stand R rows segs steps qs b rows-are segs-are steps-are quoted ended v valid e =
     ends-of v valid rows segs steps qs b (rw e at rows-are) (rw e at segs-are) (rw e at steps-are) (rw e at quoted) (rw e at ended)
 
+-- the swap costs of the warm segments are the sheet's
+starts-of : (v : SheetValue) → Valid v → headSwaps (recorderOf v .head)
+    ≡ record {
+      swap = started (traceOf v) (λ i. swapOf (traceOf v) i);
+      swapz = started (traceOf v) (λ i. swapOf (traceOf v) i * sizeOf (traceOf v) i);
+    }
+unfolding recorderOf headOf
+starts-of v valid =
+    rw (
+      front (v .head .sizes) (zeros mostSegs) (min (length (v .head .sizes)) mostSegs) mostSegs (valid .run .segs-within) refl,
+      front (v .head .warm) (zeros mostSegs) (min (length (v .head .warm)) mostSegs) mostSegs (few-warm v valid) refl,
+    ) (starts-are (v .head .kind) (v .head .a) (v .head .sizes) (v .head .warm) (v .refs))
+
 -- the figures f of a row of the recorder R as the code makes them
 pub record Swept (R : Recorder) (row : ℕ) (f : RowFigures) : Type 0 where
   pub ended : List Bucket
+  pub touches : Bucket
+  pub start : StartSwaps
   pub all : Bucket
   pub kept : Bucket
   pub ends : Bucket
   pub ended-are : (v : SheetValue) → Valid v → R ≡ recorderOf v → ended ≡ tallyOf (v .head .rows) (traceOf v) .ends
-  pub all-is : ((m : ℕ) → m ≤ bucketCount → Holds mostSteps (summed (R .buckets) m)) → all ≡ summed (R .buckets) bucketCount
+  pub touches-are : ((m : ℕ) → m ≤ bucketCount → Holds mostSteps (summed (R .buckets) m)) → touches ≡ summed (R .buckets) bucketCount
+  pub start-is : start ≡ headSwaps (R .head)
+  pub all-is : Holds mostItems (withStart (start .swap) (start .swapz) touches) → all ≡ withStart (start .swap) (start .swapz) touches
   pub kept-is : ((m : ℕ) → m ≤ row + 1 → Holds mostSteps (summed (R .buckets) m)) → kept ≡ summed (R .buckets) (row + 1)
   pub ends-is : ((m : ℕ) → m ≤ row + 1 → Holds mostSteps (summed ended m)) → ends ≡ summed ended (row + 1)
   pub figures-are : RowFits (R .head .kind) (getD (R .head .prices) row (record { h = 0; d = 0 })) (R .steps) (R .cost)
@@ -86,20 +108,21 @@ module _ (v : SheetValue) (valid : Valid v) (row : ℕ) (lt : row < length (v .h
       let given : Tallied rows T tally =
       record { rows-ok = valid .rows; run-ok = valid .run; is-tally = rw (s .ended-are v valid refl) refl } in
       let few : row + 1 ≤ bucketCount = omega (arith, valid .rows .rows-within) in
+      let whole = tallied-all rows T tally given (s .touches-are (tallied-buckets rows T tally given)) (s .start-is ∙ starts-of v valid) in
       let at : SweptTo rows T tally given row (getD (recorderOf v .head .prices) row (record { h = 0; d = 0 })) (recorderOf v .cost)
       (recorderOf v .volume) (s .all) (s .kept) (s .ends) =
       record {
         row-is = padded-at rows (zeroRows mostRows) row (record { h = 0; d = 0 }) lt;
         cost-is = refl;
         volume-is = refl;
-        all-is = s .all-is (tallied-buckets rows T tally given);
+        all-is = s .all-is (rw whole (all-fits rows T tally given)) ∙ whole;
         kept-is = rw (add-one row) at (s .kept-is (λ m le. tallied-buckets rows T tally given m (omega arith)));
         ends-is =
             rw (add-one row) at
             (s .ends-is (λ m le. holds-more (summed (s .ended) m) (tallied-ends rows T tally given m (omega arith))));
       }
       in
-      tallied-row rows T tally given (λ i. refl) row lt at (s .figures-are (tallied-fits rows T tally given (λ i. refl) row lt at))
+      tallied-row rows T tally given row lt at (s .figures-are (tallied-fits rows T tally given row lt at))
 
 pub swept-stands : (R : Recorder) (row : ℕ) (f : RowFigures) → row < min (R .head .rows) mostRows → Swept R row f
     → (v : SheetValue) → Valid v → R ≡ recorderOf v → f ≡ figuresAt v row

@@ -11,11 +11,12 @@ use lib.ListN.{length, getD, take, drop, length-append, List·getD-append}
 use lib.Seq.{getD-append-add, take-append-seam}
 use borrow.Author.Tests.{ltb-true, ltb-false}
 use Rattle.model.specs.Figures.{refCost, refVolume}
-use Rattle.model.specs.Sheets.{HeadValue, SheetValue, RowsWithin, Valid, traceOf, idle, newestForm, mostRows, mostSteps}
+use Rattle.model.specs.Sheets.{HeadValue, SheetValue, RowsWithin, Valid, traceOf, idle, newestForm, mostSegs, mostRows, mostSteps}
 use Rattle.model.specs.Values.{padded, zeroRows, headOf}
 use Rattle.model.specs.declared.Refusal.the-variants.{RecorderFull}
 use Rattle.model.specs.declared.Verdict.the-variants.{Accepted, Refused}
 use Rattle.model.proofs.Lists.{getD-any}
+use Rattle.model.proofs.Warm.{warm-few}
 use Rattle.figures.specs.inner.Pass.{Roomy, RowsOf, passedAfter, passedOf}
 use Rattle.search.specs.inner.Quotients.{unitsFor, Quoted}
 use Rattle.figures.specs.declared.Bucket.{Bucket}
@@ -45,6 +46,11 @@ head-rows v up n is qs quoted =
       within = up;
       counted = omega (arith, up .rows-within);
     }
+
+-- the warm segments of a sheet have room in a head
+pub few-warm : (v : SheetValue) → Valid v → length (v .head .warm) ≤ mostSegs
+few-warm v valid =
+    omega (arith, warm-few (length (v .head .sizes)) (v .head .warm) (valid .warm), valid .run .segs-within)
 
 -- a recorder that stands for a sheet holds what the pass has after its steps
 pub standing : (v : SheetValue)
@@ -89,13 +95,13 @@ abbrev Entry : SheetValue → ℕ → Type 0
 Entry v x = (x < length (v .head .sizes)) ⊎ (x ≡ idle)
 
 -- other steps, not too many, leave a sheet within the limits; in form 1 each has a touch
-steps-valid : (v : SheetValue) → Valid v → (form : ℕ) → 1 ≤ form → form ≤ newestForm → (refs : List ℕ) → length refs ≤ mostSteps
+steps-valid : (v : SheetValue) → Valid v → (form : ℕ) → v .form ≤ form → form ≤ newestForm → (refs : List ℕ) → length refs ≤ mostSteps
     → ((t : ℕ) → t < length refs → Entry v (getD refs t (length (v .head .sizes))))
     → (form ≡ 1 → (t : ℕ) → t < length refs → getD refs t (length (v .head .sizes)) < length (v .head .sizes))
     → Valid (record { form = form; head = v .head; refs = refs })
-steps-valid v valid form some known refs few entries segments =
+steps-valid v valid form least known refs few entries segments =
     record {
-      some-form = some;
+      some-form = omega (arith, valid .some-form);
       form-within = known;
       rows = valid .rows;
       run =
@@ -109,6 +115,8 @@ steps-valid v valid form some known refs few entries segments =
             entry-within = entries;
           };
       whole = segments;
+      warm = valid .warm;
+      cold = λ early. valid .cold (omega arith);
     }
 
 -- more references
@@ -116,7 +124,7 @@ pub appended-valid : (v : SheetValue) → Valid v → (xs : List ℕ) → ((t : 
     → length (v .refs) + length xs ≤ mostSteps → Valid (appended v xs)
 appended-valid v valid xs segments room =
     let segs = length (v .head .sizes) in
-    steps-valid v valid (v .form) (valid .some-form) (valid .form-within) (v .refs ++ xs) (omega (arith, length-append (v .refs) xs))
+    steps-valid v valid (v .form) (omega arith) (valid .form-within) (v .refs ++ xs) (omega (arith, length-append (v .refs) xs))
     (appended-each (Entry v) (v .refs) xs segs 0 (valid .run .entry-within) (λ t lt. inl (segments t lt)))
     (λ first. appended-each (λ x. x < segs) (v .refs) xs segs 0 (valid .whole first) segments)
 
@@ -158,5 +166,5 @@ idle-room R v e a =
 -- no steps
 pub started-valid : (v : SheetValue) → Valid v → Valid (started v)
 started-valid v valid =
-    steps-valid v valid (v .form) (valid .some-form) (valid .form-within) [] (omega arith) (λ t l. absurd (omega arith))
+    steps-valid v valid (v .form) (omega arith) (valid .form-within) [] (omega arith) (λ t l. absurd (omega arith))
     (λ first t l. absurd (omega arith))

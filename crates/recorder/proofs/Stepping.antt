@@ -132,7 +132,7 @@ passed-of v rows segs qs p n xs r rows-are segs-are quoted on valid all is =
     let T = traceOf v in
     let U = withRefs T (v .refs ++ xs) in
     let sizes = front (v .head .sizes) (zeros mostSegs) segs mostSegs (valid .run .segs-within) segs-are in
-    (rw sizes at on) (v .head .rows) (head-rows (v .head) (valid .rows) rows rows-are qs quoted) (v .refs) all (valid .run)
+    (rw sizes at on) (v .head .rows) (head-rows (v .head) (valid .rows) rows rows-are qs quoted) (v .head .warm) (v .refs) all (valid .run)
     (rw (← all) (is ∙ passed-agree (v .head .rows) T (v .refs ++ xs) (length (v .refs))
     (λ t lt. List·getD-append (v .refs) xs (length (v .head .sizes)) t lt)))
 

@@ -16,7 +16,7 @@ use Rattle.model.specs.declared.Verdict.the-variants.{Accepted, Refused}
 use Rattle.model.specs.Values.{headOf, emptyHead}
 use Rattle.figures.specs.Buckets.{bucketCount, bucketAfter, allEmpty}
 use Rattle.model.specs.Sums.{tabulate}
-use Rattle.model.specs.LastTouches.{allUntouched, lastTable}
+use Rattle.model.specs.LastTouches.{startTable, lastTable}
 use Rattle.figures.specs.Rows.{noFigures, figuresOf}
 use Rattle.figures.specs.declared.FiguresAnswer.{FiguresAnswer}
 use Rattle.recorder.specs.declared.Recorder.{Recorder}
@@ -34,11 +34,11 @@ recorderOf v =
       volume = refVolume (traceOf v);
     }
 
--- no segments and no rows: what a refused start hands back
+-- no segments, no rows and no warm segments: what a refused start hands back
 unfoldable pub emptyRecorder : Recorder
-emptyRecorder = record { head = emptyHead; steps = 0; last = allUntouched; buckets = allEmpty; cost = 0; volume = 0 }
+emptyRecorder = record { head = emptyHead; steps = 0; last = startTable []; buckets = allEmpty; cost = 0; volume = 0 }
 
--- the form and the head of a sheet, with no steps
+-- the form and the head of a sheet, its warm segments among it, with no steps
 abbrev pub started : SheetValue → SheetValue
 started v = record { form = v .form; head = v .head; refs = [] }
 

@@ -14,8 +14,7 @@ use model::Verdict;
 ghost use mathlib.Core.Path.{_≡_};
 ghost use Rattle.model.specs.Sheets.{SheetValue, Valid};
 ghost use Rattle.model.specs.Values.{sheetOf};
-ghost use Rattle.model.specs.LastTouches.{allUntouched};
-ghost use Rattle.figures.specs.Buckets.{allEmpty};
+ghost use Rattle.recorder.specs.inner.Passes.{begun};
 ghost use Rattle.recorder.specs.Recorders.{recorderOf, emptyRecorder, started, Touched, TouchedAll, Rested, Figured};
 
 // A recorder by value: the head of its sheet, how many steps were taken, the table of last touches, the buckets, Q and V.
@@ -35,11 +34,13 @@ pub struct TouchAnswer {
     pub recorder: Recorder,
 }
 
-// A head, and no step taken yet.
+// A head, and no step taken yet: its warm segments count as touched.
 fn begin(head: Head) -> Recorder
-    ensures { λ r. ⌜ r ≡ record { head = head; steps = 0; last = allUntouched; buckets = allEmpty; cost = 0; volume = 0 } ⌝ }
+    ensures { λ r. ⌜ r ≡ begun head ⌝ }
 {
-    let last = model::untouched();
+    let count = guards::least(head.warm, Sheet::MAX_SEGS);
+    let holds = head.holds;
+    let last = model::start_table(&holds[..count]);
     let buckets = figures::pass::empty_buckets();
     Recorder {
         head: head,
@@ -52,7 +53,7 @@ fn begin(head: Head) -> Recorder
 }
 
 impl Recorder {
-    // No segments and no rows: what a refused start hands back.
+    // No segments, no rows and no warm segments: what a refused start hands back.
     pub fn empty() -> Recorder
         ensures { λ r. ⌜ r ≡ emptyRecorder ⌝ }
     {
@@ -60,7 +61,7 @@ impl Recorder {
         begin(head)
     }
 
-    // From a sheet's head, with no steps.
+    // From a sheet's head and its warm segments, with no steps.
     pub fn start(sheet: Sheet) -> Recorder
         ensures { λ r. ⌜ ((v : SheetValue) → Valid v → sheet ≡ sheetOf v → r ≡ recorderOf (started v)) ⌝ }
     {

@@ -1,8 +1,11 @@
-// The figures of a row at this moment: the end intervals from the table of last touches, then the sums of the buckets up to the row.
+// The figures of a row at this moment: the end intervals from the table of last touches, the sums of the buckets up to the row, and the
+// swap costs of the warm segments.
 // Nothing is assumed.
 use crate::Recorder;
 use figures::Bucket;
 use figures::Tally;
+use figures::rows::StartSwaps;
+use model::Head;
 use model::Kind;
 use model::PriceRow;
 use model::RowFigures;
@@ -14,6 +17,7 @@ ghost use Rattle.figures.specs.Buckets.{tallyOf};
 ghost use Rattle.figures.specs.Rows.{figuresAt};
 ghost use Rattle.figures.specs.inner.Sweep.{Summable, RowFits, wsoccFrom, rowFrom};
 ghost use Rattle.recorder.specs.Recorders.{recorderOf};
+ghost use Rattle.recorder.specs.inner.Passes.{headSwaps};
 ghost use Rattle.guards.specs.inner.Tests.{Tells};
 
 // Below this an occupancy can be multiplied by 1,000.
@@ -46,7 +50,7 @@ fn summable(cost: u64, volume: u64, all: Bucket, kept: Bucket, ends: Bucket) -> 
     if guards::RETENTION < volume {
         return false;
     }
-    if !guards::holds(all, guards::STEPS) {
+    if !guards::holds(all, guards::ITEMS) {
         return false;
     }
     if !guards::holds(kept, guards::STEPS) {
@@ -106,6 +110,17 @@ fn ends_now(recorder: Recorder) -> [Bucket; Tally::BUCKETS]
     figures::pass::ends(kind, a, rows, &quotients, &rates, sizes, &last, steps)
 }
 
+// The swap costs of the warm segments of a head.
+fn start_now(head: Head) -> StartSwaps
+    ensures { λ r. ⌜ r ≡ headSwaps head ⌝ }
+{
+    let segs = guards::least(head.segs, Sheet::MAX_SEGS);
+    let count = guards::least(head.warm, Sheet::MAX_SEGS);
+    let all_sizes = head.sizes;
+    let holds = head.holds;
+    figures::rows::start_swaps(head.a, &all_sizes[..segs], &holds[..count])
+}
+
 // The figures of a row of the recorder.
 pub fn row_now(recorder: Recorder, row: usize) -> RowFigures
     requires { ⌜ row < min (recorder .head .rows) mostRows ⌝ }
@@ -116,7 +131,8 @@ pub fn row_now(recorder: Recorder, row: usize) -> RowFigures
     let kind = head.kind;
     let prices = head.prices;
     let buckets = recorder.buckets;
-    let all = guards::sum_first(buckets, Tally::BUCKETS);
+    let touches = guards::sum_first(buckets, Tally::BUCKETS);
+    let all = guards::with_start(touches, start_now(head));
     let kept = guards::sum_first(buckets, row + 1);
     let ends = guards::sum_first(ended, row + 1);
     row_of(

@@ -28,7 +28,7 @@ sheetAnswer v room =
 unfoldable pub sheetAfter : SheetValue → List RowFigures → List RowFigures
 sheetAfter v list = cond (leb (length (v .head .rows)) (length list)) (rowRecords v ++ drop (length (v .head .rows)) list) list
 
--- what the call answers for bytes and a list: 1 to 6, 11
+-- what the call answers for bytes and a list: the sheet's refusals, 11
 unfoldable pub listAnswer : List ℕ → List RowFigures → PlaceAnswer
 listAnswer s list = onSheet (readSheet s) nothingPlaced (λ v. sheetAnswer v (length list))
 

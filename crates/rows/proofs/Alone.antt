@@ -37,7 +37,11 @@ row-alone-within rows within r lt =
 -- a sheet with a row q alone
 abbrev pub withRow : SheetValue → PriceRow → SheetValue
 withRow v q =
-    record { form = v .form; head = record { kind = v .head .kind; a = v .head .a; sizes = v .head .sizes; rows = q ∷ [] }; refs = v .refs }
+    record {
+      form = v .form;
+      head = record { kind = v .head .kind; a = v .head .a; sizes = v .head .sizes; rows = q ∷ []; warm = v .head .warm };
+      refs = v .refs;
+    }
 
 -- with row r alone
 abbrev pub alone : SheetValue → ℕ → SheetValue

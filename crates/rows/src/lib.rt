@@ -45,6 +45,7 @@ pub fn row_alone(s: Sheet, row: usize) -> RowFigures
     let kind = head.kind;
     let sizes = head.sizes;
     let prices = head.prices;
+    let holds = head.holds;
     let price = prices[row];
     let alone = Head {
         kind: kind,
@@ -53,6 +54,8 @@ pub fn row_alone(s: Sheet, row: usize) -> RowFigures
         sizes: sizes,
         rows: 1,
         prices: [price; Sheet::MAX_ROWS],
+        warm: head.warm,
+        holds: holds,
     };
     let steps = s.steps;
     let touches = s.touches;

@@ -3,4 +3,5 @@ pub mod Filling
 pub mod Marks
 pub mod Masks
 pub mod Segments
+pub mod StartMasks
 pub mod StepBytes

@@ -70,7 +70,7 @@ power-below : (k : ℕ) → k < 8 → 2 ^ k < 256
 power-below k lt = pow-lt lt
 
 -- one byte, masked by that of segment i alone
-masked-byte : (f : ℕ → Bool) (i j : ℕ) (on : Bool)
+pub masked-byte : (f : ℕ → Bool) (i j : ℕ) (on : Bool)
     → masked (ofBits 8 (λ k. f (8 * j + k))) (maskByte i j) (cond on 255 0) ≡ ofBits 8 (λ k. change f i on (8 * j + k))
 unfolding masked maskByte
 masked-byte f i j on = go (eqb (i / 8) j) refl

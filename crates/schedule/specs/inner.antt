@@ -1,2 +1,3 @@
 pub mod Segments
+pub mod Starting
 pub mod Writing

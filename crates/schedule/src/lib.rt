@@ -1,5 +1,6 @@
 // Schedules: their shape, and writing them, the optimal one of a row among them.
 // What a schedule is and costs is written in crate `model`; nothing is assumed.
+pub mod starting;
 pub mod writing;
 
 use model::Sheet;

@@ -31,7 +31,7 @@ fn no_marks() -> [bool; Sheet::MAX_STEPS]
 }
 
 // The bytes of a step that holds no segment.
-fn no_segments() -> [u8; Schedule::STEP_BYTES]
+pub fn no_segments() -> [u8; Schedule::STEP_BYTES]
     ensures { λ r. ⌜ r ≡ noSegments ⌝ }
 {
     [0; Schedule::STEP_BYTES]
@@ -56,19 +56,20 @@ fn touch_kept(kind: Kind, a: u8, row: PriceRow, z: u16, mark: u16, steps: u16) -
     }
 }
 
-// For each step whether its touch is kept: one pass over the references.
+// For each step whether its touch is kept: one pass over the references, from the warm segments on.
 fn kept_marks(
     kind: Kind,
     a: u8,
     row: PriceRow,
     sizes: &[u16],
+    warm: &[u16],
     refs: &[u16],
 ) -> [bool; Sheet::MAX_STEPS]
-    requires { ⌜ RunWithin (runOf kind a (now sizes) (now refs)) ⌝ }
-    ensures { λ r. ⌜ KeptMarks (runOf kind a (now (sizes .entry)) (now (refs .entry))) row r ⌝ }
+    requires { ⌜ RunWithin (runOf kind a (now sizes) (now warm) (now refs)) ⌝ }
+    ensures { λ r. ⌜ KeptMarks (runOf kind a (now (sizes .entry)) (now (warm .entry)) (now (refs .entry))) row r ⌝ }
 {
     let mut marks = no_marks();
-    let mut last = model::untouched();
+    let mut last = model::start_table(warm);
     let mut t: usize = 0;
     while t < refs.len() {
         let i = refs[t] as usize;
@@ -97,7 +98,7 @@ fn mask_table() -> [u8; MASK_BYTES]
 }
 
 // The byte with its bits in `mask` replaced by those of `on`.
-fn masked(byte: u8, mask: u8, on: u8) -> u8
+pub fn masked(byte: u8, mask: u8, on: u8) -> u8
     ensures { λ r. ⌜ r ≡ masked byte mask on ⌝ }
 {
     byte - (byte & mask) + (mask & on)
@@ -168,14 +169,22 @@ pub fn write_decided(segments: usize, refs: &[u16], decisions: &[bool], out: &mu
 }
 
 // The optimal schedule of a row at the head of a lent place, whatever stood there; what stands beyond it stays.
-pub fn write_optimal(kind: Kind, a: u8, row: PriceRow, sizes: &[u16], refs: &[u16], out: &mut [u8])
-    requires { ⌜ RunWithin (runOf kind a (now sizes) (now refs)) ⌝ }
+pub fn write_optimal(
+    kind: Kind,
+    a: u8,
+    row: PriceRow,
+    sizes: &[u16],
+    warm: &[u16],
+    refs: &[u16],
+    out: &mut [u8],
+)
+    requires { ⌜ RunWithin (runOf kind a (now sizes) (now warm) (now refs)) ⌝ }
     requires { ⌜ 32 * length (now refs) ≤ length (now out) ⌝ }
     ensures { λ _.
-        ⌜ now (out .exit) ≡ optimalSchedule (runOf kind a (now (sizes .entry)) (now (refs .entry))) (row .h) (row .d)
+        ⌜ now (out .exit) ≡ optimalSchedule (runOf kind a (now (sizes .entry)) (now (warm .entry)) (now (refs .entry))) (row .h) (row .d)
         ++ drop (32 * length (now (refs .entry))) (now (out .entry)) ⌝ }
 {
-    let marks = kept_marks(kind, a, row, sizes, refs);
+    let marks = kept_marks(kind, a, row, sizes, warm, refs);
     let n = refs.len();
     write_decided(sizes.len(), refs, &marks[..n], out);
 }

@@ -6,21 +6,23 @@ use mathlib.Core.Bool.{Bool, true, false, _&&_, false≢true}
 use mathlib.Core.List.{List, [], _∷_}
 use mathlib.Core.Option.{none}
 use native.Mathlib.Omega.{arith}
-use borrow.Author.Tests.{le-leb, leb-true, leb-false, lt-ltb, ltb-true, ltb-false}
+use borrow.Author.Tests.{le-leb, lt-leb, leb-true, leb-false, lt-ltb, ltb-true, ltb-false}
 use lib.Dec.{leb, ltb}
 use lib.ListN.{length, getD}
 use Rattle.decimal.proofs.Digits.{both}
-use Rattle.model.specs.Sheets.{SheetValue, Valid, rowAt, idle, newestForm, formBytes, mostSteps, largestSize, largestPrice}
+use Rattle.model.specs.Sheets.{SheetValue, Valid, WarmWithin, rowAt, idle, newestForm, formBytes, mostSteps, largestSize, largestPrice}
 use Rattle.model.specs.declared.PriceRow.{PriceRow}
 use Rattle.model.specs.declared.Refusal.{Refusal}
 use Rattle.model.specs.declared.Refusal.the-variants.{SheetTooLong}
 use Rattle.sheet.specs.Lines.{Parsed, read, refused}
 use Rattle.sheet.specs.Values.{above, inPrices}
+use Rattle.sheet.specs.Warm.{aboveHold}
 use Rattle.sheet.specs.Reading.{sheetLines, namedForm, Outcome, accepted, rejected, atEnd, readForms}
 use Rattle.sheet.proofs.Parsing.{by-test}
 use Rattle.lines.proofs.Runs.{before, each-at, each-of}
-use Rattle.sheet.proofs.Words.{RowFits}
-use Rattle.sheet.proofs.SheetLines.{From, EntriesFit, Readable, sheet-reads}
+use Rattle.model.proofs.Warm.{warm-few}
+use Rattle.sheet.proofs.Words.{RowFits, HoldFits}
+use Rattle.sheet.proofs.SheetLines.{From, EntriesFit, WarmFits, Readable, sheet-reads}
 use Rattle.sheet.proofs.Touches.{EntryFits}
 
 -- ---- the prices of a row
@@ -61,6 +63,30 @@ within-entries : (later : Bool) (segs : ℕ) (xs : List ℕ) → length xs ≤ m
 within-entries true segs xs l f g = (l, each-of (EntryFits segs) segs none xs f)
 within-entries false segs xs l f g = (l, each-of (From 0 (segs - 1)) segs none xs (λ t lt. omega (arith, g refl t lt)))
 
+-- warm segments that fit are segments, ascending
+warm-within : (later : Bool) (segs : ℕ) (xs : List ℕ) → 1 ≤ segs → WarmFits later segs xs → WarmWithin segs xs
+warm-within true segs xs some (l, c) =
+    let hold = each-at (HoldFits segs) 0 none xs c in
+    record { below = λ k lt. omega (arith, hold k lt .0 .1); ascending = λ k lt. ltb-true _ _ (hold (suc k) lt .1) }
+warm-within false segs xs some e = rw e (record { below = λ k lt. absurd (omega arith); ascending = λ k lt. absurd (omega arith) })
+
+-- before form 3 there are none
+warm-none : (later : Bool) (segs : ℕ) (xs : List ℕ) → later ≡ false → WarmFits later segs xs → xs ≡ []
+warm-none true segs xs e c = absurd (false≢true (sym e))
+warm-none false segs xs e c = c
+
+-- and back
+within-warm : (later : Bool) (segs : ℕ) (xs : List ℕ) → WarmWithin segs xs → (later ≡ false → xs ≡ []) → WarmFits later segs xs
+within-warm false segs xs c f = f refl
+within-warm true segs xs c f = (
+  warm-few segs xs c,
+  each-of (HoldFits segs) 0 none xs (λ k lt. ((omega arith, omega (arith, c .below k lt)), ascends k lt)),
+)
+  where
+    ascends : (k : ℕ) → k < length xs → aboveHold (before 0 none xs k) (getD xs k 0) ≡ true
+    ascends zero lt = refl
+    ascends (suc k) lt = lt-ltb _ _ (c .ascending k lt)
+
 -- what the lines ask is all that the limits ask
 pub readable-valid : (lo hi : ℕ) → hi ≤ newestForm → (v : SheetValue) → Readable lo hi v → Valid v
 unfolding zeroRow
@@ -93,6 +119,8 @@ readable-valid lo hi new v c =
             entry-within = entry;
           };
       whole = λ e. entries-whole (leb 2 (v .form)) (length (v .head .sizes)) (v .refs) (ap (λ k. leb 2 k) e) (c .segs-fit .0) (c .entries-fit);
+      warm = warm-within (leb 3 (v .form)) (length (v .head .sizes)) (v .head .warm) (c .segs-fit .0) (c .warm-fits);
+      cold = λ l. warm-none (leb 3 (v .form)) (length (v .head .sizes)) (v .head .warm) (lt-leb 3 (v .form) (omega arith)) (c .warm-fits);
     }
   where
     form : v .form ≤ newestForm
@@ -116,6 +144,8 @@ valid-readable lo hi v l h c =
       rows-fit = (c .rows .some-rows, c .rows .rows-within);
       prices-fit = each-of RowFits zeroRow none (v .head .rows)
           (λ r l. (within-prices _ _ (c .rows .h-within r l) (c .rows .some-d r l) (c .rows .d-within r l), ascends r l));
+      warm-fits = within-warm (leb 3 (v .form)) (length (v .head .sizes)) (v .head .warm) (c .warm)
+          (λ e. c .cold (omega (arith, leb-false 3 (v .form) e)));
       entries-fit = within-entries (leb 2 (v .form)) (length (v .head .sizes)) (v .refs) (c .run .steps-within) (c .run .entry-within)
           (λ e. c .whole (omega (arith, c .some-form, leb-false 2 (v .form) e)));
     }

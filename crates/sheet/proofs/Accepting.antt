@@ -3,6 +3,7 @@ use Prim.Native.Nat.{ℕ, _≤_}
 use mathlib.Core.Path.{_≡_, refl, sym, ap, _∙_}
 use mathlib.Core.List.{List}
 use native.Mathlib.Omega.{arith}
+use lib.ListN.{length}
 use Rattle.model.specs.Places.{nothingPlaced, Result, gives, refuses, PlaceLeft}
 use Rattle.model.specs.Sheets.{SheetValue, Valid, newestForm, mostSegs, mostRows, mostSteps}
 use Rattle.model.specs.Standing.{Standing}
@@ -11,6 +12,7 @@ use Rattle.model.specs.declared.PlaceAnswer.{PlaceAnswer}
 use Rattle.model.specs.declared.Refusal.{Refusal}
 use Rattle.model.specs.declared.Verdict.the-variants.{Accepted, Refused}
 use Rattle.model.proofs.Places.{refusal-left}
+use Rattle.model.proofs.Warm.{warm-few}
 use Rattle.model.proofs.Values.{zeros-length, idles-length, zero-rows-length, padded-length}
 use Rattle.sheet.specs.Accepting.{onSheet}
 use Rattle.sheet.specs.Answers.{answerOf}
@@ -40,13 +42,16 @@ accepted-on (rejected p) A e r f g = let a : A .verdict ≡ Refused p = ap (λ B
 held-stands : (v : SheetValue) → Valid v → Standing (sheetOf v)
 unfolding sheetOf headOf
 held-stands v c =
+    let few : length (v .head .warm) ≤ mostSegs = omega (arith, warm-few (length (v .head .sizes)) (v .head .warm) (c .warm), c .run .segs-within) in
     record {
       valid = rw (held v) c;
       segs-within = c .run .segs-within;
       rows-within = c .rows .rows-within;
+      warm-within = few;
       steps-within = c .run .steps-within;
       sizes-whole = padded-length (v .head .sizes) (zeros mostSegs) (omega (arith, zeros-length mostSegs)) ∙ zeros-length mostSegs;
       prices-whole = padded-length (v .head .rows) (zeroRows mostRows) (omega (arith, zero-rows-length mostRows)) ∙ zero-rows-length mostRows;
+      holds-whole = padded-length (v .head .warm) (zeros mostSegs) (omega (arith, zeros-length mostSegs)) ∙ zeros-length mostSegs;
       touches-whole = padded-length (v .refs) (idles mostSteps) (omega (arith, idles-length mostSteps)) ∙ idles-length mostSteps;
     }
 

@@ -1,9 +1,9 @@
--- The text of a valid value has at most 20,012 bytes, in form 2 at most 29,163, and that of one valid value of each form has as many.
--- Assumes nothing.
+-- The text of a valid value has at most 20,012 bytes, in form 2 at most 29,163 and in form 3 at most 31,366, and that of one valid value
+-- of each form has as many. Assumes nothing.
 use Prim.Native.Nat.{ℕ, zero, suc, _+_, _-_, _*_, _^_, _≤_, _<_}
 use mathlib.Core.Path.{_≡_, refl, ap, subst, _∙_}
 use mathlib.Core.Logic.{inl}
-use mathlib.Core.Bool.{Bool, true, false}
+use mathlib.Core.Bool.{Bool, true, false, cond}
 use mathlib.Core.List.{List, [], _∷_, _++_, append-nil}
 use mathlib.Core.Option.{Option, none, some}
 use native.Mathlib.Omega.{arith}
@@ -16,77 +16,83 @@ use Rattle.model.specs.Sheets.{HeadValue, SheetValue, Valid, formBytes, newestF
 use Rattle.model.specs.declared.Kind.{Kind}
 use Rattle.model.specs.declared.Kind.the-variants.{Time, Space}
 use Rattle.model.specs.declared.PriceRow.{PriceRow}
-use Rattle.lines.specs.Keys.{formKey, kindKey, aKey, segsKey, sizeKey, rowsKey, stepsKey, refsKey, refKey, kindWord}
+use Rattle.lines.specs.Keys.{formKey, kindKey, aKey, segsKey, sizeKey, rowsKey, warmKey, holdKey, stepsKey, refsKey, refKey, kindWord}
 use Rattle.lines.specs.Texts.{lineText, numberText, linesText}
 use Rattle.lines.proofs.Lengths.{number-within}
 use Rattle.lines.proofs.Runs.{Each, each-map, lines-length}
-use Rattle.sheet.specs.Order.{headPart, formLines}
+use Rattle.sheet.specs.Order.{warmFor, headPart, formLines}
 use Rattle.sheet.specs.Parts.{textOf}
 use Rattle.sheet.specs.Touches.{Touch, touchText, touchesText, touchesFrom, touchesOf}
 use Rattle.sheet.specs.Values.{above, inPrices, rowText}
+use Rattle.sheet.specs.Warm.{aboveHold}
 use Rattle.sheet.specs.Writing.{sheetText}
 use Rattle.sheet.proofs.Accepted.{readable-valid, valid-readable, prices-within, within-prices}
-use Rattle.sheet.proofs.PartTexts.{sizes-text, prices-text, refs-text, steps-text, head-text, entriesText, sheet-text}
-use Rattle.sheet.proofs.SheetLines.{From, EntriesFit, Readable}
-use Rattle.sheet.proofs.TouchLengths.{digitsTo, digits-next, digits-rise, touch-length, touches-within}
+use Rattle.sheet.proofs.PartTexts.{sizes-text, prices-text, warm-text, refs-text, steps-text, head-text, entriesText, sheet-text}
+use Rattle.sheet.proofs.SheetLines.{From, EntriesFit, WarmFits, Readable}
+use Rattle.sheet.proofs.TouchLengths.{digitsBelow, digits-next, digits-rise, touch-length, touches-within, hold-length, holds-within}
 use Rattle.sheet.proofs.Touches.{EntryFits, touches-fit}
-use Rattle.sheet.proofs.Words.{RowFits}
+use Rattle.sheet.proofs.Words.{RowFits, HoldFits}
 
 -- ---- the length of a text is that of its lines
 
--- six texts, in the parts of a head
-six : (a b c d e f : List ℕ) → length (a ++ (b ++ ((c ++ d) ++ (e ++ f))))
-    ≡ length a + (length b + (length c + (length d + (length e + length f))))
-six a b c d e f = simp length-append (omega arith)
+-- seven texts, in the parts of a head
+seven : (a b c d e f g : List ℕ) → length (a ++ (b ++ ((c ++ d) ++ ((e ++ f) ++ g))))
+    ≡ length a + (length b + (length c + (length d + (length e + (length f + length g)))))
+seven a b c d e f g = simp length-append (omega arith)
 
--- a head: its six texts
-head-length : (h : HeadValue) → length (textOf (headPart true .lines h))
+-- the length of the warm segments' lines in a head
+abbrev warmLength : Bool → HeadValue → ℕ
+warmLength later h = length (textOf (warmFor later (length (h .sizes)) .lines (h .warm)))
+
+-- a head: its seven texts
+head-length : (later : Bool) (h : HeadValue) → length (textOf (headPart true later .lines h))
     ≡ length (lineText kindKey (kindWord (h .kind)))
     + (length (numberText aKey (h .a))
     + (length (numberText segsKey (length (h .sizes)))
     + (length (linesText (numberText sizeKey) (h .sizes))
     + (length (numberText rowsKey (length (h .rows)))
-    + length (linesText rowText (h .rows))))))
-head-length h =
-    rw (head-text true h, sizes-text (h .sizes), prices-text (h .rows))
-    (six
+    + (length (linesText rowText (h .rows)) + warmLength later h)))))
+head-length later h =
+    rw (head-text true later h, sizes-text (h .sizes), prices-text (h .rows))
+    (seven
     (lineText kindKey (kindWord (h .kind)))
     (numberText aKey (h .a))
     (numberText segsKey (length (h .sizes)))
     (linesText (numberText sizeKey) (h .sizes))
     (numberText rowsKey (length (h .rows)))
-    (linesText rowText (h .rows)))
+    (linesText rowText (h .rows))
+    (textOf (warmFor later (length (h .sizes)) .lines (h .warm))))
 
 -- a sheet of form 1: its head and its references
 first-length : (v : SheetValue) → v .form ≡ 1 → length (sheetText v)
-    ≡ length (textOf (headPart true .lines (v .head)))
+    ≡ length (textOf (headPart true false .lines (v .head)))
     + (length (numberText refsKey (length (v .refs))) + length (linesText (numberText refKey) (v .refs)))
 unfolding entriesText linesText
 first-length v e =
     ap length (sheet-text v)
     ∙ rw (e, refs-text (length (v .head .sizes)) (v .refs)) (simp length-append)
 
--- the form line of form 2
-form-text : textOf (formLines 2) ≡ numberText formKey 2
+-- the form line of a later form
+form-text : (form : ℕ) → leb 2 form ≡ true → textOf (formLines form) ≡ numberText formKey form
 unfolding linesText
-form-text = append-nil (numberText formKey 2)
+form-text form e = rw e (append-nil (numberText formKey form))
 
--- a sheet of form 2: its form line, its head and its touches
-second-length : (v : SheetValue) → v .form ≡ 2 → length (sheetText v)
-    ≡ length (numberText formKey 2) + (length (textOf (headPart true .lines (v .head)))
+-- a sheet of a later form: its form line, its head and its touches
+later-length : (v : SheetValue) → leb 2 (v .form) ≡ true → length (sheetText v)
+    ≡ length (numberText formKey (v .form)) + (length (textOf (headPart true (leb 3 (v .form)) .lines (v .head)))
     + (length (numberText stepsKey (length (v .refs)))
     + (length (numberText refsKey (length (touchesOf (v .refs)))) + length (touchesText (touchesOf (v .refs))))))
 unfolding entriesText
-second-length v e =
+later-length v e =
     ap length (sheet-text v)
-    ∙ rw (e, form-text, steps-text (length (v .head .sizes)) (v .refs))
-    (five (numberText formKey 2) (textOf (headPart true .lines (v .head))) (numberText stepsKey (length (v .refs)))
+    ∙ rw (form-text (v .form) e, e, steps-text (length (v .head .sizes)) (v .refs))
+    (five (numberText formKey (v .form)) (textOf (headPart true (leb 3 (v .form)) .lines (v .head))) (numberText stepsKey (length (v .refs)))
     (numberText refsKey (length (touchesOf (v .refs)))) (touchesText (touchesOf (v .refs))))
   where
     five : (a b c d e : List ℕ) → length (a ++ (b ++ (c ++ (d ++ e)))) ≡ length a + (length b + (length c + (length d + length e)))
     five a b c d e = simp length-append
 
--- ---- at most 20,012 bytes, and 29,163 in form 2
+-- ---- at most 20,012 bytes, 29,163 in form 2, and 31,366 in form 3
 
 -- the lines of numbers below 10 ^ suc k
 numbers-within : (key : List ℕ) (lo hi k : ℕ) → hi < 10 ^ suc k → (xs : List ℕ) → Each (From lo hi) none xs
@@ -114,11 +120,25 @@ kind-within : (k : Kind) → length (lineText kindKey (kindWord k)) ≤ 11
 kind-within Time = omega arith
 kind-within Space = omega arith
 
--- a head has at most 3,618
-head-within : (v : SheetValue) → Valid v → length (textOf (headPart true .lines (v .head))) ≤ 3618
+-- the warm segments have at most 2,203, and none before form 3
+warm-within : (later : Bool) (segs : ℕ) (xs : List ℕ) → 1 ≤ segs → segs ≤ mostSegs → WarmFits later segs xs
+    → length (textOf (warmFor later segs .lines xs)) ≤ cond later 2203 0
+unfolding linesText
+warm-within false segs xs one h c = omega arith
+warm-within true segs xs one h (l, c) =
+    rw (warm-text segs xs, length-append)
+    (omega (
+      arith,
+      number-within warmKey 2 (length xs) (omega arith),
+      holds-within segs one (omega arith) xs c,
+      digits-rise segs mostSegs h,
+    ))
+
+-- a head has at most 3,618, and its warm segments
+head-within : (v : SheetValue) → Valid v → length (textOf (headPart true (leb 3 (v .form)) .lines (v .head))) ≤ 3618 + cond (leb 3 (v .form)) 2203 0
 head-within v c =
     let r = valid-readable 1 newestForm v (c .some-form) (c .form-within) c in
-    rw (head-length (v .head))
+    rw (head-length (leb 3 (v .form)) (v .head))
     (omega (
       arith,
       kind-within (v .head .kind),
@@ -127,6 +147,7 @@ head-within v c =
       numbers-within sizeKey 1 largestSize 3 (omega arith) (v .head .sizes) (r .sizes-fit),
       number-within rowsKey 1 (length (v .head .rows)) (omega (arith, c .rows .rows-within)),
       rows-within (v .head .rows) (r .prices-fit),
+      warm-within (leb 3 (v .form)) (length (v .head .sizes)) (v .head .warm) (c .run .some-segs) (c .run .segs-within) (r .warm-fits),
     ))
 
 -- the references of form 1
@@ -140,29 +161,41 @@ second-within : (segs : ℕ) (xs : List ℕ) → segs ≤ mostSegs → EntriesFi
     → length (numberText stepsKey (length xs)) + (length (numberText refsKey (length (touchesOf xs))) + length (touchesText (touchesOf xs))) ≤ 25538
 second-within segs xs h (l, c) =
     let (n, m) =
-    touches-within segs (length xs) (omega arith) (omega arith) (touchesOf xs) none (omega arith)
+    touches-within segs (length xs) (omega arith) (omega arith) (touchesOf xs)
     (touches-fit segs (length xs) xs none none 0 (omega arith) (omega arith) c) in
-    let d = digits-rise (length xs) mostSteps l in
+    let d = digits-rise (suc (length xs)) (suc mostSteps) (omega arith) in
     omega (arith, m, d, number-within stepsKey 3 (length xs) (omega arith), number-within refsKey 3 (length (touchesOf xs)) (omega (arith, n)))
 
 -- no valid sheet is longer than a sheet of its form may be
 pub text-within : (v : SheetValue) → Valid v → length (sheetText v) ≤ formBytes (v .form)
-text-within v c = go (leb 2 (v .form)) refl
+text-within v c = go (leb 2 (v .form)) refl (leb 3 (v .form)) refl
   where
     r : Readable 1 newestForm v
     r = valid-readable 1 newestForm v (c .some-form) (c .form-within) c
 
-    go : (b : Bool) → leb 2 (v .form) ≡ b → length (sheetText v) ≤ formBytes (v .form)
-    go true e =
-        let two : v .form ≡ 2 = omega (arith, leb-true 2 (v .form) e, c .form-within) in
-        let f = subst (λ b. EntriesFit b (length (v .head .sizes)) (v .refs)) e (r .entries-fit) in
-        rw (second-length v two, two)
-        (omega (arith, head-within v c, second-within (length (v .head .sizes)) (v .refs) (c .run .segs-within) f, number-within formKey 0 2 (omega arith)))
-    go false e =
+    entries : (b : Bool) → leb 2 (v .form) ≡ b → EntriesFit b (length (v .head .sizes)) (v .refs)
+    entries b e = subst (λ b. EntriesFit b (length (v .head .sizes)) (v .refs)) e (r .entries-fit)
+
+    second : leb 2 (v .form) ≡ true
+        → length (sheetText v) ≤ length (numberText formKey (v .form)) + (3618 + cond (leb 3 (v .form)) 2203 0 + 25538)
+    second e =
+        rw (later-length v e)
+        (omega (arith, head-within v c, second-within (length (v .head .sizes)) (v .refs) (c .run .segs-within) (entries true e)))
+
+    go : (b : Bool) → leb 2 (v .form) ≡ b → (d : Bool) → leb 3 (v .form) ≡ d → length (sheetText v) ≤ formBytes (v .form)
+    go false e d g =
         let one : v .form ≡ 1 = omega (arith, leb-false 2 (v .form) e, c .some-form) in
-        let f = subst (λ b. EntriesFit b (length (v .head .sizes)) (v .refs)) e (r .entries-fit) in
+        let h = rw one at (head-within v c) in
         rw (first-length v one, one)
-        (omega (arith, head-within v c, first-within (length (v .head .sizes)) (v .refs) (c .run .segs-within) f))
+        (omega (arith, h, first-within (length (v .head .sizes)) (v .refs) (c .run .segs-within) (entries false e)))
+    go true e false g =
+        let two : v .form ≡ 2 = omega (arith, leb-true 2 (v .form) e, leb-false 3 (v .form) g) in
+        let l = second e in
+        rw two (omega (arith, rw two at l, number-within formKey 0 2 (omega arith)))
+    go true e true g =
+        let three : v .form ≡ 3 = omega (arith, leb-true 3 (v .form) g, c .form-within) in
+        let l = second e in
+        rw three (omega (arith, rw three at l, number-within formKey 0 3 (omega arith)))
 
 -- ---- and one valid value with as many
 
@@ -175,16 +208,25 @@ wideRows : ℕ → ℕ → List PriceRow
 wideRows k zero = []
 wideRows k (suc n) = wideRow k ∷ wideRows (suc k) n
 
--- a sheet of a form with n sizes 4095, m rows from 10000/10000 on and k references 255
+-- the numbers from k on, n of them
+ascent : ℕ → ℕ → List ℕ
+ascent k zero = []
+ascent k (suc n) = k ∷ ascent (suc k) n
+
+-- all of n segments, from form 3 on
+abbrev warmest : Bool → ℕ → List ℕ
+warmest later n = cond later (ascent 0 n) []
+
+-- a sheet of a form with n sizes 4095, m rows from 10000/10000 on, as many warm segments as its form has, and k references 255
 filled : ℕ → ℕ → ℕ → ℕ → SheetValue
 filled form n m k =
     record {
       form = form;
-      head = record { kind = Space; a = largestA; sizes = replicate n largestSize; rows = wideRows 0 m };
+      head = record { kind = Space; a = largestA; sizes = replicate n largestSize; rows = wideRows 0 m; warm = warmest (leb 3 form) n };
       refs = replicate k 255;
     }
 
--- the largest sheet of a form: 256 sizes, 64 rows and a reference in each of 2,048 steps
+-- the largest sheet of a form: 256 sizes, 64 rows, from form 3 on 256 warm segments, and a reference in each of 2,048 steps
 pub largest : ℕ → SheetValue
 largest form = filled form mostSegs mostRows mostSteps
 
@@ -219,6 +261,25 @@ wide-each k (suc n) prev h e = (((prices, e), long), wide-each (suc k) n (some (
     next : above (some (wideRow k)) (wideRow (suc k)) ≡ true
     next = lt-ltb ((10000 + k) * 10000) ((10000 + suc k) * 10000) (omega arith)
 
+-- n numbers are n
+ascent-length : (k n : ℕ) → length (ascent k n) ≡ n
+unfolding ascent
+ascent-length k zero = refl
+ascent-length k (suc n) = ap suc (ascent-length (suc k) n)
+
+-- the numbers from k on fit, where there are as many segments
+ascent-each : (segs k n : ℕ) (prev : Option ℕ) → k + n ≤ segs → aboveHold prev k ≡ true → Each (HoldFits segs) prev (ascent k n)
+unfolding ascent
+ascent-each segs k zero prev h e = tt
+ascent-each segs k (suc n) prev h e =
+    ((omega arith, e), ascent-each segs (suc k) n (some k) (omega arith) (lt-ltb k (suc k) (omega arith)))
+
+-- its warm segments fit in each form
+filled-warm : (later : Bool) (n : ℕ) → WarmFits later (length (replicate n largestSize)) (warmest later n)
+filled-warm true n =
+    rw (length-replicate {A = ℕ} n largestSize) (rw (ascent-length 0 n) (omega arith), ascent-each n 0 n none (omega arith) refl)
+filled-warm false n = refl
+
 -- its entries fit in each form
 filled-entries : (later : Bool) (n k : ℕ) → 256 ≤ n → k ≤ mostSteps → EntriesFit later (length (replicate n largestSize)) (replicate k 255)
 filled-entries true n k n₁ k₂ = (
@@ -244,6 +305,7 @@ filled-readable form n m k f₁ f₂ n₁ n₂ m₁ m₂ k₂ =
       sizes-fit = each-same (From 1 largestSize) largestSize (λ prev. omega arith) n none;
       rows-fit = rw wide-length (omega arith);
       prices-fit = each-map WideFits RowFits (λ prev q f. f .0) none (wideRows 0 m) (wide-each 0 m none (omega arith) refl);
+      warm-fits = filled-warm (leb 3 form) n;
       entries-fit = filled-entries (leb 2 form) n k n₁ k₂;
     }
 
@@ -285,13 +347,41 @@ reference-length : length (numberText refKey 255) ≡ 8
 unfolding written writtenIn
 reference-length = refl
 
+-- the lines of the numbers from k on: each with 6 bytes and its digits
+ascent-lines : (k n : ℕ) → k + n ≤ 10000
+    → length (linesText (numberText holdKey) (ascent k n)) + digitsBelow k ≡ 6 * n + digitsBelow (k + n)
+unfolding ascent linesText
+ascent-lines k zero h = let e : k + 0 ≡ k = omega arith in rw e
+ascent-lines k (suc n) h =
+    let e : k + suc n ≡ suc k + n = omega arith in
+    let i = ascent-lines (suc k) n (omega arith) in
+    let d = digits-next k (omega arith) in
+    rw (length-append (numberText holdKey k) (linesText (numberText holdKey) (ascent (suc k) n)), hold-length k, e)
+    (together (length (written k)) (length (linesText (numberText holdKey) (ascent (suc k) n))) (digitsBelow k) (digitsBelow (suc k)) (digitsBelow (suc k + n)) n i d)
+  where
+    together : (w t b c e n : ℕ) → t + c ≡ 6 * n + e → b + w ≡ c → 6 + w + t + b ≡ 6 * suc n + e
+    together w t b c e n i d = omega arith
+
+-- the length of the warm segments' lines
+warmestLength : Bool → ℕ → ℕ
+warmestLength later n = cond later (length (numberText warmKey n) + (6 * n + digitsBelow n)) 0
+
+filled-warm-length : (later : Bool) (segs n : ℕ) → n ≤ 10000 → length (textOf (warmFor later segs .lines (warmest later n))) ≡ warmestLength later n
+unfolding warmestLength linesText
+filled-warm-length false segs n h = refl
+filled-warm-length true segs n h =
+    let e : 0 + n ≡ n = omega arith in
+    let l : length (linesText (numberText holdKey) (ascent 0 n)) ≡ 6 * n + digitsBelow n = omega (arith, rw e at (ascent-lines 0 n (omega arith))) in
+    rw (warm-text segs (ascent 0 n), length-append (numberText warmKey (length (ascent 0 n))) (linesText (numberText holdKey) (ascent 0 n)), ascent-length 0 n, l)
+
 -- the length of such a value's head, by its counts
-filled-head : (form n m k : ℕ) → m ≤ mostRows → length (textOf (headPart true .lines (filled form n m k .head)))
-    ≡ 11 + (6 + (length (numberText segsKey n) + (n * 10 + (length (numberText rowsKey m) + m * 16))))
+filled-head : (form n m k : ℕ) → m ≤ mostRows → n ≤ 10000 → length (textOf (headPart true (leb 3 form) .lines (filled form n m k .head)))
+    ≡ 11 + (6 + (length (numberText segsKey n) + (n * 10 + (length (numberText rowsKey m) + (m * 16 + warmestLength (leb 3 form) n)))))
 unfolding filled
-filled-head form n m k h =
-    head-length (filled form n m k .head)
+filled-head form n m k h g =
+    head-length (leb 3 form) (filled form n m k .head)
     ∙ rw (
+      filled-warm-length (leb 3 form) (length (replicate n largestSize)) n g,
       length-replicate {A = ℕ} n largestSize,
       wide-length 0 m,
       a-length,
@@ -310,49 +400,54 @@ unfolding written writtenIn
 digits-of-255 = refl
 
 touches-long : (k before : ℕ) → before + k < 10000
-    → length (touchesText (touchesFrom before (replicate k 255))) + digitsTo before ≡ 9 * k + digitsTo (before + k)
+    → length (touchesText (touchesFrom before (replicate k 255))) + digitsBelow (suc before) ≡ 9 * k + digitsBelow (suc (before + k))
 unfolding touchesFrom linesText
 touches-long zero before h = let e : before + 0 ≡ before = omega arith in rw e
 touches-long (suc k) before h =
     let e : before + suc k ≡ suc before + k = omega arith in
     let x : Touch = record { segment = 255; step = suc before } in
     let i = touches-long k (suc before) (omega arith) in
-    let d = digits-next before (omega arith) in
+    let d = digits-next (suc before) (omega arith) in
     rw (length-append (touchText x) (touchesText (touchesFrom (suc before) (replicate k 255))), touch-length x, digits-of-255, e)
-    (together (length (written (suc before))) (length (touchesText (touchesFrom (suc before) (replicate k 255)))) (digitsTo before) (digitsTo (suc before)) (digitsTo (suc before + k)) k i d)
+    (together (length (written (suc before))) (length (touchesText (touchesFrom (suc before) (replicate k 255)))) (digitsBelow (suc before)) (digitsBelow (suc (suc before))) (digitsBelow (suc (suc before + k))) k i d)
   where
     together : (w t b c e k : ℕ) → t + c ≡ 9 * k + e → b + w ≡ c → 6 + (3 + w) + t + b ≡ 9 * suc k + e
     together w t b c e k i d = omega arith
 
--- the length of such a value's text, by its counts, in form 1 and in form 2
-filled-first : (n m k : ℕ) → m ≤ mostRows → length (sheetText (filled 1 n m k))
-    ≡ 11 + (6 + (length (numberText segsKey n) + (n * 10 + (length (numberText rowsKey m) + m * 16)))) + (length (numberText refsKey k) + k * 8)
+-- the length of such a value's text, by its counts, in form 1 and in a later form
+filled-first : (n m k : ℕ) → m ≤ mostRows → n ≤ 10000 → length (sheetText (filled 1 n m k))
+    ≡ 11 + (6 + (length (numberText segsKey n) + (n * 10 + (length (numberText rowsKey m) + (m * 16 + warmestLength false n)))))
+    + (length (numberText refsKey k) + k * 8)
 unfolding filled
-filled-first n m k h =
+filled-first n m k h g =
     first-length (filled 1 n m k) refl
     ∙ (ap (λ x. x + (length (numberText refsKey (length {A = ℕ} (replicate k 255))) + length (linesText (numberText refKey) (replicate k 255))))
-    (filled-head 1 n m k h)
+    (filled-head 1 n m k h g)
     ∙ rw (length-replicate {A = ℕ} k 255, same-lines refKey 255 8 k reference-length))
 
-filled-second : (n m k : ℕ) → m ≤ mostRows → k < 10000 → length (sheetText (filled 2 n m k))
-    ≡ length (numberText formKey 2)
-    + (11 + (6 + (length (numberText segsKey n) + (n * 10 + (length (numberText rowsKey m) + m * 16))))
-    + (length (numberText stepsKey k) + (length (numberText refsKey k) + (9 * k + digitsTo k))))
+filled-later : (form n m k : ℕ) → leb 2 form ≡ true → m ≤ mostRows → n ≤ 10000 → k < 10000 → length (sheetText (filled form n m k))
+    ≡ length (numberText formKey form)
+    + (11 + (6 + (length (numberText segsKey n) + (n * 10 + (length (numberText rowsKey m) + (m * 16 + warmestLength (leb 3 form) n)))))
+    + (length (numberText stepsKey k) + (length (numberText refsKey k) + (9 * k + (digitsBelow (suc k) - 1)))))
 unfolding filled
-filled-second n m k h l =
-    let e : 0 + k ≡ k = omega arith in
-    let t : length (touchesText (touchesOf (replicate k 255))) ≡ 9 * k + digitsTo k = omega (arith, rw e at (touches-long k 0 (omega arith))) in
-    second-length (filled 2 n m k) refl
-    ∙ (ap (λ x. length (numberText formKey 2) + (x + (length (numberText stepsKey (length {A = ℕ} (replicate k 255)))
+filled-later form n m k e h g l =
+    let z : 0 + k ≡ k = omega arith in
+    let t : length (touchesText (touchesOf (replicate k 255))) ≡ 9 * k + (digitsBelow (suc k) - 1) = omega (arith, rw z at (touches-long k 0 (omega arith))) in
+    later-length (filled form n m k) e
+    ∙ (ap (λ x. length (numberText formKey form) + (x + (length (numberText stepsKey (length {A = ℕ} (replicate k 255)))
     + (length (numberText refsKey (length (touchesOf (replicate k 255)))) + length (touchesText (touchesOf (replicate k 255)))))))
-    (filled-head 2 n m k h)
+    (filled-head form n m k h g)
     ∙ rw (length-replicate {A = ℕ} k 255, touches-each k 0, t))
 
--- the largest sheet of form 1 has 20,012 bytes, and that of form 2 has 29,163
+-- the largest sheet of form 1 has 20,012 bytes, that of form 2 has 29,163, and that of form 3 has 31,366
 pub largest-first : length (sheetText (largest 1)) ≡ formBytes 1
-unfolding largest written writtenIn
-largest-first = filled-first mostSegs mostRows mostSteps (omega arith)
+unfolding largest warmestLength written writtenIn
+largest-first = filled-first mostSegs mostRows mostSteps (omega arith) (omega arith)
 
 pub largest-second : length (sheetText (largest 2)) ≡ formBytes 2
-unfolding largest written writtenIn
-largest-second = filled-second mostSegs mostRows mostSteps (omega arith) (omega arith)
+unfolding largest warmestLength written writtenIn
+largest-second = filled-later 2 mostSegs mostRows mostSteps refl (omega arith) (omega arith) (omega arith)
+
+pub largest-third : length (sheetText (largest 3)) ≡ formBytes 3
+unfolding largest warmestLength written writtenIn
+largest-third = filled-later 3 mostSegs mostRows mostSteps refl (omega arith) (omega arith) (omega arith)

@@ -6,12 +6,12 @@ use mathlib.Core.List.{List, [], _∷_, _++_, append-nil, map}
 use lib.Dec.{leb}
 use lib.ListN.{length}
 use Rattle.decimal.specs.Decimal.{written}
-use Rattle.lines.specs.Keys.{kindKey, aKey, segsKey, sizeKey, rowsKey, rowKey, stepsKey, refsKey, refKey, kindWord}
+use Rattle.lines.specs.Keys.{kindKey, aKey, segsKey, sizeKey, rowsKey, rowKey, warmKey, holdKey, stepsKey, refsKey, refKey, kindWord}
 use Rattle.lines.specs.Texts.{lineText, numberText, linesText}
 use Rattle.lines.proofs.Runs.{lines-append, lines-map}
 use Rattle.model.specs.Sheets.{HeadValue, SheetValue}
 use Rattle.model.specs.declared.PriceRow.{PriceRow}
-use Rattle.sheet.specs.Order.{sizesPart, pricesPart, tablesPart, headPart, refsPart, stepsPart, entriesPart, runPart, bodyPart, formLines, sheetPart}
+use Rattle.sheet.specs.Order.{sizesPart, pricesPart, warmPart, warmFor, tablesPart, headPart, refsPart, stepsPart, entriesPart, runPart, bodyPart, formLines, sheetPart}
 use Rattle.sheet.specs.Parts.{Line, textOf}
 use Rattle.sheet.specs.Touches.{touchWord, touchesText, touchesOf}
 use Rattle.sheet.specs.Values.{rowWord, rowText}
@@ -21,11 +21,11 @@ use Rattle.sheet.specs.Writing.{sheetText}
 abbrev lineOf : Line → List ℕ
 lineOf l = lineText (l .0) (l .1)
 
--- two lines and two parts
-lines-parts : (k v l w : List ℕ) (xs ys : List Line) → textOf (((k, v) ∷ []) ++ (((l, w) ∷ []) ++ (xs ++ (ys ++ []))))
-    ≡ lineText k v ++ (lineText l w ++ (textOf xs ++ textOf ys))
+-- two lines and three parts
+lines-parts : (k v l w : List ℕ) (xs ys zs : List Line) → textOf (((k, v) ∷ []) ++ (((l, w) ∷ []) ++ (xs ++ (ys ++ (zs ++ [])))))
+    ≡ lineText k v ++ (lineText l w ++ (textOf xs ++ (textOf ys ++ textOf zs)))
 unfolding linesText
-lines-parts k v l w xs ys = rw (append-nil ys, lines-append lineOf xs ys)
+lines-parts k v l w xs ys zs = rw (append-nil zs, lines-append lineOf xs (ys ++ zs), lines-append lineOf ys zs)
 
 -- a count, and a line for each element
 counted-text : {A : Type 0} (count key : List ℕ) (word : A → List ℕ) (xs : List A)
@@ -44,6 +44,12 @@ pub prices-text : (qs : List PriceRow) → textOf (pricesPart .lines qs) ≡ num
 unfolding pricesPart
 prices-text qs = counted-text rowsKey rowKey rowWord qs
 
+-- warm= and the warm segments, from form 3 on
+pub warm-text : (segs : ℕ) (xs : List ℕ)
+    → textOf (warmFor true segs .lines xs) ≡ numberText warmKey (length xs) ++ linesText (numberText holdKey) xs
+unfolding warmPart
+warm-text segs xs = counted-text warmKey holdKey written xs
+
 -- refs= and the references
 pub refs-text : (segs : ℕ) (xs : List ℕ)
     → textOf (refsPart segs .lines xs) ≡ numberText refsKey (length xs) ++ linesText (numberText refKey) xs
@@ -57,12 +63,15 @@ unfolding stepsPart linesText
 steps-text segs xs = rw (lines-map lineOf (λ x. (refKey, touchWord x)) (touchesOf xs))
 
 -- the head
-pub head-text : (taken : Bool) (h : HeadValue) → textOf (headPart taken .lines h)
+pub head-text : (taken later : Bool) (h : HeadValue) → textOf (headPart taken later .lines h)
     ≡ lineText kindKey (kindWord (h .kind))
-    ++ (numberText aKey (h .a) ++ (textOf (sizesPart .lines (h .sizes)) ++ textOf (pricesPart .lines (h .rows))))
+    ++ (numberText aKey (h .a)
+    ++ (textOf (sizesPart .lines (h .sizes))
+    ++ (textOf (pricesPart .lines (h .rows)) ++ textOf (warmFor later (length (h .sizes)) .lines (h .warm)))))
 unfolding headPart tablesPart
-head-text taken h =
+head-text taken later h =
     lines-parts kindKey (kindWord (h .kind)) aKey (written (h .a)) (sizesPart .lines (h .sizes)) (pricesPart .lines (h .rows))
+    (warmFor later (length (h .sizes)) .lines (h .warm))
 
 -- the text of the entries of a form
 unfoldable pub entriesText : ℕ → HeadValue → List ℕ → List ℕ
@@ -70,10 +79,11 @@ entriesText form head refs = textOf (entriesPart (leb 2 form) (length (head .siz
 
 -- the whole
 pub sheet-text : (v : SheetValue)
-    → sheetText v ≡ textOf (formLines (v .form)) ++ (textOf (headPart true .lines (v .head)) ++ entriesText (v .form) (v .head) (v .refs))
+    → sheetText v
+    ≡ textOf (formLines (v .form)) ++ (textOf (headPart true (leb 3 (v .form)) .lines (v .head)) ++ entriesText (v .form) (v .head) (v .refs))
 unfolding sheetText sheetPart bodyPart runPart headPart entriesText
 sheet-text v =
     lines-append lineOf (formLines (v .form)) _
     ∙ ap (λ t. textOf (formLines (v .form)) ++ t)
     (rw (append-nil (entriesPart (leb 2 (v .form)) (length (v .head .sizes)) .lines (v .refs)))
-    (lines-append lineOf (headPart true .lines (v .head)) (entriesPart (leb 2 (v .form)) (length (v .head .sizes)) .lines (v .refs))))
+    (lines-append lineOf (headPart true (leb 3 (v .form)) .lines (v .head)) (entriesPart (leb 2 (v .form)) (length (v .head .sizes)) .lines (v .refs))))

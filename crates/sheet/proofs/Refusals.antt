@@ -1,4 +1,4 @@
--- Which refusals reading gives: 1 exactly where the sheet is too long, 2 to 5 or 16 for a line, 6 after the lines, and no other.
+-- Which refusals reading gives: 1 exactly where the sheet is too long, 2 to 5, 16 or 19 for a line, 6 after the lines, and no other.
 -- Assumes nothing.
 use Prim.Native.Nat.{ℕ, zero, suc, _-_, _≤_, _<_, max}
 use mathlib.Core.Path.{_≡_, refl, ap}
@@ -13,27 +13,32 @@ use lib.ListN.{length, take}
 use Rattle.decimal.specs.Decimal.{isNumber, value, readingOf}
 use Rattle.decimal.specs.declared.Reading.{Reading}
 use Rattle.decimal.specs.declared.Reading.the-variants.{NotNumber, OutOfRange as Beyond, Number}
-use Rattle.lines.specs.Keys.{lineFeed, slash, atSign, formKey, kindKey, aKey, segsKey, sizeKey, rowsKey, rowKey, stepsKey, refsKey, refKey, kindWord}
+use Rattle.lines.specs.Keys.{lineFeed, slash, atSign, formKey, kindKey, aKey, segsKey, sizeKey, rowsKey, rowKey, warmKey, holdKey, stepsKey, refsKey, refKey, kindWord}
 use Rattle.model.specs.Refusals.{numberOf}
 use Rattle.model.specs.Sheets.{SheetValue, Valid, formBytes, newestForm, largestA, mostSegs, largestSize, mostRows, mostSteps}
 use Rattle.model.specs.declared.Kind.the-variants.{Time, Space}
 use Rattle.model.specs.declared.PriceRow.{PriceRow}
 use Rattle.model.specs.declared.Refusal.{Refusal}
-use Rattle.model.specs.declared.Refusal.the-variants.{SheetTooLong, LineMalformed, ValueMalformed, OutOfRange, ThresholdNotAbove, BytesAfterEnd, StepNotAbove}
+use Rattle.model.specs.declared.Refusal.the-variants.{SheetTooLong, LineMalformed, ValueMalformed, OutOfRange, ThresholdNotAbove, BytesAfterEnd, StepNotAbove, HoldNotAbove}
 use Rattle.sheet.specs.Lines.{Parsed, read, refused, andThen, Split, parts, none as unsplit, splitAt, sameBytes, afterKey, ofLine}
 use Rattle.sheet.specs.Lines.{valueLine, inRange, numberLine, numberLines}
-use Rattle.sheet.specs.Order.{sizesPart, pricesPart, tablesPart, headPart, refsPart, stepsPart, entriesPart, runPart, bodyPart, sheetPart}
+use Rattle.sheet.specs.Order.{sizesPart, pricesPart, warmPart, warmFor, tablesPart, headPart, refsPart, stepsPart, entriesPart, runPart, bodyPart, sheetPart}
 use Rattle.sheet.specs.Reading.{sheetLines, namedForm, Outcome, accepted, rejected, atEnd, readForms, readSheet}
 use Rattle.sheet.specs.Touches.{Touch, touchParts, touchLine, touchLines, entriesFrom, entryLines}
+use Rattle.sheet.specs.Warm.{aboveHold, holdAfter, holdLine, holdLines}
 use Rattle.sheet.specs.Values.{kindOf, kindLine, above, inPrices, rowParts, rowLine, rowLines}
 use Rattle.sheet.proofs.Accepted.{accepted-valid}
 use Rattle.sheet.proofs.Parsing.{by-test}
-use Rattle.sheet.proofs.Runs.{lines, number-lines, row-lines}
+use Rattle.sheet.proofs.Runs.{lines, number-lines, row-lines, hold-lines}
 use Rattle.sheet.proofs.Touches.{stepOf, touch-lines}
 
--- the refusals of a line: 2 to 5, and 16
+-- the refusals of the lines that later forms have: 16 for a touch, 19 for a warm segment
+abbrev pub OfLater : Refusal → Type 0
+OfLater r = (numberOf r ≡ 16) ⊎ (numberOf r ≡ 19)
+
+-- the refusals of a line: 2 to 5, 16 and 19
 abbrev pub OfLine : Refusal → Type 0
-OfLine r = ((2 ≤ numberOf r) × (numberOf r ≤ 5)) ⊎ (numberOf r ≡ 16)
+OfLine r = ((2 ≤ numberOf r) × (numberOf r ≤ 5)) ⊎ OfLater r
 
 -- if this refuses, then as a line does
 abbrev pub Refuses : {A : Type 0} → Parsed A → Type 0
@@ -60,7 +65,7 @@ stepping : {A B : Type 0} (p : Parsed A) (f : A → List ℕ → Parsed B) → R
 stepping (read a rest) f g h r e = h a rest r e
 stepping (refused x) f g h r e = let q : x ≡ r = cc in g r (ap refused q)
 
--- ---- the lines: 2 for the key, 3 for a kind, 4 for a number, 5 for a row, 16 for a touch
+-- ---- the lines: 2 for the key, 3 for a kind, 4 for a number, 5 for a row, 16 for a touch, 19 for a warm segment
 
 malformed : {A : Type 0} → Refuses {A = A} (refused LineMalformed)
 malformed = refusing LineMalformed (inl (omega arith, omega arith))
@@ -130,10 +135,17 @@ touch-refuses segs steps before s = stepping (valueLine refKey s) _ (line-refuse
     go (parts x y) rest =
         testing (isNumber x && isNumber y) _ _
         (testing (ltb (value x) segs) _ _
-        (testing (ltb before (value y) && leb (value y) steps) _ _ (reading _ rest) (refusing StepNotAbove (inr refl)))
+        (testing (ltb before (value y) && leb (value y) steps) _ _ (reading _ rest) (refusing StepNotAbove (inr (inl refl))))
         beyond)
         no-value
     go unsplit rest = no-value
+
+-- the line hold=
+hold-refuses : (segs : ℕ) (prev : Option ℕ) (s : List ℕ) → Refuses (holdLine segs prev s)
+unfolding holdLine
+hold-refuses segs prev s =
+    stepping (numberLine holdKey 0 (segs - 1) s) (holdAfter prev) (number-refuses holdKey 0 (segs - 1) s) λ x rest.
+    testing (aboveHold prev x) _ _ (reading x rest) (refusing HoldNotAbove (inr (inr refl)))
 
 -- a run of lines refuses as its lines do
 lines-refuse : {A : Type 0} (p : Option A → List ℕ → Parsed A) → ((prev : Option A) (s : List ℕ) → Refuses (p prev s))
@@ -145,13 +157,16 @@ lines-refuse p f (suc n) prev s =
     stepping (lines p n (some x) rest) _ (lines-refuse p f n (some x) rest) λ xs end.
     reading (x ∷ xs) end
 
--- n lines of numbers, of rows, of touches
+-- n lines of numbers, of rows, of warm segments, of touches
 numbers-refuse : (key : List ℕ) (lo hi n : ℕ) (s : List ℕ) → Refuses (numberLines key lo hi n s)
 numbers-refuse key lo hi n s =
     rw (number-lines key lo hi n none s) (lines-refuse (λ _. numberLine key lo hi) (λ _. number-refuses key lo hi) n none s)
 
 rows-refuse : (n : ℕ) (s : List ℕ) → Refuses (rowLines n none s)
 rows-refuse n s = rw (row-lines n none s) (lines-refuse rowLine row-refuses n none s)
+
+holds-refuse : (segs n : ℕ) (s : List ℕ) → Refuses (holdLines segs n none s)
+holds-refuse segs n s = rw (hold-lines segs n none s) (lines-refuse (holdLine segs) (hold-refuses segs) n none s)
 
 touches-refuse : (segs steps n : ℕ) (s : List ℕ) → Refuses (entryLines segs steps n s)
 touches-refuse segs steps n s =
@@ -160,17 +175,24 @@ touches-refuse segs steps n s =
     (lines-refuse (λ p. touchLine segs steps (stepOf p)) (λ p. touch-refuses segs steps (stepOf p)) n none s))
     (λ xs rest. reading (entriesFrom 0 steps xs) rest)
 
+-- the warm segments
+warm-refuses : (later : Bool) (segs : ℕ) (s : List ℕ) → Refuses (warmFor later segs .reads s)
+unfolding warmPart
+warm-refuses true segs s = stepping (numberLine warmKey 0 segs s) _ (number-refuses warmKey 0 segs s) (holds-refuse segs)
+warm-refuses false segs s = reading [] s
+
 -- the head
-head-refuses : (taken : Bool) (s : List ℕ) → Refuses (headPart taken .reads s)
+head-refuses : (taken later : Bool) (s : List ℕ) → Refuses (headPart taken later .reads s)
 unfolding headPart tablesPart sizesPart pricesPart
-head-refuses taken s =
+head-refuses taken later s =
     stepping _ _ (stepping (kindLine s) _ (kind-refuses s) (λ kind rest. testing taken _ _ (reading kind rest) beyond)) λ kind s₁.
     stepping (numberLine aKey 0 largestA s₁) _ (number-refuses aKey 0 largestA s₁) λ a s₂.
     stepping (sizesPart .reads s₂) _
     (stepping (numberLine segsKey 1 mostSegs s₂) _ (number-refuses segsKey 1 mostSegs s₂) (numbers-refuse sizeKey 1 largestSize)) λ sizes s₃.
     stepping (pricesPart .reads s₃) _
     (stepping (numberLine rowsKey 1 mostRows s₃) _ (number-refuses rowsKey 1 mostRows s₃) rows-refuse) λ rows s₄.
-    reading _ s₄
+    stepping (warmFor later (length sizes) .reads s₄) _ (warm-refuses later (length sizes) s₄) λ warm s₅.
+    reading _ s₅
 
 -- the entries
 entries-refuse : (later : Bool) (segs : ℕ) (s : List ℕ) → Refuses (entriesPart later segs .reads s)
@@ -185,7 +207,7 @@ entries-refuse false segs s =
 body-refuses : (lo form : ℕ) (s : List ℕ) → Refuses (bodyPart lo form .reads s)
 unfolding bodyPart runPart
 body-refuses lo form s =
-    stepping (headPart (leb lo form) .reads s) _ (head-refuses (leb lo form) s) λ head s₁.
+    stepping (headPart (leb lo form) (leb 3 form) .reads s) _ (head-refuses (leb lo form) (leb 3 form) s) λ head s₁.
     stepping (entriesPart (leb 2 form) (length (head .sizes)) .reads s₁) _ (entries-refuse (leb 2 form) (length (head .sizes)) s₁) λ refs s₂.
     reading _ s₂
 
@@ -198,9 +220,9 @@ sheet-refuses lo hi s =
 
 -- ---- a sheet
 
--- the refusals of a sheet that is not too long: 2 to 6, and 16
+-- the refusals of a sheet that is not too long: 2 to 6, 16 and 19
 abbrev pub OfSheet : Refusal → Type 0
-OfSheet r = ((2 ≤ numberOf r) × (numberOf r ≤ 6)) ⊎ (numberOf r ≡ 16)
+OfSheet r = ((2 ≤ numberOf r) × (numberOf r ≤ 6)) ⊎ OfLater r
 
 -- what follows the last line is refused with 6
 end-refuses : (p : Parsed SheetValue) → Refuses p → (r : Refusal) → atEnd p ≡ rejected r → OfSheet r
@@ -208,7 +230,7 @@ end-refuses (read v []) f r e = let z : _≡_ {A = ℕ} 0 1 = cc in absurd (omeg
 end-refuses (read v (b ∷ rest)) f r e = let q : BytesAfterEnd ≡ r = cc in rw (← q) (inl (omega arith, omega arith))
 end-refuses (refused x) f r e = let q : x ≡ r = cc in ⊎-elim (λ w. inl (omega (arith, w), omega (arith, w))) inr (f r (ap refused q))
 
--- a refused sheet: it is longer than its form allows and the refusal is 1, or it is not and the refusal is 2 to 6 or 16
+-- a refused sheet: it is longer than its form allows and the refusal is 1, or it is not and the refusal is one of 2 to 6, 16 and 19
 pub rejected-by : (lo hi : ℕ) (s : List ℕ) (r : Refusal) → readForms lo hi s ≡ rejected r
     → ((formBytes (namedForm s) < length s) × (r ≡ SheetTooLong)) ⊎ ((length s ≤ formBytes (namedForm s)) × OfSheet r)
 unfolding readForms
@@ -220,16 +242,16 @@ rejected-by lo hi s r e =
 -- 1 is given exactly where the sheet is too long
 pub too-long : (lo hi : ℕ) (s : List ℕ) → readForms lo hi s ≡ rejected SheetTooLong → formBytes (namedForm s) < length s
 too-long lo hi s e =
-    ⊎-elim (λ w. w .0) (λ w. absurd (⊎-elim (λ o. omega (arith, o)) (λ o. omega (arith, o)) (w .1))) (rejected-by lo hi s SheetTooLong e)
+    ⊎-elim (λ w. w .0) (λ w. absurd (⊎-elim (λ o. omega (arith, o)) (⊎-elim (λ o. omega (arith, o)) (λ o. omega (arith, o))) (w .1))) (rejected-by lo hi s SheetTooLong e)
 
 -- and it is given there
 pub long-refused : (lo hi : ℕ) (s : List ℕ) → formBytes (namedForm s) < length s → readForms lo hi s ≡ rejected SheetTooLong
 unfolding readForms
 long-refused lo hi s h = rw (lt-ltb (formBytes (namedForm s)) (length s) h)
 
--- the refusals of a sheet: 1 to 6, and 16
+-- the refusals of a sheet: 1 to 6, 16 and 19
 abbrev pub RefusesSheet : Refusal → Type 0
-RefusesSheet r = ((1 ≤ numberOf r) × (numberOf r ≤ 6)) ⊎ (numberOf r ≡ 16)
+RefusesSheet r = ((1 ≤ numberOf r) × (numberOf r ≤ 6)) ⊎ OfLater r
 
 -- every refusal is one of them
 pub sheet-refusals : (lo hi : ℕ) (s : List ℕ) (r : Refusal) → readForms lo hi s ≡ rejected r → RefusesSheet r
@@ -239,7 +261,7 @@ sheet-refusals lo hi s r e =
 
 -- ---- exactly one answer
 
--- a run of bytes is accepted as a valid value, or refused with 1 to 6 or 16
+-- a run of bytes is accepted as a valid value, or refused with one of 1 to 6, 16 and 19
 abbrev pub Answer : List ℕ → Type 0
 Answer s =
     ((v : SheetValue) × (readSheet s ≡ accepted v) × Valid v) ⊎ ((r : Refusal) × (readSheet s ≡ rejected r) × RefusesSheet r)

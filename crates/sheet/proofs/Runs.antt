@@ -1,5 +1,5 @@
--- Lines one after another, one for each element of a list: reading them back. The lines of numbers and the lines of rows are such
--- runs. Assumes nothing.
+-- Lines one after another, one for each element of a list: reading them back. The lines of numbers, of rows and of warm segments
+-- are such runs. Assumes nothing.
 use Prim.Native.Nat.{ℕ, zero, suc}
 use mathlib.Core.Path.{_≡_, refl, ap, _∙_}
 use mathlib.Core.List.{List, [], _∷_, _++_, append-assoc}
@@ -8,6 +8,7 @@ use lib.ListN.{length}
 use Rattle.model.specs.declared.PriceRow.{PriceRow}
 use Rattle.sheet.specs.Lines.{Parsed, read, andThen, numberLine, numberLines}
 use Rattle.sheet.specs.Values.{rowLine, rowLines}
+use Rattle.sheet.specs.Warm.{holdLine, holdLines}
 use Rattle.sheet.proofs.Parsing.{then-read, Reads}
 use Rattle.lines.specs.Texts.{linesText}
 use Rattle.lines.proofs.Runs.{Each}
@@ -50,7 +51,7 @@ module _ {A : Type 0} (p : Option A → List ℕ → Parsed A) (text : A → Lis
         back = λ s xs rest e. let (t, l, g) = back r n prev s xs rest e in (t, (l, g));
       }
 
--- ---- the lines of numbers and of rows
+-- ---- the lines of numbers, of rows and of warm segments
 
 -- n lines of numbers are such a run, whatever stands before them
 pub number-lines : (key : List ℕ) (lo hi n : ℕ) (prev : Option ℕ) (s : List ℕ)
@@ -59,8 +60,14 @@ unfolding numberLines lines
 number-lines key lo hi zero prev s = refl
 number-lines key lo hi (suc n) prev s = simp (← number-lines key lo hi n)
 
--- and so are n lines of rows
+-- so are n lines of rows
 pub row-lines : (n : ℕ) (prev : Option PriceRow) (s : List ℕ) → rowLines n prev s ≡ lines rowLine n prev s
 unfolding rowLines lines
 row-lines zero prev s = refl
 row-lines (suc n) prev s = simp (row-lines n)
+
+-- and n lines of warm segments
+pub hold-lines : (segs n : ℕ) (prev : Option ℕ) (s : List ℕ) → holdLines segs n prev s ≡ lines (holdLine segs) n prev s
+unfolding holdLines lines
+hold-lines segs zero prev s = refl
+hold-lines segs (suc n) prev s = simp (hold-lines segs n)

@@ -11,7 +11,7 @@ use borrow.Author.Tests.{le-leb, leb-true, leb-false}
 use lib.Dec.{eqb, leb}
 use lib.ListN.{length, take}
 use Rattle.decimal.specs.Decimal.{written}
-use Rattle.lines.specs.Keys.{lineFeed, formKey, kindKey, aKey, segsKey, sizeKey, rowsKey, rowKey, stepsKey, refsKey, refKey, kindWord}
+use Rattle.lines.specs.Keys.{lineFeed, formKey, kindKey, aKey, segsKey, sizeKey, rowsKey, rowKey, warmKey, holdKey, stepsKey, refsKey, refKey, kindWord}
 use Rattle.lines.specs.Texts.{lineText, numberText, linesText}
 use Rattle.lines.proofs.Runs.{Each, lines-map, lines-append}
 use Rattle.model.specs.Sheets.{HeadValue, SheetValue, idle, newestForm, largestA, mostSegs, largestSize, mostRows, mostSteps}
@@ -19,18 +19,19 @@ use Rattle.model.specs.declared.Kind.{Kind}
 use Rattle.model.specs.declared.Kind.the-variants.{Time, Space}
 use Rattle.model.specs.declared.Refusal.the-variants.{LineMalformed, OutOfRange}
 use Rattle.sheet.specs.Lines.{read, refused, andThen, splitAt, sameBytes, afterKey, valueLine, numberLine}
-use Rattle.sheet.specs.Order.{kindFor, numberPart, numbersPart, rowsPart, sizesPart, pricesPart, tablesPart, headPart}
+use Rattle.sheet.specs.Order.{kindFor, numberPart, numbersPart, rowsPart, holdsPart, sizesPart, pricesPart, warmPart, warmFor, tablesPart, headPart}
 use Rattle.sheet.specs.Order.{refsPart, touchesPart, stepsPart, entriesPart, runPart, bodyPart, formLines, sheetPart, linesOf}
 use Rattle.sheet.specs.Parts.{Line, textOf}
 use Rattle.sheet.specs.Reading.{sheetLines, formIn, namedForm}
 use Rattle.sheet.specs.Touches.{touchWord, touchesText, touchLines, touchesFrom, touchesOf, entriesFrom, entryLines}
 use Rattle.sheet.specs.Values.{kindLine, rowLine, rowWord, rowText}
+use Rattle.sheet.specs.Warm.{holdLine}
 use Rattle.sheet.specs.Writing.{sheetText}
 use Rattle.sheet.proofs.Parsing.{by-test, passed, then-read, Reads, lacks}
 use Rattle.sheet.proofs.PartsKept.{Kept, reads-as, line-kept, lines-kept, whole-kept, then-kept}
-use Rattle.sheet.proofs.Runs.{lines-reads, number-lines, row-lines}
+use Rattle.sheet.proofs.Runs.{lines-reads, number-lines, row-lines, hold-lines}
 use Rattle.sheet.proofs.Touches.{EntryFits, touches-reads, touches-back, entries-back, entries-length, entries-fit, touches-fit}
-use Rattle.sheet.proofs.Words.{number-reads, kind-reads, row-reads, RowFits}
+use Rattle.sheet.proofs.Words.{number-reads, kind-reads, row-reads, hold-reads, RowFits, HoldFits}
 
 -- a number lo to hi, whatever stands before it
 abbrev pub From : ℕ → ℕ → Option ℕ → ℕ → Type 0
@@ -40,6 +41,11 @@ From lo hi prev n = (lo ≤ n) × (n ≤ hi)
 abbrev pub EntriesFit : Bool → ℕ → List ℕ → Type 0
 EntriesFit true segs xs = (length xs ≤ mostSteps) × Each (EntryFits segs) none xs
 EntriesFit false segs xs = (length xs ≤ mostSteps) × Each (From 0 (segs - 1)) none xs
+
+-- what the warm segments of a sheet are asked for: there are none before form 3
+abbrev pub WarmFits : Bool → ℕ → List ℕ → Type 0
+WarmFits true segs xs = (length xs ≤ segs) × Each (HoldFits segs) none xs
+WarmFits false segs xs = xs ≡ []
 
 -- what the lines of a sheet ask of its value, line by line, for a call that takes the forms lo to hi
 pub record Readable (lo hi : ℕ) (v : SheetValue) : Type 0 where
@@ -51,6 +57,7 @@ pub record Readable (lo hi : ℕ) (v : SheetValue) : Type 0 where
   pub sizes-fit : Each (From 1 largestSize) none (v .head .sizes)
   pub rows-fit : (1 ≤ length (v .head .rows)) × (length (v .head .rows) ≤ mostRows)
   pub prices-fit : Each RowFits none (v .head .rows)
+  pub warm-fits : WarmFits (leb 3 (v .form)) (length (v .head .sizes)) (v .head .warm)
   pub entries-fit : EntriesFit (leb 2 (v .form)) (length (v .head .sizes)) (v .refs)
 
 -- ---- the parts
@@ -80,6 +87,16 @@ rows-kept n =
       back = λ s qs rest e. r .back s qs rest (sym (row-lines n none s) ∙ e);
     })
 
+-- n warm segments
+holds-kept : (segs n : ℕ) → Kept (holdsPart segs n) (λ xs. (length xs ≡ n) × Each (HoldFits segs) none xs)
+holds-kept segs n =
+    let r = lines-reads (holdLine segs) (numberText holdKey) (HoldFits segs) (hold-reads segs) n none in
+    lines-kept holdKey written _ _
+    (record {
+      forth = λ xs rest h. rw (hold-lines segs n none) (r .forth xs rest h);
+      back = λ s xs rest e. r .back s xs rest (sym (hold-lines segs n none s) ∙ e);
+    })
+
 -- a list with its count
 abbrev Counted : {A : Type 0} → ℕ → ℕ → (Option A → A → Type 0) → List A → Type 0
 Counted lo hi F xs = ((lo ≤ length xs) × (length xs ≤ hi)) × ((length xs ≡ length xs) × Each F none xs)
@@ -91,6 +108,17 @@ sizes-kept = then-kept (number-kept segsKey 1 mostSegs refl) (λ n _. numbers-ke
 prices-kept : Kept pricesPart (Counted 1 mostRows RowFits)
 unfolding pricesPart
 prices-kept = then-kept (number-kept rowsKey 1 mostRows refl) (λ n _. rows-kept n) (λ n qs f g. g .0)
+
+warm-kept : (segs : ℕ) → Kept (warmPart segs) (Counted 0 segs (HoldFits segs))
+unfolding warmPart
+warm-kept segs = then-kept (number-kept warmKey 0 segs refl) (λ n _. holds-kept segs n) (λ n xs f g. g .0)
+
+-- the warm segments of a form
+warmFor-kept : (later : Bool) (segs : ℕ) → Kept (warmFor later segs) (WarmFits later segs)
+warmFor-kept true segs = record {
+  both = reads-as (warm-kept segs .both) (λ xs f. (f .0 .1, f .1 .1)) (λ xs f. ((omega arith, f .0), (refl, f .1)));
+}
+warmFor-kept false segs = whole-kept []
 
 refs-kept : (segs : ℕ) → Kept (refsPart segs) (Counted 0 mostSteps (From 0 (segs - 1)))
 unfolding refsPart
@@ -175,40 +203,56 @@ kind-kept taken = line-kept kindKey kindWord _ _ (record { forth = forth; back =
         let m : mid ≡ rest = cc in
         (rw (← q, ← m) (kind-reads .back s kind mid e₁ .0), h)
 
--- the head, and its parts one after another
-abbrev HeadFits : Bool → HeadValue → Type 0
-HeadFits taken h =
-    (taken ≡ true) × (((0 ≤ h .a) × (h .a ≤ largestA)) × (Counted 1 mostSegs (From 1 largestSize) (h .sizes)
-    × (Counted 1 mostRows RowFits (h .rows) × (h ≡ record { kind = h .kind; a = h .a; sizes = h .sizes; rows = h .rows }))))
+-- the sizes, the rows and the warm segments of a head, one after another
+abbrev TablesFit : Bool → Kind → ℕ → HeadValue → Type 0
+TablesFit later kind a h =
+    Counted 1 mostSegs (From 1 largestSize) (h .sizes) × (Counted 1 mostRows RowFits (h .rows)
+    × (WarmFits later (length (h .sizes)) (h .warm) × (h ≡ record { kind = kind; a = a; sizes = h .sizes; rows = h .rows; warm = h .warm })))
 
-head-kept : (taken : Bool) → Kept (headPart taken) (HeadFits taken)
-unfolding headPart tablesPart
-head-kept taken =
+tables-kept : (later : Bool) (kind : Kind) (a : ℕ) → Kept (tablesPart later kind a) (TablesFit later kind a)
+unfolding tablesPart
+tables-kept later kind a =
+    then-kept sizes-kept
+    (λ sizes _. then-kept prices-kept
+    (λ rows _. then-kept (warmFor-kept later (length sizes))
+    (λ warm _. whole-kept (record { kind = kind; a = a; sizes = sizes; rows = rows; warm = warm }))
+    (λ warm h f g. ap (λ (w : HeadValue). w .warm) g))
+    (λ rows h f g. ap (λ (w : HeadValue). w .rows) (g .1)))
+    (λ sizes h f g. ap (λ (w : HeadValue). w .sizes) (g .1 .1))
+
+-- they are read with a segment
+pub tables-segs : (later : Bool) (kind : Kind) (a : ℕ) (s : List ℕ) (h : HeadValue) (rest : List ℕ)
+    → tablesPart later kind a .reads s ≡ read h rest → (1 ≤ length (h .sizes)) × (length (h .sizes) ≤ mostSegs)
+tables-segs later kind a s h rest e = tables-kept later kind a .both .back s h rest e .1 .0 .0
+
+-- the head
+abbrev HeadFits : Bool → Bool → HeadValue → Type 0
+HeadFits taken later h = (taken ≡ true) × (((0 ≤ h .a) × (h .a ≤ largestA)) × TablesFit later (h .kind) (h .a) h)
+
+head-kept : (taken later : Bool) → Kept (headPart taken later) (HeadFits taken later)
+unfolding headPart
+head-kept taken later =
     then-kept (kind-kept taken)
     (λ kind _. then-kept (number-kept aKey 0 largestA refl)
-    (λ a _. then-kept sizes-kept
-    (λ sizes _. then-kept prices-kept
-    (λ rows _. whole-kept (record { kind = kind; a = a; sizes = sizes; rows = rows }))
-    (λ rows h f g. ap (λ (w : HeadValue). w .rows) g))
-    (λ sizes h f g. ap (λ (w : HeadValue). w .sizes) (g .1)))
-    (λ a h f g. ap (λ (w : HeadValue). w .a) (g .1 .1)))
-    (λ kind h f g. ap (λ (w : HeadValue). w .kind) (g .1 .1 .1))
+    (λ a _. tables-kept later kind a)
+    (λ a h f g. ap (λ (w : HeadValue). w .a) (g .1 .1 .1)))
+    (λ kind h f g. ap (λ (w : HeadValue). w .kind) (g .1 .1 .1 .1))
 
 -- a head that is read has a segment
-pub head-segs : (taken : Bool) (s : List ℕ) (h : HeadValue) (rest : List ℕ) → headPart taken .reads s ≡ read h rest
+pub head-segs : (taken later : Bool) (s : List ℕ) (h : HeadValue) (rest : List ℕ) → headPart taken later .reads s ≡ read h rest
     → (1 ≤ length (h .sizes)) × (length (h .sizes) ≤ mostSegs)
-head-segs taken s h rest e = head-kept taken .both .back s h rest e .1 .1 .1 .0 .0
+head-segs taken later s h rest e = head-kept taken later .both .back s h rest e .1 .1 .1 .0 .0
 
 -- the head, and then the entries
 abbrev BodyFits : ℕ → ℕ → SheetValue → Type 0
 BodyFits lo form v =
-    HeadFits (leb lo form) (v .head) × (EntriesFit (leb 2 form) (length (v .head .sizes)) (v .refs)
+    HeadFits (leb lo form) (leb 3 form) (v .head) × (EntriesFit (leb 2 form) (length (v .head .sizes)) (v .refs)
     × (v ≡ record { form = form; head = v .head; refs = v .refs }))
 
 body-kept : (lo form : ℕ) → Kept (bodyPart lo form) (BodyFits lo form)
 unfolding bodyPart runPart
 body-kept lo form =
-    then-kept (head-kept (leb lo form))
+    then-kept (head-kept (leb lo form) (leb 3 form))
     (λ head f. then-kept (entries-kept (leb 2 form) (length (head .sizes)) (omega (arith, f .1 .1 .0 .0 .1)))
     (λ refs _. whole-kept (record { form = form; head = head; refs = refs }))
     (λ refs v f g. ap (λ (w : SheetValue). w .refs) g))
@@ -225,7 +269,7 @@ module _ (lo hi : ℕ) where
   -- the fits of the parts are those of the record
   to : (v : SheetValue) → 1 ≤ v .form → (2 ≤ v .form → v .form ≤ hi) → BodyFits lo (v .form) v → Readable lo hi v
   to v some known (h, (r, e)) =
-      let (t, (a, (s, (q, i)))) = h in
+      let (t, (a, (s, (q, (w, i))))) = h in
       record {
         some-form = some;
         form-taken = leb-true lo (v .form) t;
@@ -235,6 +279,7 @@ module _ (lo hi : ℕ) where
         sizes-fit = s .1 .1;
         rows-fit = q .0;
         prices-fit = q .1 .1;
+        warm-fits = w;
         entries-fit = r;
       }
 
@@ -242,7 +287,7 @@ module _ (lo hi : ℕ) where
   from v c = (
     (
       le-leb lo (v .form) (c .form-taken),
-      (c .a-fits, ((c .segs-fit, (refl, c .sizes-fit)), ((c .rows-fit, (refl, c .prices-fit)), refl))),
+      (c .a-fits, ((c .segs-fit, (refl, c .sizes-fit)), ((c .rows-fit, (refl, c .prices-fit)), (c .warm-fits, refl)))),
     ),
     (c .entries-fit, refl),
   )

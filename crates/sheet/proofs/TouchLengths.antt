@@ -1,10 +1,11 @@
--- How long the lines of touches are: the steps 1 to n below 10,000 have as many digits together as `digitsTo n` says. Assumes nothing.
+-- How long lines are whose numbers ascend, those of touches and of warm segments: the numbers below n have as many digits together as
+-- `digitsBelow n` says, where n is at most 10,000. Assumes nothing.
 use Prim.Native.Nat.{ℕ, zero, suc, _+_, _-_, _*_, _≤_, _<_}
 use mathlib.Core.Path.{_≡_, refl}
 use mathlib.Core.Logic.{_⊎_, inl, inr, ⊎-elim}
 use mathlib.Core.Bool.{Bool, true, false}
 use mathlib.Core.List.{List, [], _∷_}
-use mathlib.Core.Option.{Option, some}
+use mathlib.Core.Option.{Option, none, some}
 use native.Mathlib.Nat.{add-le-add}
 use native.Mathlib.Omega.{arith}
 use borrow.Author.Tests.{ltb-true, ltb-false}
@@ -12,14 +13,18 @@ use lib.Dec.{ltb}
 use lib.ListN.{length, length-append}
 use Rattle.decimal.specs.Decimal.{written}
 use Rattle.decimal.proofs.Written.{written-some, written-length, written-longer}
-use Rattle.sheet.specs.Touches.{Touch, touchText, touchesText}
-use Rattle.lines.specs.Texts.{linesText}
+use Rattle.lines.specs.Keys.{holdKey}
+use Rattle.lines.specs.Texts.{numberText, linesText}
+use Rattle.lines.proofs.Lengths.{line-length}
 use Rattle.lines.proofs.Runs.{Each}
+use Rattle.sheet.specs.Touches.{Touch, touchText, touchesText}
+use Rattle.sheet.specs.Warm.{aboveHold}
 use Rattle.sheet.proofs.Touches.{stepOf, TouchFits}
+use Rattle.sheet.proofs.Words.{HoldFits}
 
--- the digits of the numbers 1 to n together, where n is below 10,000
-abbrev pub digitsTo : ℕ → ℕ
-digitsTo n = n + (n - 9) + (n - 99) + (n - 999)
+-- the digits of the numbers below n together, where n is at most 10,000
+abbrev pub digitsBelow : ℕ → ℕ
+digitsBelow n = n + (n - 10) + (n - 100) + (n - 1000)
 
 -- a number is below another, or not
 below-or : (k n : ℕ) → (n < k) ⊎ (k ≤ n)
@@ -30,39 +35,84 @@ below-or k n = go (ltb n k) refl
     go false e = inr (ltb-false n k e)
 
 -- the digits of one number more
-pub digits-next : (n : ℕ) → suc n < 10000 → digitsTo n + length (written (suc n)) ≡ digitsTo (suc n)
+pub digits-next : (n : ℕ) → n < 10000 → digitsBelow n + length (written n) ≡ digitsBelow (suc n)
 digits-next n h =
-    ⊎-elim (λ a. omega (arith, written-length 0 (suc n) a, written-some (suc n)))
-    (λ a. ⊎-elim (λ b. omega (arith, written-length 1 (suc n) b, written-longer 1 (suc n) a))
-    (λ b. ⊎-elim (λ c. omega (arith, written-length 2 (suc n) c, written-longer 2 (suc n) b))
-    (λ c. omega (arith, written-length 3 (suc n) h, written-longer 3 (suc n) c)) (below-or 1000 (suc n))) (below-or 100 (suc n)))
-    (below-or 10 (suc n))
+    ⊎-elim (λ a. omega (arith, written-length 0 n a, written-some n))
+    (λ a. ⊎-elim (λ b. omega (arith, written-length 1 n b, written-longer 1 n a))
+    (λ b. ⊎-elim (λ c. omega (arith, written-length 2 n c, written-longer 2 n b))
+    (λ c. omega (arith, written-length 3 n h, written-longer 3 n c)) (below-or 1000 n)) (below-or 100 n))
+    (below-or 10 n)
 
 -- more numbers have no fewer digits
 sub-rises : (k b n : ℕ) → b ≤ n → b - k ≤ n - k
 sub-rises k b n l = omega arith
 
-pub digits-rise : (b n : ℕ) → b ≤ n → digitsTo b ≤ digitsTo n
-digits-rise b n l = add-le-add (add-le-add (add-le-add l (sub-rises 9 b n l)) (sub-rises 99 b n l)) (sub-rises 999 b n l)
+pub digits-rise : (b n : ℕ) → b ≤ n → digitsBelow b ≤ digitsBelow n
+digits-rise b n l = add-le-add (add-le-add (add-le-add l (sub-rises 10 b n l)) (sub-rises 100 b n l)) (sub-rises 1000 b n l)
 
--- the digits of a number and those up to one before it are within those up to it
-digits-above : (b n : ℕ) → b < n → n < 10000 → digitsTo b + length (written n) ≤ digitsTo n
-digits-above b (suc n) l h =
-    rw (← digits-next n h) (add-le-add (digits-rise b n (omega arith)) (omega arith))
-digits-above b zero l h = omega arith
+-- the digits of a number and those below one before it are within those up to it
+digits-above : (b n : ℕ) → b ≤ n → n < 10000 → digitsBelow b + length (written n) ≤ digitsBelow (suc n)
+digits-above b n l h = rw (← digits-next n h) (add-le-add (digits-rise b n l) (omega arith))
+
+-- elements whose places `at` ascend to `top`: each line has at most w bytes, and the digits of the numbers that its place goes on by
+pub ascending-within : {A : Type 0} (at : Option A → ℕ) (text : A → List ℕ) (F : Option A → A → Type 0) (w top : ℕ)
+    → ((prev : Option A) (x : A) → F prev x
+    → (at prev < at (some x)) × (at (some x) ≤ top) × (length (text x) + digitsBelow (at prev) ≤ w + digitsBelow (at (some x))))
+    → (xs : List A) (prev : Option A) → at prev ≤ top → Each F prev xs
+    → (length xs + at prev ≤ top) × (length (linesText text xs) + digitsBelow (at prev) ≤ w * length xs + digitsBelow top)
+unfolding linesText
+ascending-within at text F w top f [] prev l c = (omega arith, add-le-add (omega arith) (digits-rise (at prev) top l))
+ascending-within at text F w top f (x ∷ xs) prev l (h, c) =
+    let (a, u, d) = f prev x h in
+    let (n, m) = ascending-within at text F w top f xs (some x) u c in
+    (omega (arith, a, n), rw length-append (omega (arith, m, d)))
 
 -- the line of a touch: its two numbers, and six bytes
 pub touch-length : (x : Touch) → length (touchText x) ≡ 6 + (length (written (x .segment)) + length (written (x .step)))
 touch-length x = simp length-append (omega arith)
 
--- touches of at most 1,000 segments after a step: each line has at most 9 bytes and its step's digits
-pub touches-within : (segs steps : ℕ) → segs ≤ 1000 → steps < 10000 → (xs : List Touch) (prev : Option Touch) → stepOf prev ≤ steps
-    → Each (TouchFits segs steps) prev xs
-    → (length xs + stepOf prev ≤ steps) × (length (touchesText xs) + digitsTo (stepOf prev) ≤ 9 * length xs + digitsTo steps)
-unfolding linesText
-touches-within segs steps g h [] prev l c = (omega arith, add-le-add (omega arith) (digits-rise (stepOf prev) steps l))
-touches-within segs steps g h (x ∷ xs) prev l (f, c) =
-    let (n, m) = touches-within segs steps g h xs (some x) (f .step-within) c in
-    let d = digits-above (stepOf prev) (x .step) (f .step-above) (omega (arith, f .step-within)) in
-    let w = written-length 2 (x .segment) (omega (arith, f .segment-below)) in
-    (omega (arith, n, f .step-above), rw (length-append, touch-length x) (omega (arith, m, d, w)))
+-- touches of at most 1,000 segments: each line has at most 9 bytes and its step's digits
+pub touches-within : (segs steps : ℕ) → segs ≤ 1000 → steps < 10000 → (xs : List Touch) → Each (TouchFits segs steps) none xs
+    → (length xs ≤ steps) × (length (touchesText xs) ≤ 9 * length xs + (digitsBelow (suc steps) - 1))
+touches-within segs steps g h xs c =
+    let (n, m) = ascending-within (λ p. suc (stepOf p)) touchText (TouchFits segs steps) 9 (suc steps) fits xs none (omega arith) c in
+    (omega (arith, n), omega (arith, m))
+  where
+    fits : (prev : Option Touch) (x : Touch) → TouchFits segs steps prev x
+        → (suc (stepOf prev) < suc (x .step)) × (suc (x .step) ≤ suc steps)
+        × (length (touchText x) + digitsBelow (suc (stepOf prev)) ≤ 9 + digitsBelow (suc (x .step)))
+    fits prev x f = (
+      omega (arith, f .step-above),
+      omega (arith, f .step-within),
+      rw (touch-length x) (omega (
+        arith,
+        digits-above (suc (stepOf prev)) (x .step) (f .step-above) (omega (arith, f .step-within)),
+        written-length 2 (x .segment) (omega (arith, f .segment-below)),
+      )),
+    )
+
+-- the line of a warm segment: its number, and six bytes
+pub hold-length : (x : ℕ) → length (numberText holdKey x) ≡ 6 + length (written x)
+hold-length x = rw (line-length holdKey (written x)) (omega arith)
+
+-- the first number that may follow a warm segment
+abbrev afterHold : Option ℕ → ℕ
+afterHold none = 0
+afterHold (some x) = suc x
+
+-- what is above the one before is one that may follow it
+hold-after : (prev : Option ℕ) (x : ℕ) → aboveHold prev x ≡ true → afterHold prev ≤ x
+hold-after none x e = omega arith
+hold-after (some p) x e = ltb-true p x e
+
+-- warm segments of at most 1,000: each line has 6 bytes and its number's digits
+pub holds-within : (segs : ℕ) → 1 ≤ segs → segs ≤ 1000 → (xs : List ℕ) → Each (HoldFits segs) none xs
+    → length (linesText (numberText holdKey) xs) ≤ 6 * length xs + digitsBelow segs
+holds-within segs one h xs c =
+    omega (arith, ascending-within afterHold (numberText holdKey) (HoldFits segs) 6 segs fits xs none (omega arith) c .1)
+  where
+    fits : (prev : Option ℕ) (x : ℕ) → HoldFits segs prev x
+        → (afterHold prev < suc x) × (suc x ≤ segs) × (length (numberText holdKey x) + digitsBelow (afterHold prev) ≤ 6 + digitsBelow (suc x))
+    fits prev x (f, a) =
+        let l = hold-after prev x a in
+        (omega arith, omega (arith, f .1), rw (hold-length x) (omega (arith, digits-above (afterHold prev) x l (omega (arith, f .1)))))

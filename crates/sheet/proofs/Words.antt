@@ -1,5 +1,5 @@
--- How the value of each line is read and written: a number, a kind, and a row. Assumes nothing.
-use Prim.Native.Nat.{ℕ, _≤_}
+-- How the value of each line is read and written: a number, a kind, a row, and a warm segment. Assumes nothing.
+use Prim.Native.Nat.{ℕ, _-_, _≤_}
 use mathlib.Core.Path.{_≡_, refl, sym, _∙_}
 use mathlib.Core.Bool.{true, false, _&&_}
 use mathlib.Core.List.{List, [], _∷_}
@@ -16,11 +16,12 @@ use Rattle.decimal.proofs.Readings.{reading-written, reading-number}
 use Rattle.model.specs.declared.Kind.{Kind}
 use Rattle.model.specs.declared.Kind.the-variants.{Time, Space}
 use Rattle.model.specs.declared.PriceRow.{PriceRow}
-use Rattle.lines.specs.Keys.{lineFeed, slash, kindKey, rowKey, kindWord}
+use Rattle.lines.specs.Keys.{lineFeed, slash, kindKey, rowKey, holdKey, kindWord}
 use Rattle.sheet.specs.Lines.{read, Split, parts, none as unsplit, splitAt, sameBytes, inRange, numberLine}
 use Rattle.sheet.specs.Values.{kindOf, kindLine, above, inPrices, rowOf, rowParts, rowLine, rowWord, rowText}
+use Rattle.sheet.specs.Warm.{aboveHold, holdAfter, holdLine}
 use Rattle.lines.specs.Texts.{lineText, numberText}
-use Rattle.sheet.proofs.Parsing.{by-test, refused-read, passed, lacks, lacks-append, lacks-digits, split-forth, split-back, Reads, Words, line-reads}
+use Rattle.sheet.proofs.Parsing.{by-test, refused-read, passed, then-read, lacks, lacks-append, lacks-digits, split-forth, split-back, Reads, Words, line-reads}
 
 -- ---- a number
 
@@ -139,3 +140,25 @@ module _ (prev : Option PriceRow) where
   pub row-reads : Reads (rowLine prev) rowText (RowFits prev)
   unfolding rowLine
   row-reads = line-reads rowKey _ rowWord (RowFits prev) refl row-words
+
+-- ---- a warm segment
+
+-- a warm segment is below segs, and above the one before
+abbrev pub HoldFits : ℕ → Option ℕ → ℕ → Type 0
+HoldFits segs prev x = ((0 ≤ x) × (x ≤ segs - 1)) × (aboveHold prev x ≡ true)
+
+-- so is the line hold= read
+pub hold-reads : (segs : ℕ) (prev : Option ℕ) → Reads (holdLine segs prev) (numberText holdKey) (HoldFits segs prev)
+unfolding holdLine
+hold-reads segs prev =
+    let r = number-reads holdKey 0 (segs - 1) refl in
+    record {
+      forth = λ x rest h. rw (r .forth x rest (h .0), h .1);
+      back = λ s x rest e.
+          then-read (numberLine holdKey 0 (segs - 1) s) (holdAfter prev) x rest e λ y mid e₁ e₂.
+          let (a, f) = passed (aboveHold prev y) _ _ x rest e₂ in
+          let q : y ≡ x = cc in
+          let m : mid ≡ rest = cc in
+          let (t, h) = r .back s y mid e₁ in
+          rw (← q, ← m) (t, (h, a));
+    }

@@ -6,4 +6,5 @@ pub mod Parts
 pub mod Reading
 pub mod Touches
 pub mod Values
+pub mod Warm
 pub mod Writing

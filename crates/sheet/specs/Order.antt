@@ -7,7 +7,7 @@ use mathlib.Core.Option.{none}
 use lib.Dec.{leb}
 use lib.ListN.{length, take}
 use Rattle.decimal.specs.Decimal.{written}
-use Rattle.lines.specs.Keys.{formKey, kindKey, aKey, segsKey, sizeKey, rowsKey, rowKey, stepsKey, refsKey, refKey, kindWord}
+use Rattle.lines.specs.Keys.{formKey, kindKey, aKey, segsKey, sizeKey, rowsKey, rowKey, warmKey, holdKey, stepsKey, refsKey, refKey, kindWord}
 use Rattle.model.specs.Sheets.{HeadValue, SheetValue, largestA, mostSegs, largestSize, mostRows, mostSteps, newestForm}
 use Rattle.model.specs.declared.Kind.{Kind}
 use Rattle.model.specs.declared.PriceRow.{PriceRow}
@@ -16,6 +16,7 @@ use Rattle.sheet.specs.Lines.{read, refused, andThen, sameBytes, numberL
 use Rattle.sheet.specs.Parts.{Line, Part, whole, then, counted}
 use Rattle.sheet.specs.Touches.{touchWord, touchesOf, entryLines}
 use Rattle.sheet.specs.Values.{kindLine, rowLines, rowWord}
+use Rattle.sheet.specs.Warm.{holdLines}
 
 -- ---- lines
 
@@ -31,6 +32,10 @@ numbersPart key lo hi n = record { lines = λ xs. map (λ x. (key, written x)) x
 abbrev pub rowsPart : ℕ → Part (List PriceRow)
 rowsPart n = record { lines = λ qs. map (λ q. (rowKey, rowWord q)) qs; reads = rowLines n none }
 
+-- n lines hold=, each a segment below segs
+abbrev pub holdsPart : ℕ → ℕ → Part (List ℕ)
+holdsPart segs n = record { lines = λ xs. map (λ x. (holdKey, written x)) xs; reads = holdLines segs n none }
+
 -- ---- a sheet
 
 -- segs= and the sizes
@@ -41,12 +46,21 @@ sizesPart = counted (numberPart segsKey 1 mostSegs) (numbersPart sizeKey 1 large
 unfoldable pub pricesPart : Part (List PriceRow)
 pricesPart = counted (numberPart rowsKey 1 mostRows) rowsPart
 
--- the sizes and the rows of a head, after its kind and a
-unfoldable pub tablesPart : Kind → ℕ → Part HeadValue
-tablesPart kind a =
+-- warm= and the warm segments
+unfoldable pub warmPart : ℕ → Part (List ℕ)
+warmPart segs = counted (numberPart warmKey 0 segs) (holdsPart segs)
+
+-- the warm segments of a sheet of form 3 on; forms 1 and 2 have none
+abbrev pub warmFor : Bool → ℕ → Part (List ℕ)
+warmFor later segs = cond later (warmPart segs) (whole [])
+
+-- the sizes, the rows and the warm segments of a head, after its kind and a
+unfoldable pub tablesPart : Bool → Kind → ℕ → Part HeadValue
+tablesPart later kind a =
     then sizesPart (λ h. h .sizes) λ sizes.
     then pricesPart (λ h. h .rows) λ rows.
-    whole (record { kind = kind; a = a; sizes = sizes; rows = rows })
+    then (warmFor later (length sizes)) (λ h. h .warm) λ warm.
+    whole (record { kind = kind; a = a; sizes = sizes; rows = rows; warm = warm })
 
 -- the line kind= of a sheet whose form a call takes or does not: refusal 4 where it does not
 abbrev pub kindFor : Bool → Part Kind
@@ -56,12 +70,12 @@ kindFor taken =
       reads = λ s. andThen (kindLine s) (λ kind rest. cond taken (read kind rest) (refused OutOfRange));
     }
 
--- the head: kind=, a=, the sizes and the rows
-unfoldable pub headPart : Bool → Part HeadValue
-headPart taken =
+-- the head: kind=, a=, the sizes, the rows and, from form 3 on, the warm segments
+unfoldable pub headPart : Bool → Bool → Part HeadValue
+headPart taken later =
     then (kindFor taken) (λ h. h .kind) λ kind.
     then (numberPart aKey 0 largestA) (λ h. h .a) λ a.
-    tablesPart kind a
+    tablesPart later kind a
 
 -- refs= and the references of form 1, each below segs: every step has a touch
 unfoldable pub refsPart : ℕ → Part (List ℕ)
@@ -90,7 +104,7 @@ runPart form head =
 
 -- the lines after the form line: the head, then the entries. A call takes forms from lo on
 unfoldable pub bodyPart : ℕ → ℕ → Part SheetValue
-bodyPart lo form = then (headPart (leb lo form)) (λ v. v .head) (runPart form)
+bodyPart lo form = then (headPart (leb lo form) (leb 3 form)) (λ v. v .head) (runPart form)
 
 -- the form line, which a sheet of form 2 on has first
 abbrev pub formLines : ℕ → List Line

@@ -2,7 +2,7 @@
 use Prim.Native.Nat.{ℕ, zero, suc, _+_, _-_, _≤_, _<_}
 use mathlib.Core.Path.{_≡_, refl, sym, _∙_}
 use mathlib.Core.Bool.{Bool, true, false, cond}
-use mathlib.Core.List.{List}
+use mathlib.Core.List.{List, []}
 use mathlib.Core.Option.{Option, none, some}
 use native.Mathlib.Omega.{arith}
 use native.Mathlib.Numerals.{add-one}
@@ -11,14 +11,15 @@ use lib.ListN.{length, getD, take, set, length-set, length-replicate}
 use lib.Seq.{getD-take, length-take-le}
 use borrow.Author.Tests.{le-leb, lt-leb, eq-eqb, ne-eqb}
 use Rattle.model.specs.Figures.{ofTime}
+use Rattle.model.specs.Sheets.{listed}
 use Rattle.model.specs.Sums.{sum, tabulate}
 use Rattle.model.specs.Traces.{Trace, segs, steps, entry, touching, refsBy, refsOf, unreferenced}
-use Rattle.model.specs.LastTouches.{allUntouched, lastFrom, lastTable}
+use Rattle.model.specs.LastTouches.{startTable, lastFrom, lastTable}
 use Rattle.model.proofs.Sums.{sum-none, sum-suc, sum-within}
 use Rattle.model.proofs.Tables.{length-tabulate, getD-tabulate, tabulate-eq, tabulate-const, tabulate-set}
 use Rattle.model.proofs.Touches.{touching-at, touching-idle}
 use Rattle.model.proofs.Loads.{touching-within}
-use Rattle.model.proofs.LastTouches.{length-lastTable, lastTable-at, lastTable-start, lastTable-step, lastTable-idle, unreferenced-within}
+use Rattle.model.proofs.LastTouches.{length-lastTable, lastTable-at, startTable-is, lastTable-step, lastTable-idle, unreferenced-within}
 use Rattle.windowpass.specs.inner.Counts.{lengths, ofLength, noCounts, Room, withInterval, withEnds, reuseCount, endCount, reuseCounts, intervalCounts}
 
 -- where g counts one interval more than f, the mark in the table of last touches tells which
@@ -95,15 +96,15 @@ pub few-touches : (T : Trace) (t : ℕ) → sum t (touching T (λ t i. 1)) ≤ t
 few-touches T t = omega (arith, touching-within T t 1 (λ t i. 1) (λ t i lt l. omega arith))
 
 module _ (T : Trace) (few : segs T ≤ 256) (short : steps T ≤ 2048) where
-  pub passing-start : ((i : ℕ) → T .start i ≡ false) → Passing T noCounts 0 allUntouched 0
-  unfolding noCounts reuseCounts reuseCount allUntouched
+  pub passing-start : ((i : ℕ) → T .start i ≡ listed [] i) → Passing T noCounts 0 (startTable []) 0
+  unfolding noCounts reuseCounts reuseCount
   passing-start fresh =
       record {
         within = omega arith;
         counts-are = tabulate-const lengths 0 (reuseCount T 0)
             (λ u l. sum-none (touching T (λ t i. ofTime (ofLength u) (unreferenced T t i))));
         touches-are = sym (sum-none (touching T (λ t i. 1)));
-        last-is = sym (lastTable-start T fresh);
+        last-is = startTable-is T [] fresh;
       }
 
   pub passing-touch : (counts new last : List ℕ) (touches t i : ℕ) → Passing T counts touches last t → t < steps T → entry T t ≡ i

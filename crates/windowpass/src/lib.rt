@@ -9,11 +9,10 @@ ghost use mathlib.Core.List.{_++_};
 ghost use Prim.Native.Nat.{ℕ, _≤_};
 ghost use lib.ListN.{length, drop};
 ghost use Rattle.model.specs.Places.{gives, PlaceLeft};
-ghost use Rattle.model.specs.Sheets.{runOf, RunWithin, mostSteps};
+ghost use Rattle.model.specs.Sheets.{RunWithin, mostSteps};
 ghost use Rattle.model.specs.Traces.{steps, refsOf};
 ghost use Rattle.model.specs.LastTouches.{lastTable};
-ghost use Rattle.model.specs.declared.Kind.the-variants.{Time};
-ghost use Rattle.windows.specs.Windows.{windowList};
+ghost use Rattle.windows.specs.Windows.{windowRun, windowList};
 ghost use Rattle.windowpass.specs.inner.Counts.{noCounts, Room, withInterval, withEnds, reuseCounts};
 
 // The counts by length: a place for each number of steps from 0 to one more than the most.
@@ -45,15 +44,15 @@ fn count(counts: &mut [u16], mark: u16, steps: u16)
 
 // Counts the reuses: one pass over the steps.
 fn count_reuses(sizes: &[u16], refs: &[u16], counts: &mut [u16]) -> Passed
-    requires { ⌜ RunWithin (runOf Time 0 (now sizes) (now refs)) ⌝ }
+    requires { ⌜ RunWithin (windowRun (now sizes) (now refs)) ⌝ }
     requires { ⌜ now counts ≡ noCounts ⌝ }
-    ensures { λ r. ⌜ r .touches ≡ refsOf (runOf Time 0 (now (sizes .entry)) (now (refs .entry))) ⌝ }
-    ensures { λ r. ⌜ r .last ≡ lastTable (runOf Time 0 (now (sizes .entry)) (now (refs .entry))) (length (now (refs .entry))) ⌝ }
+    ensures { λ r. ⌜ r .touches ≡ refsOf (windowRun (now (sizes .entry)) (now (refs .entry))) ⌝ }
+    ensures { λ r. ⌜ r .last ≡ lastTable (windowRun (now (sizes .entry)) (now (refs .entry))) (length (now (refs .entry))) ⌝ }
     ensures { λ _.
-        ⌜ now (counts .exit) ≡ reuseCounts (runOf Time 0 (now (sizes .entry)) (now (refs .entry))) (length (now (refs .entry))) ⌝ }
+        ⌜ now (counts .exit) ≡ reuseCounts (windowRun (now (sizes .entry)) (now (refs .entry))) (length (now (refs .entry))) ⌝ }
 {
     let mut touches = 0;
-    let mut last = model::untouched();
+    let mut last = model::start_table(&refs[..0]);
     let mut t = 0;
     while t < refs.len() {
         let i = refs[t] as usize;
@@ -84,11 +83,11 @@ fn count_ends(marks: &[u16], steps: u16, counts: &mut [u16])
 
 // The value of each window from 1 to the number of steps, at the head of a lent place; what stands beyond it stays.
 fn write_windows(sizes: &[u16], refs: &[u16], out: &mut [u64])
-    requires { ⌜ RunWithin (runOf Time 0 (now sizes) (now refs)) ⌝ }
+    requires { ⌜ RunWithin (windowRun (now sizes) (now refs)) ⌝ }
     requires { ⌜ length (now refs) ≤ length (now out) ⌝ }
     ensures { λ _.
         ⌜ now (out .exit)
-        ≡ windowList (runOf Time 0 (now (sizes .entry)) (now (refs .entry))) ++ drop (length (now (refs .entry))) (now (out .entry)) ⌝ }
+        ≡ windowList (windowRun (now (sizes .entry)) (now (refs .entry))) ++ drop (length (now (refs .entry))) (now (out .entry)) ⌝ }
 {
     let mut counts = no_counts();
     let passed = count_reuses(sizes, refs, &mut counts);
@@ -108,9 +107,9 @@ fn write_windows(sizes: &[u16], refs: &[u16], out: &mut [u64])
 
 // The value of each window from 1 to the number of steps, at the head of a lent place; 11 where it is too short.
 pub fn windows(sizes: &[u16], refs: &[u16], out: &mut [u64]) -> PlaceAnswer
-    requires { ⌜ RunWithin (runOf Time 0 (now sizes) (now refs)) ⌝ }
+    requires { ⌜ RunWithin (windowRun (now sizes) (now refs)) ⌝ }
     ensures { λ r.
-        ⌜ PlaceLeft (gives (windowList (runOf Time 0 (now (sizes .entry)) (now (refs .entry))))) (now (out .entry)) (now (out .exit)) r ⌝ }
+        ⌜ PlaceLeft (gives (windowList (windowRun (now (sizes .entry)) (now (refs .entry))))) (now (out .entry)) (now (out .exit)) r ⌝ }
 {
     if out.len() < refs.len() {
         return PlaceAnswer {

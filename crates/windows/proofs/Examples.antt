@@ -7,13 +7,13 @@ use lib.Dec.{eqb}
 use lib.ListN.{replicate}
 use Rattle.model.specs.Sums.{sum, tabulate}
 use Rattle.model.specs.Traces.{Trace, touching, refsBy, later, unreferenced}
-use Rattle.model.specs.Sheets.{runOf}
+use Rattle.model.specs.Sheets.{listed}
 use Rattle.model.specs.declared.Kind.the-variants.{Time}
-use Rattle.windows.specs.Windows.{overIntervals, longerThan, windowAt, windowList}
+use Rattle.windows.specs.Windows.{windowRun, overIntervals, longerThan, windowAt, windowList}
 
 -- a run of kind time with a = 0 and so many segments of size 1
 abbrev pub unitRun : ℕ → List ℕ → Trace
-unitRun n refs = runOf Time 0 (replicate n 1) refs
+unitRun n refs = windowRun (replicate n 1) refs
 
 -- the windows of the runs of the table
 abbrev pub windowLists : List Trace → List (List ℕ)
@@ -36,5 +36,5 @@ pub each : windowLists runs
     ∷ []
     ∷ (3 ∷ 5 ∷ 6 ∷ [])
     ∷ []
-unfolding windowList windowAt refsBy longerThan overIntervals sum tabulate touching later unreferenced
+unfolding listed windowList windowAt refsBy longerThan overIntervals sum tabulate touching later unreferenced
 each = refl

@@ -3,8 +3,9 @@
 use Prim.Native.Nat.{ℕ, zero, suc, _+_, _<_}
 use mathlib.Core.Path.{_≡_}
 use mathlib.Core.Bool.{cond}
-use mathlib.Core.List.{List}
+use mathlib.Core.List.{List, []}
 use lib.Dec.{ltb}
+use Rattle.model.specs.Sheets.{runOf}
 use Rattle.model.specs.Sums.{tabulate}
 use Rattle.model.specs.Traces.{Trace, segs, steps, sizeOf, overTouches, refsOf, overSegments, unreferenced}
 use Rattle.model.specs.Figures.{ofTime}
@@ -28,6 +29,10 @@ windowAt T (suc n) = windowAt T n + longerThan T (suc n)
 -- the values at the windows 1, 2, .., steps
 unfoldable pub windowList : Trace → List ℕ
 windowList T = tabulate (steps T) (windowAt T)
+
+-- the run of kind time with a = 0, these sizes and entries, and no warm segment
+abbrev pub windowRun : List ℕ → List ℕ → Trace
+windowRun sizes refs = runOf Time 0 sizes [] refs
 
 -- the runs that the request speaks of: kind time, a = 0, every size 1. Of the segments that count as touched before step 1 nothing is
 -- asked here

@@ -1,4 +1,4 @@
--- The value of a sheet whose counts are cut off at the lengths of its arrays: it is the same. Assumes nothing.
+-- The values of a head and of a sheet whose counts are cut off at the lengths of its arrays: they are the same. Assumes nothing.
 use Prim.Native.Nat.{ℕ, min}
 use mathlib.Core.Path.{_≡_, refl, sym, _∙_}
 use mathlib.Core.Bool.{Bool, true, false}
@@ -9,9 +9,19 @@ use borrow.Author.Tests.{leb-true, leb-false}
 use lib.Dec.{leb}
 use lib.ListN.{length, take}
 use lib.Seq.{take-all}
+use Rattle.model.specs.Sheets.{HeadValue, SheetValue}
 use Rattle.model.specs.Values.{headValueOf, valueOf}
+use Rattle.model.specs.declared.Head.{Head}
 use Rattle.model.specs.declared.Sheet.{Sheet}
-use Rattle.writing.specs.inner.Parts.{sheetWith}
+
+-- the value of a head by other counts
+abbrev pub clampedHead : Head → ℕ → ℕ → ℕ → HeadValue
+clampedHead h segs rows warm =
+    record { kind = h .kind; a = h .a; sizes = take segs (h .sizes); rows = take rows (h .prices); warm = take warm (h .holds) }
+
+-- the value of a sheet by another count of steps
+abbrev pub clamped : Sheet → ℕ → SheetValue
+clamped s steps = record { form = s .form; head = headValueOf (s .head); refs = take steps (s .touches) }
 
 -- the first n elements are the first of n and the length
 take-min : {A : Type 0} (xs : List A) (n m most : ℕ) → length xs ≡ most → m ≡ min n most → take m xs ≡ take n xs
@@ -23,16 +33,20 @@ take-min xs n m most l e = go (leb n most) refl
         let f = leb-false n most h in
         take-all m xs (omega arith) ∙ sym (take-all n xs (omega arith))
 
--- so a sheet's value is the same with each count cut off at the length of its array
-pub value-clamped : (s : Sheet) (segs rows steps : ℕ)
-    → length (s .head .sizes) ≡ 256 → length (s .head .prices) ≡ 64 → length (s .touches) ≡ 2048
-    → segs ≡ min (s .head .segs) 256 → rows ≡ min (s .head .rows) 64 → steps ≡ min (s .steps) 2048
-    → sheetWith (s .form) (s .head .kind) (s .head .a) (take segs (s .head .sizes)) (take rows (s .head .prices)) (take steps (s .touches))
-    ≡ valueOf s
-unfolding valueOf headValueOf
-value-clamped s segs rows steps i j k d e f =
+-- so a head's value is the same with each count cut off at the length of its array
+pub head-clamped : (h : Head) (segs rows warm : ℕ)
+    → length (h .sizes) ≡ 256 → length (h .prices) ≡ 64 → length (h .holds) ≡ 256
+    → segs ≡ min (h .segs) 256 → rows ≡ min (h .rows) 64 → warm ≡ min (h .warm) 256
+    → clampedHead h segs rows warm ≡ headValueOf h
+unfolding headValueOf
+head-clamped h segs rows warm i j k d e f =
     rw (
-      take-min (s .head .sizes) (s .head .segs) segs 256 i d,
-      take-min (s .head .prices) (s .head .rows) rows 64 j e,
-      take-min (s .touches) (s .steps) steps 2048 k f,
+      take-min (h .sizes) (h .segs) segs 256 i d,
+      take-min (h .prices) (h .rows) rows 64 j e,
+      take-min (h .holds) (h .warm) warm 256 k f,
     )
+
+-- and a sheet's
+pub value-clamped : (s : Sheet) (steps : ℕ) → length (s .touches) ≡ 2048 → steps ≡ min (s .steps) 2048 → clamped s steps ≡ valueOf s
+unfolding valueOf
+value-clamped s steps k f = rw (take-min (s .touches) (s .steps) steps 2048 k f)

@@ -1,4 +1,4 @@
--- The text of a sheet in the four parts in which it is written, and the lengths of the parts. Assumes nothing.
+-- The text of a sheet in the parts in which it is written, and the lengths of the parts. Assumes nothing.
 use Prim.Native.Nat.{ℕ, _+_, _≤_}
 use mathlib.Core.Path.{_≡_, refl, ap, _∙_}
 use mathlib.Core.Bool.{Bool, true, false, cond}
@@ -10,14 +10,15 @@ use Rattle.model.specs.Sheets.{HeadValue, SheetValue}
 use Rattle.model.specs.declared.Kind.{Kind}
 use Rattle.model.specs.declared.PriceRow.{PriceRow}
 use Rattle.decimal.specs.Decimal.{written}
-use Rattle.lines.specs.Keys.{formKey, kindKey, aKey, segsKey, sizeKey, rowsKey, stepsKey, refsKey, refKey, kindWord}
-use Rattle.writing.specs.inner.Parts.{numbersText, rowsText, countedText, formText, segmentsText, pricedText, stepsText, runText}
+use Rattle.lines.specs.Keys.{formKey, kindKey, aKey, segsKey, sizeKey, rowsKey, warmKey, holdKey, stepsKey, refsKey, refKey, kindWord}
+use Rattle.writing.specs.inner.Parts.{numbersText, rowsText, countedText, formText, segmentsText, pricedText, warmText, headText}
+use Rattle.writing.specs.inner.Parts.{stepsText, runText}
 use Rattle.lines.specs.Texts.{lineText, numberText, linesText}
-use Rattle.sheet.specs.Order.{formLines, headPart, entriesPart}
+use Rattle.sheet.specs.Order.{warmPart, warmFor, formLines, headPart, entriesPart}
 use Rattle.sheet.specs.Parts.{textOf}
 use Rattle.sheet.specs.Touches.{touchesOf, touchesText}
 use Rattle.sheet.specs.Writing.{sheetText}
-use Rattle.sheet.proofs.PartTexts.{sizes-text, prices-text, refs-text, steps-text, head-text, entriesText, sheet-text}
+use Rattle.sheet.proofs.PartTexts.{sizes-text, prices-text, warm-text, refs-text, steps-text, head-text, entriesText, sheet-text}
 
 -- the lines from kind= to the sizes
 pub segments-length : (kind : Kind) (a : ℕ) (sizes : List ℕ) → length (segmentsText kind a sizes)
@@ -35,13 +36,19 @@ pub priced-length : (qs : List PriceRow) (n : ℕ) → n ≤ length qs
     → length (pricedText (take n qs)) ≡ length (numberText rowsKey n) + length (rowsText (take n qs))
 priced-length qs n h = rw (priced-text qs n h) (length-append (numberText rowsKey n) (rowsText (take n qs)))
 
+-- a head
+pub head-length : (form : ℕ) (h : HeadValue) → length (headText form h)
+    ≡ length (segmentsText (h .kind) (h .a) (h .sizes)) + (length (pricedText (h .rows)) + length (warmText form (h .warm)))
+unfolding headText
+head-length form h = simp length-append
+
 -- the lines of the entries of form 2
 pub steps-length : (xs : List ℕ) → length (stepsText xs)
     ≡ length (numberText stepsKey (length xs)) + (length (numberText refsKey (length (touchesOf xs))) + length (touchesText (touchesOf xs)))
 unfolding stepsText
 steps-length xs = simp length-append
 
--- by the form: with a form line and steps, or without
+-- by the form: with a form line, warm segments and steps, or without
 module _ (form : ℕ) where
   pub form-later : leb 2 form ≡ true → formText form ≡ numberText formKey form
   unfolding formText
@@ -50,6 +57,14 @@ module _ (form : ℕ) where
   pub form-first : leb 2 form ≡ false → formText form ≡ []
   unfolding formText
   form-first e = rw e
+
+  pub warm-later : (xs : List ℕ) → leb 3 form ≡ true → warmText form xs ≡ countedText warmKey holdKey xs
+  unfolding warmText
+  warm-later xs e = rw e
+
+  pub warm-first : (xs : List ℕ) → leb 3 form ≡ false → warmText form xs ≡ []
+  unfolding warmText
+  warm-first xs e = rw e
 
   pub run-later : (xs : List ℕ) → leb 2 form ≡ true → runText form xs ≡ stepsText xs
   unfolding runText
@@ -68,21 +83,30 @@ form-text form = go (leb 2 form)
     go true = append-nil (numberText formKey form)
     go false = refl
 
--- five texts, in the parts of a head and in those that are written
+-- the warm segments
+warm : (form segs : ℕ) (xs : List ℕ) → textOf (warmFor (leb 3 form) segs .lines xs) ≡ warmText form xs
+unfolding warmText linesText
+warm form segs xs = go (leb 3 form)
+  where
+    go : (b : Bool) → textOf (warmFor b segs .lines xs) ≡ cond b (countedText warmKey holdKey xs) []
+    go true = warm-text segs xs
+    go false = refl
+
+-- texts in the parts of a head and in those that are written
 joined : (a b c d e : List ℕ) → a ++ (b ++ ((c ++ d) ++ e)) ≡ (a ++ (b ++ (c ++ d))) ++ e
 joined a b c d e = simp append-assoc
 
 -- the head
-heads : (h : HeadValue) → textOf (headPart true .lines h) ≡ segmentsText (h .kind) (h .a) (h .sizes) ++ pricedText (h .rows)
-unfolding segmentsText pricedText
-heads h =
-    rw (head-text true h, sizes-text (h .sizes), prices-text (h .rows))
+heads : (form : ℕ) (h : HeadValue) → textOf (headPart true (leb 3 form) .lines h) ≡ headText form h
+unfolding headText segmentsText pricedText
+heads form h =
+    rw (head-text true (leb 3 form) h, sizes-text (h .sizes), prices-text (h .rows), warm form (length (h .sizes)) (h .warm))
     (joined
     (lineText kindKey (kindWord (h .kind)))
     (numberText aKey (h .a))
     (numberText segsKey (length (h .sizes)))
     (numbersText sizeKey (h .sizes))
-    (numberText rowsKey (length (h .rows)) ++ rowsText (h .rows)))
+    ((numberText rowsKey (length (h .rows)) ++ rowsText (h .rows)) ++ warmText form (h .warm)))
 
 -- the entries
 runs : (form : ℕ) (h : HeadValue) (xs : List ℕ) → entriesText form h xs ≡ runText form xs
@@ -96,15 +120,10 @@ runs form h xs = go (leb 2 form)
     go false = refs-text (length (h .sizes)) xs
 
 -- the whole
-pub text-parts : (v : SheetValue)
-    → formText (v .form)
-    ++ (segmentsText (v .head .kind) (v .head .a) (v .head .sizes) ++ (pricedText (v .head .rows) ++ runText (v .form) (v .refs)))
-    ≡ sheetText v
-text-parts v =
-    rw (sheet-text v, form-text (v .form), heads (v .head), runs (v .form) (v .head) (v .refs), append-assoc)
+pub text-parts : (v : SheetValue) → formText (v .form) ++ (headText (v .form) (v .head) ++ runText (v .form) (v .refs)) ≡ sheetText v
+text-parts v = rw (sheet-text v, form-text (v .form), heads (v .form) (v .head), runs (v .form) (v .head) (v .refs))
 
 -- and its length
 pub parts-length : (v : SheetValue) → length (sheetText v)
-    ≡ length (formText (v .form)) + (length (segmentsText (v .head .kind) (v .head .a) (v .head .sizes))
-    + (length (pricedText (v .head .rows)) + length (runText (v .form) (v .refs))))
+    ≡ length (formText (v .form)) + (length (headText (v .form) (v .head)) + length (runText (v .form) (v .refs)))
 parts-length v = rw (← text-parts v) (simp length-append)

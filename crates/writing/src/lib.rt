@@ -6,6 +6,7 @@ use lines::number_length;
 use lines::put;
 use lines::put_digits;
 use lines::put_number;
+use model::Head;
 use model::Kind;
 use model::PlaceAnswer;
 use model::PriceRow;
@@ -14,17 +15,32 @@ use model::Sheet;
 use model::Verdict;
 ghost use mathlib.Core.Path.{_≡_};
 ghost use Prim.Native.Nat.{_+_, _≤_, min};
+ghost use lib.Dec.{leb};
 ghost use lib.ListN.{length, take};
 ghost use Rattle.model.specs.Sheets.{mostRows, mostSteps};
 ghost use Rattle.model.specs.Places.{gives, PlaceLeft};
 ghost use Rattle.lines.specs.Keys.{kindKey, kindWord};
 ghost use Rattle.lines.specs.Puts.{Put};
-ghost use Rattle.writing.specs.inner.Parts.{sheetWith, formText, segmentsText, pricedText, runText};
+ghost use Rattle.writing.specs.inner.Parts.{formText, segmentsText, pricedText, warmText, headText, runText};
 ghost use Rattle.writing.specs.inner.Parts.{countedText, numbersText, rowsText};
-ghost use Rattle.model.specs.Values.{valueOf};
+ghost use Rattle.model.specs.Values.{headValueOf, valueOf};
 ghost use Rattle.lines.specs.Texts.{lineText};
 ghost use Rattle.sheet.specs.Writing.{sheetText};
 ghost use Rattle.sheet.specs.Values.{rowText};
+
+// The smaller of two numbers.
+fn least(n: usize, most: usize) -> usize
+    ensures { λ r. ⌜ r ≡ min n most ⌝ }
+{
+    if n < most { n } else { most }
+}
+
+// Whether a sheet of the form has lines of warm segments.
+fn has_warm(form: u8) -> bool
+    ensures { λ r. ⌜ r ≡ leb 3 form ⌝ }
+{
+    3 <= form
+}
 
 // ---- lengths
 
@@ -119,23 +135,31 @@ fn run_length(form: u8, entries: &[u16]) -> usize
     counted_length(b"refs=", b"ref=", entries)
 }
 
-// The length of the text of a sheet.
-fn text_length(
-    form: u8,
-    kind: Kind,
-    a: u8,
-    sizes: &[u16],
-    prices: [PriceRow; Sheet::MAX_ROWS],
-    rows: usize,
-    entries: &[u16],
-) -> usize
-    requires { ⌜ (length (now sizes) ≤ mostSteps) × (rows ≤ mostRows) × (length (now entries) ≤ mostSteps) ⌝ }
-    ensures { λ r. ⌜ r ≡ length (sheetText (sheetWith form kind a (now (sizes .entry)) (take rows prices) (now (entries .entry)))) ⌝ }
+// The length of the lines of the warm segments, which a sheet has from form 3 on.
+fn warm_length(form: u8, holds: &[u16]) -> usize
+    requires { ⌜ length (now holds) ≤ mostSteps ⌝ }
+    ensures { λ r. ⌜ (r ≡ length (warmText form (now (holds .entry)))) × (r ≤ 53274) ⌝ }
 {
-    form_length(form)
-        + segments_length(kind, a, sizes)
+    if has_warm(form) {
+        return counted_length(b"warm=", b"hold=", holds);
+    }
+    0
+}
+
+// The length of the lines of a head in a form.
+fn head_length(form: u8, head: Head) -> usize
+    ensures { λ r. ⌜ (r ≡ length (headText form (headValueOf head))) × (r ≤ 107635) ⌝ }
+{
+    let kind = head.kind;
+    let sizes = head.sizes;
+    let segs = least(head.segs, sizes.len());
+    let prices = head.prices;
+    let rows = least(head.rows, prices.len());
+    let holds = head.holds;
+    let warm = least(head.warm, holds.len());
+    segments_length(kind, head.a, &sizes[..segs])
         + priced_length(prices, rows)
-        + run_length(form, entries)
+        + warm_length(form, &holds[..warm])
 }
 
 // ---- parts
@@ -241,79 +265,57 @@ fn put_run(form: u8, entries: &[u16], out: &mut [u8], at: usize) -> usize
     put_counted(b"refs=", b"ref=", entries, out, at)
 }
 
-// Writes the text of a sheet at the front of `out`, and gives its length.
-fn put_text(
-    form: u8,
-    kind: Kind,
-    a: u8,
-    sizes: &[u16],
-    prices: [PriceRow; Sheet::MAX_ROWS],
-    rows: usize,
-    entries: &[u16],
-    out: &mut [u8],
-) -> usize
-    requires { ⌜ (rows ≤ mostRows) × (length (now entries) ≤ mostSteps)
-        × (length (sheetText (sheetWith form kind a (now sizes) (take rows prices) (now entries))) ≤ length (now out)) ⌝ }
-    ensures { λ r. ⌜ Put (sheetText (sheetWith form kind a (now (sizes .entry)) (take rows prices) (now (entries .entry))))
-        0 (now (out .entry)) r (now (out .exit)) ⌝ }
+// Writes the lines of the warm segments, which a sheet has from form 3 on, and gives the index after them.
+fn put_warm(form: u8, holds: &[u16], out: &mut [u8], at: usize) -> usize
+    requires { ⌜ at + length (warmText form (now holds)) ≤ length (now out) ⌝ }
+    ensures { λ r. ⌜ Put (warmText form (now (holds .entry))) at (now (out .entry)) r (now (out .exit)) ⌝ }
 {
-    let first = put_form(form, out);
-    let priced = put_segments(kind, a, sizes, out, first);
-    let run = put_priced(prices, rows, out, priced);
-    put_run(form, entries, out, run)
+    if has_warm(form) {
+        return put_counted(b"warm=", b"hold=", holds, out, at);
+    }
+    at
+}
+
+// Writes the lines of a head in a form, and gives the index after them.
+fn put_head(form: u8, head: Head, out: &mut [u8], at: usize) -> usize
+    requires { ⌜ at + length (headText form (headValueOf head)) ≤ length (now out) ⌝ }
+    ensures { λ r. ⌜ Put (headText form (headValueOf head)) at (now (out .entry)) r (now (out .exit)) ⌝ }
+{
+    let kind = head.kind;
+    let sizes = head.sizes;
+    let segs = least(head.segs, sizes.len());
+    let prices = head.prices;
+    let rows = least(head.rows, prices.len());
+    let holds = head.holds;
+    let warm = least(head.warm, holds.len());
+    let priced = put_segments(kind, head.a, &sizes[..segs], out, at);
+    let held = put_priced(prices, rows, out, priced);
+    put_warm(form, &holds[..warm], out, held)
 }
 
 // ---- the sheet
 
-// The smaller of two numbers.
-fn least(n: usize, most: usize) -> usize
-    ensures { λ r. ⌜ r ≡ min n most ⌝ }
-{
-    if n < most { n } else { most }
-}
-
 // The bytes of a sheet into a lent place: the text of the sheet's value, then the old contents; refusal 11 and no change where the
 // place is shorter.
-// It is so for every Sheet, also one put together by hand: a count beyond its array counts the whole array, and the lines of form 2 are
-// written where the form is 2 or more.
+// It is so for every Sheet, also one put together by hand: a count beyond its array counts the whole array, the lines of form 2 are
+// written where the form is 2 or more, and those of form 3 where it is 3 or more.
 pub fn write(sheet: Sheet, out: &mut [u8]) -> PlaceAnswer
     ensures { λ r. ⌜ PlaceLeft (gives (sheetText (valueOf sheet))) (now (out .entry)) (now (out .exit)) r ⌝ }
 {
     let form = sheet.form;
     let head = sheet.head;
-    let kind = head.kind;
-    let a = head.a;
-    let sizes = head.sizes;
-    let segs = least(head.segs, sizes.len());
-    let prices = head.prices;
-    let rows = least(head.rows, prices.len());
     let touches = sheet.touches;
     let steps = least(sheet.steps, touches.len());
-    let length = text_length(
-        form,
-        kind,
-        a,
-        &sizes[..segs],
-        prices,
-        rows,
-        &touches[..steps],
-    );
+    let length = form_length(form) + head_length(form, head) + run_length(form, &touches[..steps]);
     if out.len() < length {
         return PlaceAnswer {
             verdict: Verdict::Refused(Refusal::PlaceTooShort),
             length: 0,
         };
     }
-    put_text(
-        form,
-        kind,
-        a,
-        &sizes[..segs],
-        prices,
-        rows,
-        &touches[..steps],
-        out,
-    );
+    let first = put_form(form, out);
+    let run = put_head(form, head, out, first);
+    put_run(form, &touches[..steps], out, run);
     PlaceAnswer {
         verdict: Verdict::Accepted,
         length,

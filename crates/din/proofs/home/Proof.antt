@@ -9,4 +9,4 @@ unfolding homeOf
 returns c = search needs
 
 pub home-spec : {M : Type 1} → statement M
-home-spec = tie.close (tie.spec (λ c. search needs) returns)
+home-spec = tie.close (tie.spec (λ c. search needs) (λ c. search needs) returns)

@@ -14,10 +14,12 @@ returns c =
 
 returns-2 : tie.Need-returns-2
 returns-2 c =
-    let o = c .before .before in
+    let z = c .before in
+    let o = z .before .before in
     let v = o .before in
     let t = v .before .before in
-    import-taken _ _ _ (t .trace .ensures) _ (t .before .before .pre) (v .enum-told .given .1) _ (o .ones .ensures)
+    import-taken _ _ _ (t .trace .ensures) _ (t .before .before .pre) (v .enum-told .given .1) _ (o .ones .ensures) _
+    (z .no-sizes .ensures)
 
 pub import-spec : {M : Type 1} → statement M
 import-spec =
@@ -28,5 +30,6 @@ import-spec =
     (λ c κs. search needs)
     (λ c. search needs)
     ones-requires
+    (λ c κs. search needs)
     returns
     returns-2)

@@ -16,4 +16,13 @@ returns-3 : tie.Need-returns-3
 returns-3 c = c .lines .ensures ∙ ap importedOf (sym (power-within _ _ (c .before .before .if1 .left) (c .before .if2 .left)))
 
 pub trace-spec : {M : Type 1} → statement M
-trace-spec = tie.close (tie.spec (λ c κs. search needs) returns (λ c κs. search needs) returns-2 (λ c κs. search needs) returns-3)
+trace-spec =
+    tie.close
+    (tie.spec
+    (λ c κs. search needs)
+    returns
+    (λ c κs. search needs)
+    returns-2
+    (λ c. search needs)
+    (λ c κs. search needs)
+    returns-3)

@@ -62,7 +62,7 @@ withTouch b x =
       swapz = b .swapz + x .swap * x .size;
     }
 
--- a bucket with one more end interval; a never-touched segment has none
+-- a bucket with one more end interval; a segment that never counts as touched has none
 abbrev pub withEnd : Bucket → Touch → Bucket
 withEnd b x = cond (x .reuse) (withTouch b x) b
 
@@ -100,15 +100,16 @@ pub record RowsOf (a count : ℕ) (qs : List ℕ) (rows : List PriceRow) : Type 
   pub counted : length rows ≡ count
 
 -- r is what the pass has after all entries of a run, where p is what it has after the first n: those `before`, which are not at hand, and
--- then refs. Of the rows only the quotients are at hand
+-- then refs. Of the rows only the quotients are at hand, and the warm segments are not
 abbrev pub PassedOn : Kind → ℕ → List ℕ → ℕ → List ℕ → ℕ → List ℕ → Passed → Passed → Type 0
 PassedOn kind a sizes count qs n refs p r =
-    (rows : List PriceRow) → RowsOf a count qs rows → (before : List ℕ) → length before ≡ n
-    → RunWithin (runOf kind a sizes (before ++ refs)) → p ≡ passedAfter rows (runOf kind a sizes (before ++ refs)) n
-    → r ≡ passedOf rows (runOf kind a sizes (before ++ refs))
+    (rows : List PriceRow) → RowsOf a count qs rows → (warm before : List ℕ) → length before ≡ n
+    → RunWithin (runOf kind a sizes warm (before ++ refs)) → p ≡ passedAfter rows (runOf kind a sizes warm (before ++ refs)) n
+    → r ≡ passedOf rows (runOf kind a sizes warm (before ++ refs))
 
--- the buckets of the end intervals of a run with n steps, the entries of which are not at hand, where `last` is its table of last touches
+-- the buckets of the end intervals of a run with n steps, the entries and warm segments of which are not at hand, where `last` is its table
+-- of last touches
 abbrev pub EndedAt : Kind → ℕ → List ℕ → ℕ → List ℕ → ℕ → List ℕ → List Bucket → Type 0
 EndedAt kind a sizes count qs n last r =
-    (rows : List PriceRow) → RowsOf a count qs rows → (refs : List ℕ) → length refs ≡ n → RunWithin (runOf kind a sizes refs)
-    → last ≡ lastTable (runOf kind a sizes refs) n → r ≡ tallyOf rows (runOf kind a sizes refs) .ends
+    (rows : List PriceRow) → RowsOf a count qs rows → (warm refs : List ℕ) → length refs ≡ n → RunWithin (runOf kind a sizes warm refs)
+    → last ≡ lastTable (runOf kind a sizes warm refs) n → r ≡ tallyOf rows (runOf kind a sizes warm refs) .ends

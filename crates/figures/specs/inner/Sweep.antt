@@ -1,17 +1,17 @@
 -- The figures of one row from sums over the buckets, what those sums must satisfy, and the sums themselves. `all` is the sum of all
--- buckets of the touches, `kept` that of the buckets up to the row, `ends` that of the end intervals' buckets up to the row: what the
--- row keeps. `cost` is Q and `volume` V of the references. Assumes nothing.
+-- buckets of the touches and of the swap costs of the warm segments, `kept` that of the buckets up to the row, `ends` that of the end
+-- intervals' buckets up to the row: what the row keeps. `cost` is Q and `volume` V of the references. Assumes nothing.
 use Prim.Native.Nat.{ℕ, _+_, _-_, _*_, _/_, _^_, _≤_, _<_}
 use mathlib.Core.Path.{_≡_}
 use mathlib.Core.Bool.{cond}
 use mathlib.Core.List.{List}
-use lib.ListN.{getD}
+use lib.ListN.{length, getD}
 use lib.Dec.{eqb}
-use Rattle.model.specs.Costs.{totalCost}
+use Rattle.model.specs.Costs.{swapCost, totalCost}
 use Rattle.model.specs.Sums.{sum, tabulate}
 use Rattle.model.specs.Traces.{Trace}
 use Rattle.model.specs.Rows.{zeroFigures}
-use Rattle.model.specs.Sheets.{RowsWithin, RunWithin, largestA, mostSegs, largestSize, mostRows, mostSteps}
+use Rattle.model.specs.Sheets.{RowsWithin, RunWithin, listed, largestA, mostSegs, largestSize, mostRows, mostSteps}
 use Rattle.model.specs.declared.Kind.{Kind}
 use Rattle.model.specs.declared.Kind.the-variants.{Time, Space}
 use Rattle.model.specs.declared.PriceRow.{PriceRow}
@@ -19,6 +19,7 @@ use Rattle.model.specs.declared.RowFigures.{RowFigures}
 use Rattle.figures.specs.Buckets.{noBucket, tallyOf}
 use Rattle.figures.specs.declared.Bucket.{Bucket}
 use Rattle.figures.specs.declared.Tally.{Tally}
+use Rattle.figures.specs.declared.rows.StartSwaps.{StartSwaps}
 
 -- two buckets, each sum added
 abbrev pub added : Bucket → Bucket → Bucket
@@ -44,6 +45,22 @@ summed bs n =
       swapz = sum n (λ k. getD bs k noBucket .swapz);
     }
 
+-- the sum of g i over the first n segments i that are warm
+unfoldable pub warmSum : List ℕ → ℕ → (ℕ → ℕ) → ℕ
+warmSum warm n g = sum n (λ i. cond (listed warm i) (g i) 0)
+
+-- the swap costs of the warm segments among the first n, added, and the same with each multiplied by z
+unfoldable pub swapsUpTo : ℕ → List ℕ → List ℕ → ℕ → StartSwaps
+swapsUpTo a sizes warm n =
+    record {
+      swap = warmSum warm n (λ i. swapCost a (getD sizes i 0));
+      swapz = warmSum warm n (λ i. swapCost a (getD sizes i 0) * getD sizes i 0);
+    }
+
+-- those of all warm segments
+abbrev pub startSwaps : ℕ → List ℕ → List ℕ → StartSwaps
+startSwaps a sizes warm = swapsUpTo a sizes warm (length sizes)
+
 -- a bucket with the swap costs of the start set, also multiplied by z; they are no touches
 abbrev pub withStart : ℕ → ℕ → Bucket → Bucket
 withStart swap swapz b =
@@ -65,7 +82,7 @@ abbrev pub byKind : Kind → ℕ → ℕ → ℕ
 byKind Time x y = x
 byKind Space x y = y
 
--- wsmem: d × R of what is kept and h × w of the rest. The first touches and the end intervals have the same swap costs
+-- wsmem: d × R of what is kept and h × w of the rest. The end intervals have the swap costs of the first touches and of the warm segments
 abbrev pub wsmemFrom : PriceRow → ℕ → Bucket → Bucket → Bucket → ℕ
 wsmemFrom row cost all kept ends =
     totalCost (row .h) (row .d) (cost + kept .retention + ends .retention) (all .swap - kept .swap - ends .swap)
@@ -123,18 +140,22 @@ pub record KeptWithin (all kept ends : Bucket) : Type 0 where
   pub swaps : kept .swap + ends .swap ≤ all .swap
   pub swapzs : kept .swapz + ends .swapz ≤ all .swapz
 
+-- the most items of all buckets: the touches, and the warm segments
+abbrev pub mostItems : ℕ
+mostItems = mostSteps + mostSegs
+
 -- sums of which a working set can be made
 pub record Summable (cost volume : ℕ) (all kept ends : Bucket) : Type 0 where
   pub cost-fits : cost ≤ mostSteps * largestSize
   pub volume-fits : volume ≤ mostSteps * largestSize
-  pub all-holds : Holds mostSteps all
+  pub all-holds : Holds mostItems all
   pub kept-holds : Holds mostSteps kept
   pub ends-holds : Holds mostSegs ends
   pub parts : KeptWithin all kept ends
 
 -- sums from which no figure of the row exceeds 64 bits
 pub record RowFits (kind : Kind) (row : PriceRow) (refs cost volume : ℕ) (all kept ends : Bucket) : Type 0 where
-  pub all-holds : Holds mostSteps all
+  pub all-holds : Holds mostItems all
   pub kept-holds : Holds mostSteps kept
   pub ends-holds : Holds mostSegs ends
   pub parts : KeptWithin all kept ends

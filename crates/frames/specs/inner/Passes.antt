@@ -18,9 +18,9 @@ use Rattle.frames.specs.declared.distances.Counts.{Counts}
 abbrev pub mostEntries : ℕ
 mostEntries = suc mostSegs
 
--- a run with these sizes and entries; neither its kind nor its weight counts here
+-- a run with these sizes and entries and no warm segment; neither its kind nor its weight counts here
 abbrev pub touchesOf : List ℕ → List ℕ → Trace
-touchesOf sizes refs = runOf Time 0 sizes refs
+touchesOf sizes refs = runOf Time 0 sizes [] refs
 
 -- how many entries stand before x; all of them where the list does not have it
 unfoldable pub indexIn : ℕ → List ℕ → ℕ

@@ -11,10 +11,11 @@ use Rattle.numbers.specs.declared.recorders.Prices.{Prices}
 abbrev pub pricesOf : List PriceRow → Prices
 pricesOf rows = record { h = map (λ q. q .h) rows; d = map (λ q. q .d) rows }
 
--- what is stored of a recorder at the start: its kind, a, segs and rows, its sizes and its prices
-pub record HeadStored (R : Recorder) (head sizes h d : List ℕ) : Type 0 where
+-- what is stored of a recorder at the start: its kind, a, segs, rows and warm, its sizes, its warm segments and its prices
+pub record HeadStored (R : Recorder) (head sizes holds h d : List ℕ) : Type 0 where
   pub head-is : head ≡ listsOf R .head
   pub sizes-are : sizes ≡ listsOf R .sizes
+  pub holds-are : holds ≡ listsOf R .holds
   pub h-are : h ≡ listsOf R .h
   pub d-are : d ≡ listsOf R .d
 

@@ -17,28 +17,41 @@ returns c =
     c .refused .ensures
     ∙ sym (price-no-row (valueOf (s .args .s)) (s .args .row) (s .args .schedule .now) (omega (arith, c .before .if1 .taken)))
 
+-- where the row was tested, and where the function begins
+abbrev Found : tie.After-price-arg → tie.Else1
+Found c = c .before .before .before .before .before .before
+
+abbrev Entry : tie.After-price-arg → tie.Start
+Entry c = Found c .before .before .before
+
 array-share-prefix-sizes : tie.Need-array-share-prefix-sizes
-array-share-prefix-sizes c = omega (arith, c .before .before .before .before .before .before .before .before .pre)
+array-share-prefix-sizes c = omega (arith, Entry c .pre)
 
 slice-aggregate-price : tie.Need-slice-aggregate-price
-slice-aggregate-price c = sym (length-take-le _ _ (omega (arith, c .before .before .before .before .before .before .before .before .before .pre)))
+slice-aggregate-price c = sym (length-take-le _ _ (omega (arith, Entry (c .before) .pre)))
 
-array-share-prefix-touches : tie.Need-array-share-prefix-touches
-array-share-prefix-touches c = omega (arith, c .before .before .before .before .before .before .before .before .before .pre)
+array-share-prefix-holds : tie.Need-array-share-prefix-holds
+array-share-prefix-holds c = omega (arith, Entry (c .before) .pre)
 
 slice-aggregate-price-2 : tie.Need-slice-aggregate-price-2
-slice-aggregate-price-2 c = sym (length-take-le _ _ (omega (arith, c .before .before .before .before .before .before .before .before .before .before .pre)))
+slice-aggregate-price-2 c = sym (length-take-le _ _ (omega (arith, Entry (c .before .before) .pre)))
+
+array-share-prefix-touches : tie.Need-array-share-prefix-touches
+array-share-prefix-touches c = omega (arith, Entry (c .before .before) .pre)
+
+slice-aggregate-price-3 : tie.Need-slice-aggregate-price-3
+slice-aggregate-price-3 c = sym (length-take-le _ _ (omega (arith, Entry (c .before .before .before) .pre)))
 
 price-requires : tie.Need-price-requires
 unfolding valueOf headValueOf
-price-requires c κs = let s = c .before .before .before .before .before .before .before .before .before .before in s .pre .valid .run
+price-requires c κs = let s = Entry (c .before .before .before) in s .pre .valid .run
 
 returns-2 : tie.Need-returns-2
 unfolding valueOf headValueOf
 returns-2 c =
-    let s = c .before .before .before .before .before .before .before .before .before .before .before in
+    let s = Entry (c .before .before .before .before) in
     let n = rows-counted (s .args .s) (s .pre) in
-    let l : s .args .row < s .args .s .head .rows = omega (arith, c .before .before .before .before .before .before .before .before .if1 .left) in
+    let l : s .args .row < s .args .s .head .rows = omega (arith, Found (c .before .before .before .before) .if1 .left) in
     let p = price-at (valueOf (s .args .s)) (s .args .row) (s .args .schedule .now) (omega arith) in
     c .price .ensures ∙ sym (rw (row-of (s .args .s) (s .pre) (s .args .row) l) at p)
 
@@ -52,7 +65,9 @@ sheet-price-spec =
     (λ c. search needs)
     array-share-prefix-sizes
     slice-aggregate-price
-    array-share-prefix-touches
+    array-share-prefix-holds
     slice-aggregate-price-2
+    array-share-prefix-touches
+    slice-aggregate-price-3
     price-requires
     returns-2)

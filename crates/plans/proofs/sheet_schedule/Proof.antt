@@ -27,36 +27,49 @@ returns-2 c =
     (schedule-short (valueOf (s .args .s)) (s .args .row) (s .args .out .now)
     (omega (arith, c .before .before .before .if1 .left)) (omega (arith, c .before .if2 .taken)))
 
+-- where the row and the room were tested, and where the function begins
+abbrev Fits : tie.After-write-optimal-arg → tie.Else2
+Fits c = c .before .before .before .before .before
+
+abbrev Entry : tie.After-write-optimal-arg → tie.Start
+Entry c = Fits c .before .before .before .before .before
+
 array-share-prefix-sizes : tie.Need-array-share-prefix-sizes
-array-share-prefix-sizes c = omega (arith, c .before .before .before .before .before .before .before .before .before .pre)
+array-share-prefix-sizes c = omega (arith, Entry c .pre)
 
 slice-aggregate-write-optimal : tie.Need-slice-aggregate-write-optimal
-slice-aggregate-write-optimal c = sym (length-take-le _ _ (omega (arith, c .before .before .before .before .before .before .before .before .before .before .pre)))
+slice-aggregate-write-optimal c = sym (length-take-le _ _ (omega (arith, Entry (c .before) .pre)))
 
-array-share-prefix-touches : tie.Need-array-share-prefix-touches
-array-share-prefix-touches c = omega (arith, c .before .before .before .before .before .before .before .before .before .before .pre)
+array-share-prefix-holds : tie.Need-array-share-prefix-holds
+array-share-prefix-holds c = omega (arith, Entry (c .before) .pre)
 
 slice-aggregate-write-optimal-2 : tie.Need-slice-aggregate-write-optimal-2
-slice-aggregate-write-optimal-2 c = sym (length-take-le _ _ (omega (arith, c .before .before .before .before .before .before .before .before .before .before .before .pre)))
+slice-aggregate-write-optimal-2 c = sym (length-take-le _ _ (omega (arith, Entry (c .before .before) .pre)))
+
+array-share-prefix-touches : tie.Need-array-share-prefix-touches
+array-share-prefix-touches c = omega (arith, Entry (c .before .before) .pre)
+
+slice-aggregate-write-optimal-3 : tie.Need-slice-aggregate-write-optimal-3
+slice-aggregate-write-optimal-3 c = sym (length-take-le _ _ (omega (arith, Entry (c .before .before .before) .pre)))
 
 write-optimal-requires : tie.Need-write-optimal-requires
 unfolding valueOf headValueOf
 write-optimal-requires c κs =
-    let s = c .before .before .before .before .before .before .before .before .before .before .before .before in
+    let s = Entry (c .before .before .before .before) in
     let m = steps-counted (s .args .s) (s .pre) in
-    (s .pre .valid .run, omega (arith, c .before .before .before .before .before .before .before .if2 .left))
+    (s .pre .valid .run, omega (arith, Fits (c .before .before .before .before) .if2 .left))
 
 of-steps-requires : tie.Need-of-steps-requires
-of-steps-requires c κs = omega (arith, c .before .before .before .before .before .before .before .before .before .before .before .before .before .before .before .pre)
+of-steps-requires c κs = omega (arith, Entry (c .before .before .before .before .before .before .before) .pre)
 
 length-requires : tie.Need-length-requires
-length-requires c κs = omega (arith, c .of-steps .ensures, c .before .before .before .before .before .before .before .before .before .before .before .before .before .before .before .before .pre)
+length-requires c κs = omega (arith, c .of-steps .ensures, Entry (c .before .before .before .before .before .before .before .before) .pre)
 
 returns-3 : tie.Need-returns-3
 unfolding valueOf headValueOf
 returns-3 c =
-    let e = c .before .before .before .before .before .before .before .before .before .before .before .before in
-    let s = c .before .before .before .before .before .before .before .before .before .before .before .before .before .before .before .before .before in
+    let e = Fits (c .before .before .before .before .before .before .before .before .before) in
+    let s = Entry (c .before .before .before .before .before .before .before .before .before) in
     let v = valueOf (s .args .s) in
     let n = rows-counted (s .args .s) (s .pre) in
     let m = steps-counted (s .args .s) (s .pre) in
@@ -64,7 +77,9 @@ returns-3 c =
     let p = schedule-placed v (s .args .row) (s .args .out .now) (omega arith) (omega (arith, e .if2 .left)) in
     record {
       answer-is = rw (c .length .ensures .0, c .before .of-steps .ensures) (rw m at (p .answer-is));
-      place-is = c .before .before .before .before .write-optimal .ensures ∙ rw (row-of (s .args .s) (s .pre) (s .args .row) l) at (p .place-is);
+      place-is =
+          c .before .before .before .before .write-optimal .ensures
+          ∙ rw (row-of (s .args .s) (s .pre) (s .args .row) l) at (p .place-is);
     }
 
 pub sheet-schedule-spec : {M : Type 1} → statement M
@@ -79,8 +94,10 @@ sheet-schedule-spec =
     (λ c. search needs)
     array-share-prefix-sizes
     slice-aggregate-write-optimal
-    array-share-prefix-touches
+    array-share-prefix-holds
     slice-aggregate-write-optimal-2
+    array-share-prefix-touches
+    slice-aggregate-write-optimal-3
     write-optimal-requires
     of-steps-requires
     length-requires

@@ -18,34 +18,34 @@ use Rattle.pointsums.proofs.group_sums.Statement.{statement}
 use Rattle.pointsums.proofs.group_sums.Tie as tie
 
 abbrev Inv-loop : tie.InvT-loop
-Inv-loop kind a sizes refs rs ws n mem₀ cost₀ memory₀ load₀ last₀ t₀ mem cost memory load last t =
-    Charging (runOf kind a sizes refs) n mem cost memory load last t
+Inv-loop kind a sizes warm refs rs ws n mem₀ cost₀ memory₀ load₀ last₀ t₀ mem cost memory load last t =
+    Charging (runOf kind a sizes warm refs) n mem cost memory load last t
 
 abbrev μ-loop : tie.MeasureT-loop
-μ-loop kind a sizes refs rs ws n mem₀ cost₀ memory₀ load₀ last₀ t₀ mem cost memory load last t = length refs - t
+μ-loop kind a sizes warm refs rs ws n mem₀ cost₀ memory₀ load₀ last₀ t₀ mem cost memory load last t = length refs - t
 
 -- where the function begins, from its loop; and the run
 abbrev Begin : tie.At-loop Inv-loop μ-loop → tie.Start Inv-loop μ-loop
-Begin c = c .before .before .before .before .before .before .before .before
+Begin c = c .before .before .before .before .before .before .before .before .before
 
 abbrev runIn : tie.Start Inv-loop μ-loop → Trace
-runIn s = runOf (s .args .kind) (s .args .a) (now (s .args .sizes)) (now (s .args .refs))
+runIn s = runOf (s .args .kind) (s .args .a) (now (s .args .sizes)) (now (s .args .warm)) (now (s .args .refs))
 
 loop-holds : tie.Need-loop-holds Inv-loop μ-loop
 loop-holds c =
-    let s = c .before .before .before .before .before .before .before in
-    rw (c .untouched .ensures, s .pre .1 .1 .2, s .pre .1 .1 .3) (charging-start (runIn s) (s .pre .0) (s .args .n) (λ i. refl))
+    let s = c .before .before .before .before .before .before .before .before in
+    rw (c .start-table .ensures, s .pre .1 .1 .2, s .pre .1 .1 .3) (charging-start (runIn s) (s .pre .0) (s .args .n) (now (s .args .warm)) (λ i. refl))
 
 cast-i : tie.Need-cast-i Inv-loop μ-loop
-cast-i c = omega (arith, c .shared-slice-known5 .given (c .before .before .loop .t))
+cast-i c = omega (arith, c .shared-slice-known6 .given (c .before .before .loop .t))
 
 array-read-charge : tie.Need-array-read-charge Inv-loop μ-loop
 array-read-charge c =
-    omega (arith, c .before .before .before .before .before .before .before .before .before .before .before .before .pre .0)
+    omega (arith, c .before .before .before .before .before .before .before .before .before .before .before .before .before .pre .0)
 
 charge-requires : tie.Need-charge-requires Inv-loop μ-loop
 charge-requires c κs =
-    let s = c .before .before .before .before .before .before .before .before .before .before .before .before .before .before in
+    let s = c .before .before .before .before .before .before .before .before .before .before .before .before .before .before .before in
     let a = s .args in
     let l = c .before .before .before .before .before .before .loop in
     let i = getD (now (a .refs)) (l .t) 0 in
@@ -100,7 +100,7 @@ array-write-last c =
 
 loop-again : tie.Need-loop-again Inv-loop μ-loop
 loop-again c =
-    let s = c .before .before .before .before .before .before .before .before .before .before .before in
+    let s = c .before .before .before .before .before .before .before .before .before .before .before .before in
     let a = s .args in
     let l = c .before .before .before .loop in
     let lt = c .before .before .loop-test .taken in
@@ -120,17 +120,17 @@ loop-again c =
 
 same-length : tie.Need-same-length Inv-loop μ-loop
 same-length c =
-    let s = c .before .before .before .before .before .before .before .before .before in
+    let s = c .before .before .before .before .before .before .before .before .before .before in
     whole-sums (now (s .args .mem)) (c .before .loop .mem) (s .pre .1 .1 .2) (c .before .loop .inv .sums .mem-whole)
 
 same-length-2 : tie.Need-same-length-2 Inv-loop μ-loop
 same-length-2 c =
-    let s = c .before .before .before .before .before .before .before .before .before in
+    let s = c .before .before .before .before .before .before .before .before .before .before in
     whole-sums (now (s .args .cost)) (c .before .loop .cost) (s .pre .1 .1 .3) (c .before .loop .inv .sums .cost-whole)
 
 returns : tie.Need-returns Inv-loop μ-loop
 returns c =
-    let s = c .before .before .before .before .before .before .before .before .before in
+    let s = c .before .before .before .before .before .before .before .before .before .before in
     let l = c .before .loop in
     let n = s .args .n in
     let done =

@@ -14,7 +14,7 @@ use Rattle.pointsums.proofs.points.Tie as tie
 
 -- where the function begins, from the thresholds; where the place is known to have room, and the thresholds, from the sums; and the run
 abbrev Begin : tie.After-thresholds → tie.Start
-Begin c = c .before .before .before .before .before .before .before .before
+Begin c = c .before .before .before .before .before .before .before .before .before
 
 abbrev Enough : tie.After-group-sums → tie.Else1
 Enough c = c .before .before .before .before .before .before .before
@@ -23,16 +23,16 @@ abbrev Sorted : tie.After-group-sums → tie.After-thresholds
 Sorted c = Enough c .before .before .before
 
 abbrev runIn : tie.Start → Trace
-runIn s = runOf (s .args .kind) (s .args .a) (now (s .args .sizes)) (now (s .args .refs))
+runIn s = runOf (s .args .kind) (s .args .a) (now (s .args .sizes)) (now (s .args .warm)) (now (s .args .refs))
 
 mul-if1 : tie.Need-mul-if1
 mul-if1 c =
-    let s = c .before .before .before .before .before .before .before .before .before .before in
+    let s = c .before .before .before .before .before .before .before .before .before .before .before in
     omega (arith, thresholds-few (runIn s) _ _ _ (c .before .before .thresholds .ensures) (s .pre .steps-within))
 
 returns : tie.Need-returns
 returns c =
-    let s = c .before .before .before .before .before .before .before .before .before .before .before in
+    let s = c .before .before .before .before .before .before .before .before .before .before .before .before in
     let held = c .before .before .before .thresholds .ensures in
     text-short (operatingPoints (runIn s)) (now (s .args .out)) (omega (arith, numbers-held (runIn s) _ _ _ held, c .if1 .taken))
 
@@ -55,8 +55,8 @@ write-points-requires c κs =
       omega arith,
     )
 
-mul-t17 : tie.Need-mul-t17
-mul-t17 c =
+mul-t18 : tie.Need-mul-t18
+mul-t18 c =
     let s = Begin (Sorted (c .before .before .before .before .before .before .before .before .before .before)) in
     let held = Sorted (c .before .before .before .before .before .before .before .before .before .before) .thresholds .ensures in
     omega (arith, thresholds-few (runIn s) _ _ _ held (s .pre .steps-within))
@@ -95,6 +95,6 @@ points-spec =
     (λ c. search needs)
     (λ c. search needs)
     write-points-requires
-    mul-t17
+    mul-t18
     (λ c. search needs)
     returns-2)

@@ -10,16 +10,16 @@ use Rattle.pricing.proofs.pass_step.Statement.{statement}
 use Rattle.pricing.proofs.pass_step.Tie as tie
 
 abbrev Inv-loop : tie.InvT-loop
-Inv-loop kind a sizes refs schedule t x c₀ m₀ c m = (m ≤ 4) × SegmentsPassed (runOf kind a sizes refs) schedule t (64 * m) c
+Inv-loop kind a sizes warm refs start schedule t x c₀ m₀ c m = (m ≤ 4) × SegmentsPassed (runOf kind a sizes warm refs) schedule t (64 * m) c
 
 abbrev μ-loop : tie.MeasureT-loop
-μ-loop kind a sizes refs schedule t x c₀ m₀ c m = 4 - m
+μ-loop kind a sizes warm refs start schedule t x c₀ m₀ c m = 4 - m
 
 loop-holds : tie.Need-loop-holds Inv-loop μ-loop
 loop-holds c = (omega arith, passed-none _ _ _)
 
 pass-word-requires : tie.Need-pass-word-requires Inv-loop μ-loop
-pass-word-requires c κs = let start = c .before .before .before .before .before in
+pass-word-requires c κs = let start = c .before .before .before .before .before .before in
     (start .pre .0, (start .pre .1, (c .loop-test .taken, c .before .loop .inv .1)))
 
 loop-again : tie.Need-loop-again Inv-loop μ-loop

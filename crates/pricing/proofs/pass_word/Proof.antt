@@ -1,12 +1,11 @@
 -- `pricing::pass_word` meets its contract. The loop's invariant: the segments before i are passed, and old and new have the other bits.
 -- Assumes nothing.
 use mathlib.Core.Path.{refl}
-use Prim.Native.Nat.{_<_}
 use native.Mathlib.Numerals.{add-one}
 use lib.Bits.{bitXor}
 use lib.Count.{trailingZeros}
 use Rattle.pricing.proofs.Costing.{passed-within}
-use Prim.Native.Nat.{_+_, _-_, _*_}
+use Prim.Native.Nat.{_+_, _-_, _*_, _≤_, _<_}
 use native.Mathlib.Omega.{arith}
 use borrow.Author.Needs.{needs}
 use denote.Ref.{now}
@@ -17,34 +16,40 @@ use Rattle.pricing.proofs.pass_word.Statement.{statement}
 use Rattle.pricing.proofs.pass_word.Tie as tie
 
 abbrev Inv-loop : tie.InvT-loop
-Inv-loop kind a sizes refs schedule t x m old₀ new₀ i₀ c₀ old new i c =
-    Passes (runOf kind a sizes refs) schedule t (64 * m + 64) i old new c
+Inv-loop kind a sizes warm refs schedule t x m old₀ new₀ i₀ c₀ old new i c =
+    Passes (runOf kind a sizes warm refs) schedule t (64 * m + 64) i old new c
 
 abbrev μ-loop : tie.MeasureT-loop
-μ-loop kind a sizes refs schedule t x m old₀ new₀ i₀ c₀ old new i c = 64 * m + 64 - i
+μ-loop kind a sizes warm refs schedule t x m old₀ new₀ i₀ c₀ old new i c = 64 * m + 64 - i
 
 -- the run that the function is called with
 abbrev Run : tie.Start Inv-loop μ-loop → Trace
-Run s = runOf (s .args .kind) (s .args .a) (now (s .args .sizes)) (now (s .args .refs))
+Run s = runOf (s .args .kind) (s .args .a) (now (s .args .sizes)) (now (s .args .warm)) (now (s .args .refs))
+
+-- where the function begins
+abbrev Entry : tie.In-loop Inv-loop μ-loop → tie.Start Inv-loop μ-loop
+Entry c = c .before .before .before .before .before .before .before .before
 
 -- the first bit that differs stands within the word
 differs : (c : tie.In-loop Inv-loop μ-loop)
     → c .before .loop .i + trailingZeros 64 (bitXor (c .before .loop .old) (c .before .loop .new))
-    < 64 * c .before .before .before .before .before .before .before .args .m + 64
+    < 64 * Entry c .args .m + 64
 differs c =
-    differs-below (Run (c .before .before .before .before .before .before .before)) (λ i. refl) _ _ _ _ _ _ _
+    differs-below (Run (Entry c)) _ _ _ _ _ _ _
     (c .before .loop .inv) (c .loop-test .taken)
 
 loop-holds : tie.Need-loop-holds Inv-loop μ-loop
-loop-holds c = record {
-  within = omega arith;
-  close = omega arith;
-  before = rest-start _ _ _ _ (c .before .word-at .ok) (c .before .word-at .ensures);
-  after =
-      rest-start _ _ _ _ (c .word-at2 .ok)
-      (rw (add-one (c .before .before .before .before .before .args .t)) at (c .word-at2 .ensures));
-  passed = c .before .before .before .before .before .pre .1 .1 .1;
-}
+loop-holds c =
+    let s = c .before .before .before .before .before .before in
+    let few : 64 * s .args .m + 64 ≤ 256 = omega (arith, s .pre .1 .1 .0) in
+    record {
+      within = omega arith;
+      close = omega arith;
+      before = rest-start (Run s) _ _ _ (s .pre .0) _ _ _ few (c .before .word-at .ok) (c .before .word-at .ensures);
+      after =
+          rest-start (Run s) _ _ _ (s .pre .0) _ _ _ few (c .word-at2 .ok) (rw (add-one (s .args .t)) at (c .word-at2 .ensures));
+      passed = s .pre .1 .1 .1;
+    }
 
 cast-o : tie.Need-cast-o Inv-loop μ-loop
 cast-o c = omega (arith, differs c)
@@ -66,7 +71,7 @@ add-next c = omega (arith, differs c)
 
 pass-requires : tie.Need-pass-requires Inv-loop μ-loop
 pass-requires c κs =
-    let start = c .before .before .before .before .before .before .before in
+    let start = Entry c in
     passed-within _ (start .pre .0 .limits) _ _ _ _ (c .before .loop .inv .passed) (omega arith)
 
 add-i : tie.Need-add-i Inv-loop μ-loop
@@ -77,14 +82,14 @@ loop-less c = omega (arith, differs (c .before))
 
 loop-again : tie.Need-loop-again Inv-loop μ-loop
 loop-again c =
-    let start = c .before .before .before .before .before .before .before .before in
-    passes-on (Run start) (λ i. refl) _ _ _ _ _ _ _ _ _ (start .pre .0) (c .before .before .loop .inv) (c .before .loop-test .taken)
+    let start = Entry (c .before) in
+    passes-on (Run start) _ _ _ _ _ _ _ _ _ (start .pre .0 .place) (c .before .before .loop .inv) (c .before .loop-test .taken)
     (omega (arith, start .pre .1 .1 .0)) refl
     (rw (start .pre .1 .0) at (c .pass .ensures))
 
 returns : tie.Need-returns Inv-loop μ-loop
 returns c =
-    passes-end (Run (c .before .before .before .before .before .before .before)) (λ i. refl) _ _ _ _ _ _ _
+    passes-end (Run (c .before .before .before .before .before .before .before .before)) _ _ _ _ _ _ _
     (c .before .loop .inv) (c .loop-test .left)
 
 pub pass-word-spec : {M : Type 1} → statement M

@@ -1,85 +1,47 @@
--- `pricing::price` meets its contract. The loop's invariant: the first t steps are accepted, and c has their costs. Assumes nothing.
-use Prim.Native.Nat.{_-_, _≤_}
-use mathlib.Core.Path.{refl, sym, _∙_}
-use native.Mathlib.Numerals.{add-one}
+-- `pricing::price` meets its contract: the mask of the warm segments is lent whole. Assumes nothing.
+use Prim.Native.Nat.{ℕ, _/_, _%_, _≤_}
+use mathlib.Core.Path.{sym, ap, _∙_}
+use mathlib.Core.List.{List}
 use native.Mathlib.Omega.{arith}
-use lib.ListN.{length}
+use lib.ListN.{length, getD}
+use lib.Seq.{length-take-le, take-all}
+use denote.Ref.{now}
 use borrow.Author.Needs.{needs}
-use borrow.Author.Tests.{ne-eqb}
-use Rattle.model.specs.Sheets.{runOf}
-use Rattle.pricing.specs.inner.Steps.{Through}
-use Rattle.pricing.proofs.Costing.{through-none, through-within, through-all}
-use Rattle.pricing.proofs.Verdicts.{first-fault, whole-verdict, other-length, refused-answer}
+use Rattle.model.specs.Schedules.{bit}
+use Rattle.schedule.proofs.StartMasks.{length-startMask, startMask-bit}
 use Rattle.pricing.proofs.price.Statement.{statement}
 use Rattle.pricing.proofs.price.Tie as tie
 
-abbrev Inv-loop : tie.InvT-loop
-Inv-loop kind a row sizes refs schedule c₀ t₀ c t = (t ≤ length refs) × Through (runOf kind a sizes refs) schedule t c
+slice-aggregate-start-words : tie.Need-slice-aggregate-start-words
+slice-aggregate-start-words c =
+    let made = c .before .start-mask in
+    sym (length-take-le 32 (made .result) (omega (arith, ap length (made .ensures) ∙ length-startMask _)))
 
-abbrev μ-loop : tie.MeasureT-loop
-μ-loop kind a row sizes refs schedule c₀ t₀ c t = length refs - t
+start-words-requires : tie.Need-start-words-requires
+start-words-requires c κs =
+    let made = c .before .start-mask in
+    length-take-le 32 (made .result) (omega (arith, ap length (made .ensures) ∙ length-startMask _))
 
-mul-if1 : tie.Need-mul-if1 Inv-loop μ-loop
-mul-if1 c = omega (arith, c .before .before .before .pre .steps-within)
-
-returns : tie.Need-returns Inv-loop μ-loop
-returns c = c .refused .ensures ∙ sym (refused-answer _ _ _ _ _ (other-length _ _ (ne-eqb _ _ (c .before .if1 .taken))))
-
-loop-holds : tie.Need-loop-holds Inv-loop μ-loop
-loop-holds c = (omega arith, through-none _ (c .before .before .before .before .pre) _ (λ i. refl))
-
-step-requires : tie.Need-step-requires Inv-loop μ-loop
-step-requires c κs = (
-  record {
-    limits = c .before .before .before .before .before .before .pre;
-    whole = c .before .before .if1 .left;
-    place = c .loop-test .taken;
-  },
-  c .before .loop .inv .1,
-)
-
-returns-2 : tie.Need-returns-2 Inv-loop μ-loop
-returns-2 c =
-    let turn = c .before .before .before .before .before in
-    let whole = turn .before .before .if1 .left in
-    let done = turn .before .loop .inv .1 in
-    let fault = rw (c .before .before .next .given .1) at (c .before .before .before .before .step .ensures) in
-    c .refused2 .ensures
-    ∙ sym (refused-answer _ _ _ _ _ (whole-verdict _ _ whole ∙ first-fault _ _ _ _ _ (turn .loop-test .taken) (done .accepted) fault))
-
-loop-again : tie.Need-loop-again Inv-loop μ-loop
-loop-again c =
-    let t = c .before .before .before .before .before .loop .t in
-    (omega arith, rw (add-one t) (rw (c .before .next2 .given .1) at (c .before .before .before .step .ensures)))
-
-total-requires : tie.Need-total-requires Inv-loop μ-loop
-total-requires c κs =
-    let start = c .before .before .before .before .before .before in
-    let within =
-    through-within _ (start .pre) _ _ _ (omega (arith, start .pre .steps-within)) (c .before .loop .inv .1) in
-    (omega (arith, within .1), omega (arith, within .2))
-
-returns-3 : tie.Need-returns-3 Inv-loop μ-loop
-returns-3 c =
-    through-all _ _ _ _ _ _ _ (c .before .before .before .if1 .left) (c .before .before .loop .inv .1) (omega arith) (c .total .ensures)
+price-from-requires : tie.Need-price-from-requires
+price-from-requires c κs =
+    let made = c .before .before .start-mask in
+    let s = c .before .before .before .before .before .before .before in
+    let warm = now (s .args .warm) in
+    let whole : length (made .result) ≤ 32 = omega (arith, ap length (made .ensures) ∙ length-startMask warm) in (
+      s .pre,
+      λ i lt.
+          c .start-words .ensures i lt
+          ∙ ap (λ (l : List ℕ). bit (getD l (i / 8) 0) (i % 8)) (take-all 32 (made .result) whole ∙ made .ensures)
+          ∙ startMask-bit warm i lt,
+    )
 
 pub price-spec : {M : Type 1} → statement M
 price-spec =
     tie.close
     (tie.spec
-    Inv-loop
-    μ-loop
-    mul-if1
     (λ c κs. search needs)
-    returns
-    loop-holds
-    step-requires
     (λ c. search needs)
-    (λ c κs. search needs)
-    returns-2
-    (λ c. search needs)
-    (λ c. search needs)
-    (λ c. search needs)
-    loop-again
-    total-requires
-    returns-3)
+    slice-aggregate-start-words
+    start-words-requires
+    price-from-requires
+    (λ c. search needs))

@@ -13,11 +13,11 @@ use Rattle.pricing.proofs.step.Tie as tie
 
 -- where the function begins
 abbrev Entry : tie.After-segment-of → tie.Start
-Entry c = c .before .before .before .before .before
+Entry c = c .before .before .before .before .before .before
 
 -- the run that the function is called with
 abbrev Run : tie.Start → Trace
-Run s = runOf (s .args .kind) (s .args .a) (now (s .args .sizes)) (now (s .args .refs))
+Run s = runOf (s .args .kind) (s .args .a) (now (s .args .sizes)) (now (s .args .warm)) (now (s .args .refs))
 
 lacks-requires : tie.Need-lacks-requires
 lacks-requires c κs =
@@ -30,7 +30,7 @@ returns c =
     let A = Entry x .args in
     let at = Entry x .pre .0 in
     step-lacks _ (at .limits) _ _ (at .place) _ (x .segment-of .ensures)
-    (lacks-told (Run (Entry x)) (λ i. refl) (now (A .schedule)) (A .t) (x .segment-of .result) _
+    (lacks-told (Run (Entry x)) (A .start) (now (A .schedule)) (A .t) at (A .t) (x .segment-of .result) _
     (c .before .lacks .ensures) ∙ c .if1 .taken)
 
 pass-step-requires : tie.Need-pass-step-requires
@@ -45,7 +45,7 @@ returns-2 c =
     let A = Entry x .args in
     let at = Entry x .pre .0 in
     step-enters _ (at .limits) _ _ (at .place) _ (x .segment-of .ensures)
-    (lacks-told (Run (Entry x)) (λ i. refl) (now (A .schedule)) (A .t) (x .segment-of .result) _
+    (lacks-told (Run (Entry x)) (A .start) (now (A .schedule)) (A .t) at (A .t) (x .segment-of .result) _
     (l .before .lacks .ensures) ∙ l .if1 .left)
     (sym (c .before .pass-step .ensures .entered) ∙ c .if2 .taken)
 
@@ -66,9 +66,9 @@ moved-requires c κs =
       through-within _ (at .limits) _ _ _ (omega (arith, at .place, at .limits .steps-within)) (start .pre .1),
       rw (c .size-at .ensures)
           (left-within _ (at .limits) _ _ (at .place) _ (x .segment-of .ensures) _ _ (start .pre .1) (e .before .pass-step .ensures)
-          (lacks-told (Run (Entry x)) (λ i. refl) (now (A .schedule)) (A .t) (x .segment-of .result) _
+          (lacks-told (Run (Entry x)) (A .start) (now (A .schedule)) (A .t) at (A .t) (x .segment-of .result) _
           (l .before .lacks .ensures) ∙ l .if1 .left) (e .if2 .left) _
-          (loads-told (Run (Entry x)) (λ i. refl) (now (A .schedule)) (A .t) (x .segment-of .result) _
+          (loads-told (Run (Entry x)) (A .start) (now (A .schedule)) (A .t) at (A .t) (x .segment-of .result) _
           (c .before .loads-none .ensures))),
     )
 
@@ -82,9 +82,9 @@ returns-3 c =
     let A = start .args in
     let at = start .pre .0 in
     through-step _ (at .limits) _ _ (at .place) _ (x .segment-of .ensures) _ _ (start .pre .1) (e .before .pass-step .ensures)
-    (lacks-told (Run (Entry x)) (λ i. refl) (now (A .schedule)) (A .t) (x .segment-of .result) _
+    (lacks-told (Run (Entry x)) (A .start) (now (A .schedule)) (A .t) at (A .t) (x .segment-of .result) _
     (l .before .lacks .ensures) ∙ l .if1 .left) (e .if2 .left) _
-    (loads-told (Run (Entry x)) (λ i. refl) (now (A .schedule)) (A .t) (x .segment-of .result) _
+    (loads-told (Run (Entry x)) (A .start) (now (A .schedule)) (A .t) at (A .t) (x .segment-of .result) _
     (s .before .loads-none .ensures)) _
     (rw (s .size-at .ensures) at (c .moved .ensures))
 

@@ -14,19 +14,31 @@ use Rattle.model.specs.declared.Kind.{Kind}
 use Rattle.model.specs.declared.Verdict.the-variants.{Accepted, Refused}
 use Rattle.pricing.specs.declared.Changes.{Changes}
 use Rattle.pricing.specs.declared.Costs.{Costs}
+use Rattle.pricing.specs.declared.StartWords.{StartWords}
 use Rattle.pricing.specs.declared.Stepped.{Stepped}
 use Rattle.pricing.specs.declared.Stepped.the-variants.{Faulty, Priced}
 use Rattle.pricing.specs.Checking.{someEnters, stepVerdict, stepsVerdict}
-use Rattle.model.specs.Sheets.{RunWithin}
+use Rattle.model.specs.Sheets.{RunWithin, listed}
 
--- byte j of step t, counted from 1, of a schedule; before step 1 nothing is held
-unfoldable pub byteOf : List ℕ → ℕ → ℕ → ℕ
-byteOf p zero j = 0
-byteOf p (suc t) j = getD p (32 * t + j) 0
+-- number m of the four that have the start set, and whether segment i is in it
+abbrev pub startWord : StartWords → ℕ → ℕ
+startWord start m = cond (eqb m 0) (start .first) (cond (eqb m 1) (start .second) (cond (eqb m 2) (start .third) (start .fourth)))
 
--- segment i is held in step t
-abbrev pub heldOf : List ℕ → ℕ → ℕ → Bool
-heldOf p t i = bit (byteOf p t (i / 8)) (i % 8)
+abbrev pub startBit : StartWords → ℕ → Bool
+startBit start i = bit (startWord start (i / 64)) (i % 64)
+
+-- they have the warm segments
+abbrev pub StartBits : List ℕ → StartWords → Type 0
+StartBits warm start = (i : ℕ) → i < 256 → startBit start i ≡ listed warm i
+
+-- segment i is held in step t, counted from 1, of a schedule; before step 1 the start set is
+unfoldable pub heldOf : StartWords → List ℕ → ℕ → ℕ → Bool
+heldOf start p zero i = startBit start i
+heldOf start p (suc t) i = bit (getD p (32 * t + i / 8) 0) (i % 8)
+
+-- what the warm segments cost for one step
+unfoldable pub startCost : Kind → List ℕ → List ℕ → ℕ
+startCost kind sizes warm = sum (length sizes) (λ i. cond (listed warm i) (unitCost kind (getD sizes i 0)) 0)
 
 -- what segment i costs in memory units for one step: 0 where i is no segment
 abbrev pub unitAt : Kind → List ℕ → ℕ → ℕ
@@ -36,9 +48,10 @@ unitAt kind sizes i = cond (ltb i (length sizes)) (unitCost kind (getD sizes i 0
 unfoldable pub leaving : Trace → List ℕ → ℕ → ℕ → ℕ
 leaving T p t n = sum n (λ i. cond (held T p t i && not (held T p (suc t) i)) (unitAt (T .kind) (T .sizes) i) 0)
 
--- a schedule of the right length for a run that can be priced, and the place t of a step
-pub record Step (T : Trace) (p : List ℕ) (t : ℕ) : Type 0 where
+-- a schedule of the right length for a run that can be priced, its start set, and the place t of a step
+pub record Step (T : Trace) (start : StartWords) (p : List ℕ) (t : ℕ) : Type 0 where
   pub limits : RunWithin T
+  pub start-bits : (i : ℕ) → i < 256 → startBit start i ≡ T .start i
   pub whole : length p ≡ 32 * steps T
   pub place : t < steps T
 

@@ -1,4 +1,4 @@
--- `reading::form_bytes` meets its contract: form 2 has its own limit. Assumes nothing.
+-- `reading::form_bytes` meets its contract: forms 2 and 3 have limits of their own. Assumes nothing.
 use borrow.Author.Tests.{eq-eqb, ne-eqb}
 use Rattle.reading.proofs.form_bytes.Statement.{statement}
 use Rattle.reading.proofs.form_bytes.Tie as tie
@@ -7,7 +7,14 @@ returns : tie.Need-returns
 returns c = rw (eq-eqb (c .before .args .form) 2 (c .if1 .taken))
 
 returns-2 : tie.Need-returns-2
-returns-2 c = rw (ne-eqb (c .before .args .form) 2 (c .if1 .left))
+returns-2 c =
+    let b = c .before in
+    rw (ne-eqb (b .before .args .form) 2 (b .if1 .left), eq-eqb (b .before .args .form) 3 (c .if2 .taken))
+
+returns-3 : tie.Need-returns-3
+returns-3 c =
+    let b = c .before in
+    rw (ne-eqb (b .before .args .form) 2 (b .if1 .left), ne-eqb (b .before .args .form) 3 (c .if2 .left))
 
 pub form-bytes-spec : {M : Type 1} → statement M
-form-bytes-spec = tie.close (tie.spec returns returns-2)
+form-bytes-spec = tie.close (tie.spec returns returns-2 returns-3)

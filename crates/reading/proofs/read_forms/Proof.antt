@@ -66,7 +66,7 @@ run-lines-requires c κs =
     let s = tail (k .before .before .before .before .before .before .args .bytes .now) (k .form .given .0 .1 .0) in
     let v = headValueOf (h .head-lines .result .head) in
     let e = sym (h .head-lines .ensures .0) ∙ ap (λ l. parsedLines s l v) (w .lines2 .given .1) in
-    (h .head-lines .ensures .1 .1, some-segs _ _ s _ (h .head-lines .ensures .1 .1) e)
+    (h .head-lines .ensures .1 .1, some-segs _ _ _ s _ (h .head-lines .ensures .1 .1) e)
 
 returns-2 : tie.Need-returns-2
 returns-2 c =

@@ -1,11 +1,11 @@
 -- What a kind, a row and a head that were read stand for: the code gives places in the bytes that it is lent, the definitions speak
 -- of bytes. Assumes nothing.
-use Prim.Native.Nat.{ℕ, max}
+use Prim.Native.Nat.{ℕ, zero, suc, max}
 use mathlib.Core.Bool.{cond}
 use mathlib.Core.List.{List}
 use mathlib.Core.Option.{Option, none, some}
 use lib.ListN.{take, drop}
-use Rattle.model.specs.Sheets.{mostSegs, mostRows}
+use Rattle.model.specs.Sheets.{HeadValue, mostSegs, mostRows}
 use Rattle.model.specs.Values.{zeros, zeroRows}
 use Rattle.model.specs.declared.Head.{Head}
 use Rattle.model.specs.declared.Kind.{Kind}
@@ -47,6 +47,15 @@ abbrev pub rowNext : RowAt → ℕ
 rowNext (RowThen q next) = next
 rowNext (NoRow r) = 0
 
+-- the segment of the line hold= before, where `least` is the first that may follow it
+abbrev pub heldBefore : ℕ → Option ℕ
+heldBefore zero = none
+heldBefore (suc p) = some p
+
+-- a head with these warm segments
+abbrev pub withWarm : HeadValue → List ℕ → List ℕ → Parsed HeadValue
+withWarm h warm rest = read (record { kind = h .kind; a = h .a; sizes = h .sizes; rows = h .rows; warm = warm }) rest
+
 -- ---- a row by its two readings
 
 -- the number that was read, 0 where there is none
@@ -75,3 +84,4 @@ formLine lo hi s = cond (sameBytes (take 5 s) formKey) (numberLine formKey (max 
 pub record HeadFilled (h : Head) : Type 0 where
   pub sizes : Filled (h .segs) (h .sizes) (zeros mostSegs)
   pub prices : Filled (h .rows) (h .prices) (zeroRows mostRows)
+  pub holds : Filled (h .warm) (h .holds) (zeros mostSegs)

@@ -7,45 +7,44 @@ use native.Mathlib.Omega.{arith}
 use lib.ListN.{length, getD}
 use denote.Ref.{now}
 use borrow.Author.Needs.{needs}
-use Rattle.model.specs.Sheets.{runOf}
 use Rattle.model.specs.Traces.{entry}
-use Rattle.model.specs.declared.Kind.the-variants.{Time}
 use Rattle.model.proofs.Lists.{getD-any}
+use Rattle.windows.specs.Windows.{windowRun}
 use Rattle.windowpass.specs.inner.Counts.{Room}
 use Rattle.windowpass.proofs.Counting.{Passing, passing-start, passing-touch, passing-idle, passing-length, passing-done, reuse-room, few-touches}
 use Rattle.windowpass.proofs.count_reuses.Statement.{statement}
 use Rattle.windowpass.proofs.count_reuses.Tie as tie
 
 abbrev Inv-loop : tie.InvT-loop
-Inv-loop sizes refs counts₀ touches₀ last₀ t₀ counts touches last t = Passing (runOf Time 0 sizes refs) counts touches last t
+Inv-loop sizes refs counts₀ touches₀ last₀ t₀ counts touches last t = Passing (windowRun sizes refs) counts touches last t
 
 abbrev μ-loop : tie.MeasureT-loop
 μ-loop sizes refs counts₀ touches₀ last₀ t₀ counts touches last t = length refs - t
 
 loop-holds : tie.Need-loop-holds Inv-loop μ-loop
 loop-holds c =
-    let s = c .before .before .before .before in
-    let T = runOf Time 0 (now (s .args .sizes)) (now (s .args .refs)) in
-    rw (s .pre .1, c .untouched .ensures) (passing-start T (s .pre .0 .segs-within) (s .pre .0 .steps-within) (λ i. refl))
+    let s = c .before .before .before .before .before in
+    let T = windowRun (now (s .args .sizes)) (now (s .args .refs)) in
+    rw (s .pre .1, c .start-table .ensures) (passing-start T (s .pre .0 .segs-within) (s .pre .0 .steps-within) (λ i. refl))
 
 cast-i : tie.Need-cast-i Inv-loop μ-loop
 cast-i c = omega (arith, c .shared-slice-known3 .given (c .before .before .loop .t))
 
 array-read-count : tie.Need-array-read-count Inv-loop μ-loop
-array-read-count c = omega (arith, c .before .before .before .before .before .before .before .before .before .pre .0 .segs-within)
+array-read-count c = omega (arith, c .before .before .before .before .before .before .before .before .before .before .pre .0 .segs-within)
 
 count-requires : tie.Need-count-requires Inv-loop μ-loop
 count-requires c κs =
-    let s = c .before .before .before .before .before .before .before .before .before in
+    let s = c .before .before .before .before .before .before .before .before .before .before in
     let l = c .before .before .before .before .loop in
     let short : l .t ≤ 2048 = omega (arith, l .inv .within, s .pre .0 .steps-within) in
     let room : Room (l .counts) =
-    rw (l .inv .counts-are) (reuse-room (runOf Time 0 (now (s .args .sizes)) (now (s .args .refs))) (l .t) short) in
+    rw (l .inv .counts-are) (reuse-room (windowRun (now (s .args .sizes)) (now (s .args .refs))) (l .t) short) in
     (short, room)
 
 add-touches : tie.Need-add-touches Inv-loop μ-loop
 add-touches c =
-    let s = c .before .before .before .before .before .before .before .before .before .before .before .before in
+    let s = c .before .before .before .before .before .before .before .before .before .before .before .before .before in
     let l = c .before .before .before .before .before .before .before .loop in
     omega (
       arith,
@@ -53,18 +52,18 @@ add-touches c =
       l .inv .within,
       s .pre .0 .steps-within,
       few-touches
-          (runOf Time 0 (now (s .args .sizes)) (now (s .args .refs))) (l .t),
+          (windowRun (now (s .args .sizes)) (now (s .args .refs))) (l .t),
     )
 
 array-write-last : tie.Need-array-write-last Inv-loop μ-loop
 array-write-last c =
-    omega (arith, c .before .before .before .before .before .before .before .before .before .before .before .before .pre .0 .segs-within)
+    omega (arith, c .before .before .before .before .before .before .before .before .before .before .before .before .before .pre .0 .segs-within)
 
 loop-again : tie.Need-loop-again Inv-loop μ-loop
 loop-again c =
-    let s = c .before .before .before .before .before .before .before .before in
+    let s = c .before .before .before .before .before .before .before .before .before in
     let a = s .args in
-    let T = runOf Time 0 (now (a .sizes)) (now (a .refs)) in
+    let T = windowRun (now (a .sizes)) (now (a .refs)) in
     let l = c .before .before .before .loop in
     let lt = c .before .before .loop-test .taken in
     let e : entry T (l .t) ≡ getD (now (a .refs)) (l .t) 0 = getD-any (now (a .refs)) (l .t) (length (now (a .sizes))) 0 lt in
@@ -80,18 +79,18 @@ loop-again c =
 
 same-length : tie.Need-same-length Inv-loop μ-loop
 same-length c =
-    let s = c .before .before .before .before .before .before in
+    let s = c .before .before .before .before .before .before .before in
     let l = c .before .loop in
-    passing-length (runOf Time 0 (now (s .args .sizes)) (now (s .args .refs))) (s .pre .0 .segs-within) (s .pre .0 .steps-within) _ _
+    passing-length (windowRun (now (s .args .sizes)) (now (s .args .refs))) (s .pre .0 .segs-within) (s .pre .0 .steps-within) _ _
     (l .last)
     (l .touches) (l .t) (s .pre .1) (l .inv)
 
 returns : tie.Need-returns Inv-loop μ-loop
 returns c =
-    let s = c .before .before .before .before .before .before in
+    let s = c .before .before .before .before .before .before .before in
     let l = c .before .loop in
     let done =
-    passing-done (runOf Time 0 (now (s .args .sizes)) (now (s .args .refs))) (s .pre .0 .segs-within) (s .pre .0 .steps-within) (l .counts)
+    passing-done (windowRun (now (s .args .sizes)) (now (s .args .refs))) (s .pre .0 .segs-within) (s .pre .0 .steps-within) (l .counts)
     (l .last) (l .touches) (l .t) (l .inv) (omega (arith, l .inv .within)) in
     (done .0, (done .1, done .2))
 
@@ -101,6 +100,7 @@ count-reuses-spec =
     (tie.spec
     Inv-loop
     μ-loop
+    (λ c. refl)
     (λ c κs. search needs)
     loop-holds
     (λ c. search needs)

@@ -3,18 +3,16 @@
 use native.Mathlib.Omega.{arith}
 use denote.Ref.{now}
 use borrow.Author.Needs.{needs}
-use Rattle.model.specs.Sheets.{runOf}
 use Rattle.model.specs.Traces.{Trace}
-use Rattle.model.specs.declared.Kind.the-variants.{Time}
 use Rattle.model.proofs.Places.{text-short, text-fits}
-use Rattle.windows.specs.Windows.{windowList}
+use Rattle.windows.specs.Windows.{windowRun, windowList}
 use Rattle.windows.proofs.Windows.{list-length}
 use Rattle.windowpass.proofs.windows.Statement.{statement}
 use Rattle.windowpass.proofs.windows.Tie as tie
 
 -- the run
 abbrev runIn : tie.Start → Trace
-runIn s = runOf Time 0 (now (s .args .sizes)) (now (s .args .refs))
+runIn s = windowRun (now (s .args .sizes)) (now (s .args .refs))
 
 returns : tie.Need-returns
 returns c =

@@ -1,15 +1,14 @@
 -- `windowpass::write_windows` meets its contract: the invariant of its loop is `Filling`, the measure the windows that are left.
 -- Assumes nothing.
 use Prim.Native.Nat.{_+_, _-_, _≤_}
-use mathlib.Core.Path.{_≡_, refl, sym}
+use mathlib.Core.Path.{_≡_, sym}
 use native.Mathlib.Omega.{arith}
 use lib.ListN.{length, getD}
 use denote.Ref.{now}
 use borrow.Author.Needs.{needs}
-use Rattle.model.specs.Sheets.{runOf}
 use Rattle.model.specs.Traces.{Trace}
-use Rattle.model.specs.declared.Kind.the-variants.{Time}
-use Rattle.windows.specs.Windows.{windowList}
+use Rattle.model.proofs.LastTouches.{listed-none}
+use Rattle.windows.specs.Windows.{windowRun, windowList}
 use Rattle.windowpass.specs.inner.Counts.{intervalCounts}
 use Rattle.windowpass.proofs.Counting.{marks-whole, marks-length, ends-room, ends-done}
 use Rattle.windowpass.proofs.Filling.{Filling, filling-start, filling-step, count-within}
@@ -18,7 +17,7 @@ use Rattle.windowpass.proofs.write_windows.Tie as tie
 
 abbrev Inv-loop : tie.InvT-loop
 Inv-loop sizes refs out₀ counts segs value₀ more₀ t₀ out value more t =
-    Filling (runOf Time 0 sizes refs) out₀ out value more t × (counts ≡ intervalCounts (runOf Time 0 sizes refs) (length sizes))
+    Filling (windowRun sizes refs) out₀ out value more t × (counts ≡ intervalCounts (windowRun sizes refs) (length sizes))
 
 abbrev μ-loop : tie.MeasureT-loop
 μ-loop sizes refs out₀ counts segs value₀ more₀ t₀ out value more t = length refs - t
@@ -31,7 +30,7 @@ abbrev Passed : tie.At-loop Inv-loop μ-loop → tie.After-count-reuses Inv-loop
 Passed c = c .before .before .before .before .before .before .before
 
 abbrev runIn : tie.Start Inv-loop μ-loop → Trace
-runIn s = runOf Time 0 (now (s .args .sizes)) (now (s .args .refs))
+runIn s = windowRun (now (s .args .sizes)) (now (s .args .refs))
 
 array-share-prefix-last : tie.Need-array-share-prefix-last Inv-loop μ-loop
 array-share-prefix-last c =
@@ -63,7 +62,7 @@ loop-holds : tie.Need-loop-holds Inv-loop μ-loop
 loop-holds c =
     let p = c .before .before .before .before .before .before in
     let s = Entry p in (
-      filling-start (runIn s) (now (s .args .out)) _ (λ i. refl) (s .pre .0 .steps-within) (p .count-reuses .ensures .0),
+      filling-start (runIn s) (now (s .args .out)) _ listed-none (s .pre .0 .steps-within) (p .count-reuses .ensures .0),
       ends-done (runIn s) (s .pre .0 .segs-within) (s .pre .0 .steps-within) _ _ (p .count-reuses .ensures .1 .1)
           (p .count-reuses .ensures .1 .0) _
           (c .before .count-ends .ensures),

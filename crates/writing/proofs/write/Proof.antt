@@ -1,95 +1,112 @@
--- `writing::write` meets its contract: the counts are cut off at the arrays' lengths, which changes no value; then the text's
--- length decides, and the text is put at the front. Assumes nothing.
-use mathlib.Core.Path.{_≡_, sym, ap}
+-- `writing::write` meets its contract: the count of steps is cut off at the array's length, which changes no value; then the text's
+-- length decides, and the parts are put one after another. Assumes nothing.
+use Prim.Native.Nat.{_+_}
+use mathlib.Core.Path.{_≡_, sym, ap, _∙_}
 use native.Mathlib.Omega.{arith}
 use borrow.Author.Needs.{needs}
-use lib.ListN.{length, take, length-map, length-take}
+use lib.ListN.{length, length-take}
 use lib.Seq.{length-take-le}
 use Rattle.model.specs.Values.{valueOf}
 use Rattle.model.proofs.Places.{text-short}
-use Rattle.writing.specs.inner.Parts.{sheetWith}
 use Rattle.sheet.specs.Writing.{sheetText}
-use Rattle.writing.proofs.Clamped.{value-clamped}
 use Rattle.lines.proofs.Placing.{text-put}
-use Rattle.lines.proofs.Putting.{put-same}
+use Rattle.lines.proofs.Putting.{put-same, put-then}
+use Rattle.writing.proofs.Clamped.{clamped, value-clamped}
+use Rattle.writing.proofs.SheetParts.{text-parts, parts-length}
 use Rattle.writing.proofs.write.Statement.{statement}
 use Rattle.writing.proofs.write.Tie as tie
 
--- how long the arrays are
-lengths : (s : tie.Start)
-    → (length (s .args .sheet .head .sizes) ≡ 256) × (length (s .args .sheet .head .prices) ≡ 64) × (length (s .args .sheet .touches) ≡ 2048)
-lengths s = (search needs, simp length-map at (s .good .0 .1 .1 .1 .0 .1 .1 .1 .1 .1 .1 .1 .0 .1 .0 .1), search needs)
+-- how long the array of entries is
+whole : (s : tie.Start) → length (s .args .sheet .touches) ≡ 2048
+whole s = search needs
 
 -- the value that is written is that of the sheet
-same : (t : tie.After-touches2)
-    → (let r = t .before .before in
-    let s = r .before .before .before .before .before .before .before .before .args .sheet in
-    sheetWith (s .form) (s .head .kind) (s .head .a)
-    (take (r .before .before .before .before .least .result) (s .head .sizes))
-    (take (r .before .before .least2 .result) (s .head .prices))
-    (take (r .least3 .result) (s .touches)) ≡ valueOf s)
-same t =
-    let r = t .before .before in
-    let (l₁, l₂, l₃) = lengths (r .before .before .before .before .before .before .before .before) in
-    value-clamped _ _ _ _ l₁ l₂ l₃ (r .before .before .before .before .least .ensures) (r .before .before .least2 .ensures)
-    (r .least3 .ensures)
-
-array-share-prefix-sizes : tie.Need-array-share-prefix-sizes
-array-share-prefix-sizes c =
-    let e = lengths (c .before .before .before .before .before .before .before .before) in
-    omega arith
-
-slice-aggregate-text-length : tie.Need-slice-aggregate-text-length
-slice-aggregate-text-length c =
-    let e = lengths (c .before .before .before .before .before .before .before .before .before) in
-    sym (length-take-le _ _ (omega arith))
+same : (r : tie.After-least)
+    → (let s = r .before .before .before .before .args .sheet in clamped s (r .least .result) ≡ valueOf s)
+same r = value-clamped _ _ (whole (r .before .before .before .before)) (r .least .ensures)
 
 array-share-prefix-touches : tie.Need-array-share-prefix-touches
 array-share-prefix-touches c =
-    let e = lengths (c .before .before .before .before .before .before .before .before .before) in
+    let e = whole (c .before .before .before .before .before .before) in
     omega arith
 
-slice-aggregate-text-length-2 : tie.Need-slice-aggregate-text-length-2
-slice-aggregate-text-length-2 c =
-    let e = lengths (c .before .before .before .before .before .before .before .before .before .before) in
+slice-aggregate-run-length : tie.Need-slice-aggregate-run-length
+slice-aggregate-run-length c =
+    let e = whole (c .before .before .before .before .before .before .before) in
     sym (length-take-le _ _ (omega arith))
 
-text-length-requires : tie.Need-text-length-requires
-text-length-requires c κs = simp length-take (omega arith)
+run-length-requires : tie.Need-run-length-requires
+run-length-requires c κs = simp length-take (omega arith)
+
+-- the length is that of the text
+counted : (l : tie.After-run-length)
+    → (let h = l .before .before in
+    let f = h .before in
+    let s = f .before .before .before .before .before .args .sheet in
+    f .form-length .result + h .head-length .result + l .run-length .result ≡ length (sheetText (valueOf s)))
+counted l =
+    let r = l .before .before .before .before in
+    let e = parts-length (clamped (r .before .before .before .before .args .sheet) (r .least .result)) in
+    sym (e ∙ omega arith) ∙ ap (λ v. length (sheetText v)) (same r)
 
 returns : tie.Need-returns
-returns c =
-    let r = rw (same (c .before .before)) at (c .before .text-length .ensures) in
-    text-short _ _ (omega arith)
+returns c = text-short _ _ (omega (arith, counted (c .before), c .if1 .taken))
 
-array-share-prefix-sizes-2 : tie.Need-array-share-prefix-sizes-2
-array-share-prefix-sizes-2 c =
-    let e = lengths (c .before .before .before .before .before .before .before .before .before .before .before .before) in
-    omega arith
+put-form-requires : tie.Need-put-form-requires
+put-form-requires c κs =
+    let i = c .before in
+    let l = i .before in
+    omega (arith, i .if1 .left, l .before .before .before .form-length .ensures)
 
-slice-aggregate-put-text : tie.Need-slice-aggregate-put-text
-slice-aggregate-put-text c =
-    let e = lengths (c .before .before .before .before .before .before .before .before .before .before .before .before .before) in
-    sym (length-take-le _ _ (omega arith))
+put-head-requires : tie.Need-put-head-requires
+put-head-requires c κs =
+    let p = c .before .before .before in
+    let i = p .before .before in
+    let h = i .before .before .before in
+    omega (arith, i .if1 .left, h .before .form-length .ensures, h .head-length .ensures, p .put-form .ensures .ends)
 
 array-share-prefix-touches-2 : tie.Need-array-share-prefix-touches-2
 array-share-prefix-touches-2 c =
-    let e = lengths (c .before .before .before .before .before .before .before .before .before .before .before .before .before) in
+    let l = c .before .before .before .before .before .before .before .before .before in
+    let e = whole (l .before .before .before .before .before .before .before .before) in
     omega arith
 
-slice-aggregate-put-text-2 : tie.Need-slice-aggregate-put-text-2
-slice-aggregate-put-text-2 c =
-    let e = lengths (c .before .before .before .before .before .before .before .before .before .before .before .before .before .before) in
+slice-aggregate-put-run : tie.Need-slice-aggregate-put-run
+slice-aggregate-put-run c =
+    let l = c .before .before .before .before .before .before .before .before .before .before in
+    let e = whole (l .before .before .before .before .before .before .before .before) in
     sym (length-take-le _ _ (omega arith))
 
-put-text-requires : tie.Need-put-text-requires
-put-text-requires c κs = (omega arith, simp length-take (omega arith), omega arith)
+put-run-requires : tie.Need-put-run-requires
+put-run-requires c κs =
+    let q = c .before .before .before .before in
+    let p = q .before .before .before .before in
+    let i = p .before .before in
+    let l = i .before in
+    let h = l .before .before in (
+      simp length-take (omega arith),
+      omega (
+        arith,
+        i .if1 .left,
+        h .before .form-length .ensures,
+        h .head-length .ensures,
+        l .run-length .ensures,
+        p .put-form .ensures .ends,
+        q .put-head .ensures .ends,
+      ),
+    )
 
 returns-2 : tie.Need-returns-2
 returns-2 c =
-    let l = c .before .before .before .before .before .before .before in
-    let e = same (l .before) in
-    text-put _ _ _ _ _ (rw e at (l .text-length .ensures)) (put-same (ap sheetText e) (c .before .before .put-text .ensures))
+    let w = c .before .before in
+    let q = w .before .before .before .before .before in
+    let p = q .before .before .before .before in
+    let l = p .before .before .before in
+    let r = l .before .before .before .before in
+    let v = clamped (r .before .before .before .before .args .sheet) (r .least .result) in
+    text-put _ _ _ _ _ (counted l)
+    (put-same (text-parts v ∙ ap sheetText (same r))
+    (put-then (p .put-form .ensures) (put-then (q .put-head .ensures) (w .put-run .ensures))))
 
 pub write-spec : {M : Type 1} → statement M
 write-spec =
@@ -98,16 +115,16 @@ write-spec =
     (λ c κs. search needs)
     (λ c κs. search needs)
     (λ c κs. search needs)
-    array-share-prefix-sizes
-    slice-aggregate-text-length
+    (λ c. search needs)
     array-share-prefix-touches
-    slice-aggregate-text-length-2
-    text-length-requires
+    slice-aggregate-run-length
+    run-length-requires
+    (λ c. search needs)
     returns
-    array-share-prefix-sizes-2
-    slice-aggregate-put-text
+    put-form-requires
+    put-head-requires
     array-share-prefix-touches-2
-    slice-aggregate-put-text-2
-    put-text-requires
+    slice-aggregate-put-run
+    put-run-requires
     (λ c. search needs)
     returns-2)

@@ -1,21 +1,16 @@
--- The four parts in which a sheet is written. Assumes nothing.
-use Prim.Native.Nat.{ℕ, _+_}
+-- The parts in which a sheet is written. Assumes nothing.
+use Prim.Native.Nat.{ℕ}
 use mathlib.Core.Bool.{cond}
 use mathlib.Core.List.{List, [], _++_}
 use lib.Dec.{leb}
 use lib.ListN.{length}
-use Rattle.model.specs.Sheets.{SheetValue}
+use Rattle.model.specs.Sheets.{HeadValue}
 use Rattle.model.specs.declared.Kind.{Kind}
 use Rattle.model.specs.declared.PriceRow.{PriceRow}
-use Rattle.lines.specs.Keys.{formKey, kindKey, aKey, segsKey, sizeKey, rowsKey, stepsKey, refsKey, refKey, kindWord}
+use Rattle.lines.specs.Keys.{formKey, kindKey, aKey, segsKey, sizeKey, rowsKey, warmKey, holdKey, stepsKey, refsKey, refKey, kindWord}
 use Rattle.lines.specs.Texts.{lineText, numberText, linesText}
 use Rattle.sheet.specs.Touches.{touchesOf, touchesText}
 use Rattle.sheet.specs.Values.{rowText}
-
--- the value of a sheet by its parts
-abbrev pub sheetWith : ℕ → Kind → ℕ → List ℕ → List PriceRow → List ℕ → SheetValue
-sheetWith form kind a sizes rows refs =
-    record { form = form; head = record { kind = kind; a = a; sizes = sizes; rows = rows }; refs = refs }
 
 -- a line for each number
 abbrev pub numbersText : List ℕ → List ℕ → List ℕ
@@ -40,6 +35,14 @@ segmentsText kind a sizes = lineText kindKey (kindWord kind) ++ (numberText aKey
 -- the line that counts the rows, and the line of each
 unfoldable pub pricedText : List PriceRow → List ℕ
 pricedText rows = numberText rowsKey (length rows) ++ rowsText rows
+
+-- the line that counts the warm segments and the line of each, which a sheet has from form 3 on
+unfoldable pub warmText : ℕ → List ℕ → List ℕ
+warmText form holds = cond (leb 3 form) (countedText warmKey holdKey holds) []
+
+-- a head in a form
+unfoldable pub headText : ℕ → HeadValue → List ℕ
+headText form h = segmentsText (h .kind) (h .a) (h .sizes) ++ (pricedText (h .rows) ++ warmText form (h .warm))
 
 -- the entries of form 2: the line that counts the steps, the line that counts the touches, and the line of each touch
 unfoldable pub stepsText : List ℕ → List ℕ

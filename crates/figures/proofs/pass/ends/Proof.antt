@@ -21,8 +21,8 @@ use Rattle.figures.proofs.pass.ends.Tie as tie
 abbrev Inv-loop : tie.InvT-loop
 Inv-loop kind a rows qs rates sizes last steps buckets₀ i₀ buckets i =
     (i ≤ length sizes) × Roomy buckets (i * 2 ^ 48)
-    × ((list : List PriceRow) → RowsOf a rows qs list → (refs : List ℕ) → length refs ≡ steps → RunWithin (runOf kind a sizes refs)
-    → last ≡ lastTable (runOf kind a sizes refs) steps → buckets ≡ endsUpTo list (runOf kind a sizes refs) i)
+    × ((list : List PriceRow) → RowsOf a rows qs list → (warm refs : List ℕ) → length refs ≡ steps → RunWithin (runOf kind a sizes warm refs)
+    → last ≡ lastTable (runOf kind a sizes warm refs) steps → buckets ≡ endsUpTo list (runOf kind a sizes warm refs) i)
 
 abbrev μ-loop : tie.MeasureT-loop
 μ-loop kind a rows qs rates sizes last steps buckets₀ i₀ buckets i = length sizes - i
@@ -33,7 +33,7 @@ entry c = c .before .before .before .before .before .before .before
 
 loop-holds : tie.Need-loop-holds Inv-loop μ-loop
 loop-holds c =
-    rw (c .empty-buckets .ensures) (omega arith, roomy-start, λ list of refs all run table. ending-start list _)
+    rw (c .empty-buckets .ensures) (omega arith, roomy-start, λ list of warm refs all run table. ending-start list _)
 
 -- the segment has a rate
 in-rates : (c : tie.In-loop Inv-loop μ-loop) → c .before .loop .i < length (entry c .args .rates .now)
@@ -67,8 +67,8 @@ loop-again c =
     let lim = touch-limited d in (
       omega (arith, here),
       roomy-end _ (i * 2 ^ 48) ((i + 1) * 2 ^ 48) (omega arith) (l .before .loop .inv .1) _ lim _ (c .add-end .ensures),
-      λ list of refs all run table.
-          ending-step list _ run (s .args .steps) all _ table _ here _ (l .before .loop .inv .2 list of refs all run table) _ lim
+      λ list of warm refs all run table.
+          ending-step list _ run (s .args .steps) all _ table _ here _ (l .before .loop .inv .2 list of warm refs all run table) _ lim
           (touch-placed _ _ _ _ (of .quoted) _ _ _ (s .args .steps) _ _ (run .a-within) (run .size-within _ here)
           (omega (arith, all, run .steps-within))
           (s .pre .0 .1 .of-segment _ here) (d .before .before .touch-of .ensures .1) (rw (of .counted) (d .bucket-of .ensures .1))
@@ -78,8 +78,8 @@ loop-again c =
 
 returns : tie.Need-returns Inv-loop μ-loop
 unfolding tallyOf
-returns c = λ list of refs all run table.
-    c .before .loop .inv .2 list of refs all run table ∙ rw (le-antisymm (c .before .loop .inv .0) (c .loop-test .left))
+returns c = λ list of warm refs all run table.
+    c .before .loop .inv .2 list of warm refs all run table ∙ rw (le-antisymm (c .before .loop .inv .0) (c .loop-test .left))
 
 pub ends-spec : {M : Type 1} → statement M
 ends-spec =

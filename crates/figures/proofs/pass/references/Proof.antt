@@ -19,10 +19,10 @@ use Rattle.figures.proofs.pass.references.Tie as tie
 abbrev Inv-loop : tie.InvT-loop
 Inv-loop kind a rows qs rates sizes steps refs buckets₀ last₀ t₀ buckets last t =
     (t ≤ length refs) × Roomy buckets (2 ^ 60 + t * 2 ^ 48)
-    × ((list : List PriceRow) → RowsOf a rows qs list → (before : List ℕ) → length before ≡ steps
-    → RunWithin (runOf kind a sizes (before ++ refs))
-    → record { buckets = buckets₀; last = last₀ } ≡ passedAfter list (runOf kind a sizes (before ++ refs)) steps
-    → record { buckets = buckets; last = last } ≡ passedAfter list (runOf kind a sizes (before ++ refs)) (steps + t))
+    × ((list : List PriceRow) → RowsOf a rows qs list → (warm before : List ℕ) → length before ≡ steps
+    → RunWithin (runOf kind a sizes warm (before ++ refs))
+    → record { buckets = buckets₀; last = last₀ } ≡ passedAfter list (runOf kind a sizes warm (before ++ refs)) steps
+    → record { buckets = buckets; last = last } ≡ passedAfter list (runOf kind a sizes warm (before ++ refs)) (steps + t))
 
 abbrev μ-loop : tie.MeasureT-loop
 μ-loop kind a rows qs rates sizes steps refs buckets₀ last₀ t₀ buckets last t = length refs - t
@@ -53,7 +53,7 @@ loop-holds c =
     let same : s .args .steps + 0 ≡ s .args .steps = omega arith in (
       omega arith,
       roomy-more _ (2 ^ 60) (2 ^ 60 + 0 * 2 ^ 48) (omega arith) (s .pre .1 .roomy),
-      λ list of before at run is. rw same is,
+      λ list of warm before at run is. rw same is,
     )
 
 cast-i : tie.Need-cast-i Inv-loop μ-loop
@@ -121,13 +121,13 @@ array-write-last : tie.Need-array-write-last Inv-loop μ-loop
 array-write-last c = in-table (turn (c .before .before))
 
 -- the entry of the turn's step, for any entries before
-here : (c : tie.In-loop Inv-loop μ-loop) (before : List ℕ) → length before ≡ start c .args .steps
-    → entry (runOf (start c .args .kind) (start c .args .a) (start c .args .sizes .now) (before ++ start c .args .refs .now))
+here : (c : tie.In-loop Inv-loop μ-loop) (warm before : List ℕ) → length before ≡ start c .args .steps
+    → entry (runOf (start c .args .kind) (start c .args .a) (start c .args .sizes .now) warm (before ++ start c .args .refs .now))
     (start c .args .steps + c .before .loop .t)
     ≡ getD (start c .args .refs .now) (c .before .loop .t) 0
-here c before at =
+here c warm before at =
     let s = start c in
-    entry-on (s .args .kind) (s .args .a) (s .args .sizes .now) before _ _ _ at (c .loop-test .taken)
+    entry-on (s .args .kind) (s .args .a) (s .args .sizes .now) warm before _ _ _ at (c .loop-test .taken)
 
 -- which is one of the run's
 within : (c : tie.In-loop Inv-loop μ-loop) (before : List ℕ) → length before ≡ start c .args .steps
@@ -146,9 +146,9 @@ loop-again c =
       omega (arith, l .loop-test .taken),
       roomy-touch _ (2 ^ 60 + t * 2 ^ 48) (2 ^ 60 + (t + 1) * 2 ^ 48) (omega arith) (l .before .loop .inv .1) _ lim _
           (c .add-touch .ensures),
-      λ list of before at run is.
+      λ list of warm before at run is.
           rw same
-          (pass-step list _ _ _ _ (l .before .loop .inv .2 list of before at run is) run (within l before at) _ (here l before at)
+          (pass-step list _ _ _ _ (l .before .loop .inv .2 list of warm before at run is) run (within l before at) _ (here l warm before at)
           (e .if1 .taken) _ lim
           (touch-placed _ _ _ _ (of .quoted) _ _ _ (s .args .steps + t) _ _ (run .a-within) (run .size-within _ (e .if1 .taken))
           (omega (arith, few l))
@@ -167,17 +167,17 @@ loop-again-2 c =
     let same : s .args .steps + (t + 1) ≡ s .args .steps + t + 1 = omega arith in (
       omega (arith, l .loop-test .taken),
       roomy-more _ (2 ^ 60 + t * 2 ^ 48) (2 ^ 60 + (t + 1) * 2 ^ 48) (omega arith) (l .before .loop .inv .1),
-      λ list of before at run is.
-          rw same (pass-idle list _ _ _ _ (l .before .loop .inv .2 list of before at run is) (rw (here l before at) (c .if1 .left))),
+      λ list of warm before at run is.
+          rw same (pass-idle list _ _ _ _ (l .before .loop .inv .2 list of warm before at run is) (rw (here l warm before at) (c .if1 .left))),
     )
 
 returns : tie.Need-returns Inv-loop μ-loop
 returns c =
     let s = c .before .before .before .before .before .before .before .before in
-    λ list of before at run is.
+    λ list of warm before at run is.
     let all : s .args .steps + c .before .loop .t ≡ length (before ++ s .args .refs .now) =
     omega (arith, length-append before (s .args .refs .now), at, c .before .loop .inv .0, c .loop-test .left) in
-    rw all at (c .before .loop .inv .2 list of before at run is)
+    rw all at (c .before .loop .inv .2 list of warm before at run is)
 
 pub references-spec : {M : Type 1} → statement M
 references-spec =

@@ -1,4 +1,4 @@
--- `pass::tally` meets its contract: the pass starts with empty buckets and no segment touched. Assumes nothing.
+-- `pass::tally` meets its contract: the pass starts with empty buckets and the table of the warm segments. Assumes nothing.
 use borrow.Author.Needs.{needs}
 use Prim.Native.Nat.{_^_}
 use mathlib.Core.List.{[]}
@@ -17,7 +17,7 @@ use Rattle.figures.proofs.pass.tally.Tie as tie
 
 -- the function's entry, from the quotients
 abbrev start : tie.After-quotients → tie.Start
-start c = c .before .before .before
+start c = c .before .before .before .before
 
 -- the quotients are those of the rows
 of-rows : (c : tie.After-quotients)
@@ -65,12 +65,13 @@ passed : (c : tie.After-references)
     (start (c .before .before .before .before .before .before) .args .kind)
     (start (c .before .before .before .before .before .before) .args .a)
     (start (c .before .before .before .before .before .before) .args .sizes .now)
+    (start (c .before .before .before .before .before .before) .args .warm .now)
     (start (c .before .before .before .before .before .before) .args .refs .now))
 passed c =
     let u = c .before in
     let q = u .before .before .before .before .before in
-    c .references .ensures _ (of-rows q) [] refl (start q .pre .2)
-    (rw (u .before .empty-buckets .ensures, u .untouched .ensures) (pass-start _ _ (λ i. refl)))
+    c .references .ensures _ (of-rows q) _ [] refl (start q .pre .2)
+    (rw (u .before .empty-buckets .ensures, u .start-table .ensures) (pass-start _ _ _ (λ i. refl)))
 
 returns : tie.Need-returns
 unfolding tallyOf passedAfter
@@ -79,7 +80,7 @@ returns c =
     let q = p .before .before .before .before .before .before in
     rw (
       ap (λ (x : Passed). x .buckets) (passed p),
-      c .ends .ensures _ (of-rows q) _ refl (start q .pre .2) (ap (λ (x : Passed). x .last) (passed p)),
+      c .ends .ensures _ (of-rows q) _ _ refl (start q .pre .2) (ap (λ (x : Passed). x .last) (passed p)),
     ) refl
 
 pub tally-spec : {M : Type 1} → statement M

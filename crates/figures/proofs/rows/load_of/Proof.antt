@@ -1,4 +1,4 @@
--- `figures::rows::load_of` meets its contract: the product is within 2 ^ 31. Assumes nothing.
+-- `figures::rows::load_of` meets its contract: the product is within 2 ^ 32. Assumes nothing.
 use Prim.Native.Nat.{_*_, _^_, _≤_}
 use native.Mathlib.Omega.{arith}
 use Rattle.model.proofs.Bounds.{product-within}
@@ -6,8 +6,8 @@ use borrow.Author.Needs.{needs}
 use Rattle.figures.proofs.rows.load_of.Statement.{statement}
 use Rattle.figures.proofs.rows.load_of.Tie as tie
 
-volumes-fit : (c : tie.Start) → c .args .a * c .args .missed ≤ 2 ^ 8 * 2 ^ 23
-volumes-fit c = product-within (c .args .a) (c .args .missed) (2 ^ 8) (2 ^ 23) (omega arith) (omega arith)
+volumes-fit : (c : tie.Start) → c .args .a * c .args .missed ≤ 2 ^ 8 * 2 ^ 24
+volumes-fit c = product-within (c .args .a) (c .args .missed) (2 ^ 8) (2 ^ 24) (omega arith) (omega arith)
 
 mul-t5 : tie.Need-mul-t5
 mul-t5 c = omega (arith, volumes-fit c)

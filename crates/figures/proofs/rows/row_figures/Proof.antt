@@ -27,7 +27,7 @@ total-requires c κs =
       arith,
       s .pre,
       c .before .before .before .before .before .before .load-of .ensures,
-      product-within (s .args .a) missed (2 ^ 8) (2 ^ 23) (omega (arith, s)) (omega (arith, s .pre)),
+      product-within (s .args .a) missed (2 ^ 8) (2 ^ 24) (omega (arith, s)) (omega (arith, s .pre)),
     )
 
 add-t21 : tie.Need-add-t21

@@ -8,8 +8,8 @@ use Rattle.numbers.proofs.recorders.recorder_of.Tie as tie
 returns : tie.Need-returns
 unfolding recorderIn
 returns c =
-    let cut = c .before .before .before .before .before in
-    let sums = cut .before .before .before .before in
+    let cut = c .before .before .before .before .before .before in
+    let sums = cut .before .before .before .before .before in
     let rows = sums .before in
     rw (rows .before .before .before .kind-of .ensures, cut .cut .ensures, rows .rows-of .ensures, sums .buckets-of .ensures) refl
 
@@ -23,6 +23,7 @@ recorder-of-spec =
     (λ c κs. search needs)
     (λ c. search needs)
     (λ c κs. search needs)
+    (λ c. search needs)
     (λ c. search needs)
     (λ c. search needs)
     (λ c. search needs)

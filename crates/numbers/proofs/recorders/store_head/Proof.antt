@@ -13,6 +13,7 @@ returns c =
     record {
       head-is = rw (c .before .before .kind-number .ensures) refl;
       sizes-are = refl;
+      holds-are = refl;
       h-are = ap (λ (p : Prices). p .h) prices;
       d-are = ap (λ (p : Prices). p .d) prices;
     }

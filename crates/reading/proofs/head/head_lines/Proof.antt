@@ -105,7 +105,7 @@ returns-3 c =
     let m = moved-within s (i + j) (t .table-lines .result .lines) (place w) (t .table-lines .ensures .1 .0) in
     let e₁ = sym (k .before .before .kind-for .ensures .0) ∙ ap (parsedKind _) (k .kind .given .1) in
     let e₂ = sym (w .before .before .number-line .ensures .0) ∙ ap (parsedNumber _) (w .n .given .1) in (
-      head-read _ s i j _ _ (t .table-lines .result .lines) (c .after .result) _ e₁ e₂ (t .table-lines .ensures .0) (c .after .ensures),
+      head-read _ _ s i j _ _ (t .table-lines .result .lines) (c .after .result) _ e₁ e₂ (t .table-lines .ensures .0) (c .after .ensures),
       (
         omega (arith, ap linesNext (c .after .ensures), m),
         t .table-lines .ensures .1 .1,

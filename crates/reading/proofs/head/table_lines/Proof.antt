@@ -1,103 +1,81 @@
--- `reading::head::table_lines` meets its contract: the sizes, and then the rows. Assumes nothing.
-use mathlib.Core.Path.{refl, sym, ap, _∙_}
+-- `reading::head::table_lines` meets its contract: the sizes and the rows, and then the warm segments of a later form. Assumes nothing.
+use mathlib.Core.Path.{sym, ap, _∙_}
 use Prim.Native.Nat.{_≤_}
 use native.Mathlib.Omega.{arith}
 use borrow.Author.Needs.{needs}
-use lib.ListN.{length, take}
-use lib.Seq.{length-take-le}
-use Rattle.lines.specs.Keys.{segsKey, sizeKey}
-use Rattle.model.specs.Sheets.{mostSegs, largestSize}
-use Rattle.model.specs.Values.{zeros, headValueOf}
-use Rattle.sheet.specs.Lines.{splitAt}
-use Rattle.sheet.specs.Order.{sizesPart, tablesPart}
+use borrow.Author.Tests.{not-true, not-false}
+use lib.ListN.{length}
+use Rattle.model.specs.Values.{headValueOf}
 use Rattle.scan.specs.AtPlace.{parsedLines, linesNext}
-use Rattle.scan.specs.declared.numbers.LinesRead.the-variants.{Done}
-use Rattle.model.proofs.Values.{zeros-length}
-use Rattle.scan.proofs.Blanks.{lent-back, lent-filled}
-use Rattle.scan.proofs.Stages.{counted-most, stage-refused, moved-within}
-use Rattle.reading.proofs.HeadRead.{table-read}
+use Rattle.scan.proofs.Stages.{moved-within}
 use Rattle.scan.proofs.Tails.{tail-place}
+use Rattle.reading.proofs.HeadRead.{sizes-counted, table-segs}
+use Rattle.reading.proofs.ReadWarm.{tables-cold, tables-refused, tables-warm}
 use Rattle.reading.proofs.head.table_lines.Statement.{statement}
 use Rattle.reading.proofs.head.table_lines.Tie as tie
 
--- there are 256 blank sizes
-blank-length : (c : tie.After-blank-sizes) → length (c .blank-sizes .result) ≤ 256
-blank-length c = omega (arith, ap length (c .blank-sizes .ensures), zeros-length mostSegs)
+-- the lines of the sizes and the rows end within the bytes
+place : (c : tie.After-lines2) → c .lines2 .given .0 .0 ≤ length (c .before .before .before .before .before .before .args .s .now)
+place c = omega (arith, c .before .before .before .before .cold-head .ensures .1 .0, ap linesNext (c .lines2 .given .1))
 
--- the lines of the sizes end within the bytes
-place : (c : tie.After-lines2) → c .lines2 .given .0 .0
-    ≤ length (c .before .before .before .before .before .before .before .before .before .args .s .now)
-place c = omega (arith, c .before .before .before .counted-lines .ensures .1 .0, ap linesNext (c .lines2 .given .1))
+returns : tie.Need-returns
+returns c =
+    let e = c .before .cold-head .ensures in
+    (tables-cold _ _ _ _ _ (not-true _ (c .if1 .taken)) (e .0), e .1)
 
-slice-aggregate-counted-lines-3 : tie.Need-slice-aggregate-counted-lines-3
-slice-aggregate-counted-lines-3 c =
-    let b = c .before .before .before .blank-sizes in
-    sym (length-take-le 256 (b .result) (omega (arith, ap length (b .ensures), zeros-length mostSegs)))
+sub-warm-head : tie.Need-sub-warm-head
+sub-warm-head c = omega (arith, place (c .before))
 
-counted-lines-requires : tie.Need-counted-lines-requires
-unfolding splitAt
-counted-lines-requires c κs = ((refl, refl), (omega (arith, slice-aggregate-counted-lines-3 c), omega arith))
+part-warm-head-start : tie.Need-part-warm-head-start
+part-warm-head-start c = omega (arith, place (c .before))
 
-sub-price-lines : tie.Need-sub-price-lines
-sub-price-lines c = omega (arith, place (c .before))
-
-part-price-lines-start : tie.Need-part-price-lines-start
-part-price-lines-start c = omega (arith, place (c .before))
+warm-head-requires : tie.Need-warm-head-requires
+warm-head-requires c κs =
+    let w = c .before .before in
+    let h = w .before .before .before .before in
+    let s = h .before .before .args .s .now in
+    let v = headValueOf (h .cold-head .result .head) in
+    let f = h .cold-head .ensures .1 .1 in
+    (table-segs _ _ _ _ s _ f (sym (h .cold-head .ensures .0) ∙ ap (λ l. parsedLines s l v) (w .lines2 .given .1)), f)
 
 after-requires : tie.Need-after-requires
 after-requires c κs =
-    let p = c .before in
-    let w = p .before .before .before in
-    let i = w .before .before .before .before .before .before .before .before .before in
-    let s = i .args .s .now in
+    let n = c .before in
+    let w = n .before .before .before in
+    let s = w .before .before .before .before .before .before .args .s .now in
     omega (
       arith,
-      i .good,
-      tail-place s (w .lines2 .given .0 .0) (linesNext (p .price-lines .result .lines)) (place w) (p .price-lines .ensures .1 .0),
-    )
-
-returns : tie.Need-returns
-unfolding tablesPart sizesPart
-returns c =
-    let w = c .before .before in
-    let n = w .before .before .before in
-    let s = n .before .before .before .before .before .before .args .s .now in
-    let nh = c .no-head in
-    let xs = take (n .counted-lines .result .count) (n .counted-lines .last .1 .1 .1 .1 .1 .1 .0) in
-    let v = headValueOf (nh .result .head) in
-    let d = counted-most segsKey sizeKey 1 1 largestSize _ mostSegs s _ (sym (slice-aggregate-counted-lines-3 (n .before)))
-    (n .counted-lines .ensures .0) in
-    let e = d ∙ ap (λ l. parsedLines s l xs) (w .lines .given .1) in (
-      stage-refused (λ q. q) _ _ _ (parsedLines s (nh .result .lines) v) (ap (λ l. parsedLines s l v) (nh .ensures .0)) e,
-      (omega (arith, ap linesNext (nh .ensures .0)), nh .ensures .1),
+      tail-place s (w .lines2 .given .0 .0) (linesNext (n .warm-head .result .lines)) (place w) (n .warm-head .ensures .1 .0),
     )
 
 returns-2 : tie.Need-returns-2
-unfolding sizesPart
 returns-2 c =
-    let p = c .before .before in
-    let w = p .before .before .before in
-    let n = w .before .before .before in
-    let b = n .before .before .before .before .blank-sizes in
-    let i = n .before .before .before .before .before .before in
-    let s = i .args .s .now in
+    let w = c .before .before in
+    let o = w .before .before .before in
+    let h = o .before in
+    let s = h .before .before .args .s .now in
+    let nh = c .no-head in
+    let e = sym (h .cold-head .ensures .0) ∙ ap (λ l. parsedLines s l (headValueOf (h .cold-head .result .head))) (w .lines .given .1) in (
+      tables-refused _ _ _ _ (not-false _ (o .if1 .left)) _ _ (ap (λ l. parsedLines s l (headValueOf (nh .result .head))) (nh .ensures .0)) e,
+      (omega (arith, ap linesNext (nh .ensures .0)), nh .ensures .1),
+    )
+
+returns-3 : tie.Need-returns-3
+returns-3 c =
+    let n = c .before .before in
+    let w = n .before .before .before in
+    let o = w .before .before .before in
+    let h = o .before in
+    let s = h .before .before .args .s .now in
     let at = w .lines2 .given .0 .0 in
-    let l = p .price-lines .result .lines in
-    let m = moved-within s at l (place w) (p .price-lines .ensures .1 .0) in
-    let segs = n .counted-lines .result .count in
-    let xs = n .counted-lines .last .1 .1 .1 .1 .1 .1 .0 in
-    let h = blank-length (n .before .before .before .before) in
-    let d = counted-most segsKey sizeKey 1 1 largestSize _ mostSegs s _ (sym (slice-aggregate-counted-lines-3 (n .before)))
-    (n .counted-lines .ensures .0) in
-    let e = d ∙ (ap (λ l. parsedLines s l (take segs xs)) (w .lines2 .given .1)
-    ∙ ap (λ ys. parsedLines s (Done at) (take segs ys)) (sym (lent-back 256 xs (b .result) h))) in (
-      table-read (i .args .kind) (i .args .a) segs _ _ _ s at l (c .after .result) e (p .price-lines .ensures .0) (c .after .ensures),
+    let head = h .cold-head .result .head in
+    let l = n .warm-head .result .lines in
+    let e = sym (h .cold-head .ensures .0) ∙ ap (λ l. parsedLines s l (headValueOf head)) (w .lines2 .given .1) in (
+      tables-warm _ _ _ s (not-false _ (o .if1 .left)) (headValueOf head) _ _ at l (c .after .result) e (sizes-counted head (h .cold-head .ensures .1 .1))
+          (n .warm-head .ensures .0) (c .after .ensures),
       (
-        omega (arith, ap linesNext (c .after .ensures), m),
-        record {
-          sizes = lent-filled 256 xs (b .result) h segs (zeros mostSegs) (b .ensures) (n .counted-lines .ensures .1 .1);
-          prices = p .price-lines .ensures .1 .1;
-        },
+        omega (arith, ap linesNext (c .after .ensures), moved-within s at l (place w) (n .warm-head .ensures .1 .0)),
+        n .warm-head .ensures .1 .1,
       ),
     )
 
@@ -106,18 +84,14 @@ table-lines-spec =
     tie.close
     (tie.spec
     (λ c κs. search needs)
-    (λ c. search needs)
-    (λ c. search needs)
-    (λ c. search needs)
-    slice-aggregate-counted-lines-3
-    counted-lines-requires
-    (λ c. search needs)
-    (λ c κs. search needs)
-    (λ c. search needs)
-    sub-price-lines
-    part-price-lines-start
-    (λ c. search needs)
-    (λ c κs. search needs)
-    after-requires
     returns
-    returns-2)
+    (λ c. search needs)
+    (λ c κs. search needs)
+    (λ c. search needs)
+    sub-warm-head
+    part-warm-head-start
+    (λ c. search needs)
+    warm-head-requires
+    after-requires
+    returns-2
+    returns-3)

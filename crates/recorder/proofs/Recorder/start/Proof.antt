@@ -6,7 +6,7 @@ use Rattle.recorder.proofs.Recorder.start.Statement.{statement}
 use Rattle.recorder.proofs.Recorder.start.Tie as tie
 
 returns : tie.Need-returns
-returns c = λ v valid e. c .begin .ensures ∙ start-stands v (c .before .before .args .sheet) e
+returns c = λ v valid e. c .begin .ensures ∙ start-stands v valid (c .before .before .args .sheet) e
 
 pub start-spec : {M : Type 1} → statement M
 start-spec = tie.close (tie.spec (λ c κs. search needs) returns)

@@ -7,20 +7,20 @@ use denote.Ref.{now}
 use borrow.Author.Needs.{needs}
 use Rattle.model.specs.Traces.{Trace}
 use Rattle.model.specs.Sheets.{runOf}
-use Rattle.model.proofs.LastTouches.{lastTable-start}
+use Rattle.model.proofs.LastTouches.{startTable-is}
 use Rattle.schedule.proofs.Marks.{Marked, marked-start, marked-step, marked-idle}
 use Rattle.schedule.proofs.writing.kept_marks.Statement.{statement}
 use Rattle.schedule.proofs.writing.kept_marks.Tie as tie
 
 abbrev Inv-loop : tie.InvT-loop
-Inv-loop kind a row sizes refs marks₀ last₀ t₀ marks last t = Marked (runOf kind a sizes refs) row marks last t
+Inv-loop kind a row sizes warm refs marks₀ last₀ t₀ marks last t = Marked (runOf kind a sizes warm refs) row marks last t
 
 abbrev μ-loop : tie.MeasureT-loop
-μ-loop kind a row sizes refs marks₀ last₀ t₀ marks last t = length refs - t
+μ-loop kind a row sizes warm refs marks₀ last₀ t₀ marks last t = length refs - t
 
 -- where the function begins
 abbrev Entry : tie.In-loop Inv-loop μ-loop → tie.Start Inv-loop μ-loop
-Entry c = c .before .before .before .before .before .before
+Entry c = c .before .before .before .before .before .before .before
 
 -- the reference of a turn is a segment
 is-segment : (c : tie.Then1 Inv-loop μ-loop)
@@ -30,17 +30,17 @@ is-segment c = c .if1 .taken
 
 -- the run that the function is called with
 abbrev Run : tie.Start Inv-loop μ-loop → Trace
-Run s = runOf (s .args .kind) (s .args .a) (now (s .args .sizes)) (now (s .args .refs))
+Run s = runOf (s .args .kind) (s .args .a) (now (s .args .sizes)) (now (s .args .warm)) (now (s .args .refs))
 
 loop-holds : tie.Need-loop-holds Inv-loop μ-loop
 loop-holds c =
-    let s = c .before .before .before .before in
+    let s = c .before .before .before .before .before in
     rw (c .before .no-marks .ensures)
-    (marked-start (Run s) (s .args .row) (s .pre .segs-within) (s .pre .steps-within) (c .untouched .result)
-    (c .untouched .ensures ∙ sym (lastTable-start (Run s) (λ i. refl))))
+    (marked-start (Run s) (s .args .row) (s .pre .segs-within) (s .pre .steps-within) (c .start-table .result)
+    (c .start-table .ensures ∙ startTable-is (Run s) (now (s .args .warm)) (λ i. refl)))
 
 cast-i : tie.Need-cast-i Inv-loop μ-loop
-cast-i c = omega (arith, c .shared-slice-known3 .given (c .before .before .loop .t))
+cast-i c = omega (arith, c .shared-slice-known4 .given (c .before .before .loop .t))
 
 mul-touch-kept : tie.Need-mul-touch-kept Inv-loop μ-loop
 mul-touch-kept c = omega (arith, is-segment c, Entry (c .before .before) .pre)

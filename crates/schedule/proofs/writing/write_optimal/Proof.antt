@@ -13,19 +13,20 @@ use Rattle.schedule.proofs.writing.write_optimal.Statement.{statement}
 use Rattle.schedule.proofs.writing.write_optimal.Tie as tie
 
 slice-aggregate-write-decided : tie.Need-slice-aggregate-write-decided
-slice-aggregate-write-decided c = sym (length-take-le _ _ (omega (arith, c .before .before .before .before .before .pre .0 .steps-within)))
+slice-aggregate-write-decided c =
+    sym (length-take-le _ _ (omega (arith, c .before .before .before .before .before .before .pre .0 .steps-within)))
 
 write-decided-requires : tie.Need-write-decided-requires
 write-decided-requires c κs =
-    let s = c .before .before .before .before .before .before in
+    let s = c .before .before .before .before .before .before .before in
     (s .pre .0 .segs-within, length-take-le _ _ (omega (arith, s .pre .0 .steps-within)), s .pre .1)
 
 returns : tie.Need-returns
 returns c =
     let decided = c .before .before .before .before .before in
-    let s = decided .before .before .before .before in
+    let s = decided .before .before .before .before .before in
     let a = s .args in
-    let run = runOf (a .kind) (a .a) (now (a .sizes)) (now (a .refs)) in
+    let run = runOf (a .kind) (a .a) (now (a .sizes)) (now (a .warm)) (now (a .refs)) in
     c .before .before .write-decided .ensures run refl refl
     ∙ ap (λ p. p ++ drop (32 * length (now (a .refs))) (now (a .out)))
     (marks-optimal run (a .row) (decided .kept-marks .result) (decided .kept-marks .ensures))
