@@ -1,0 +1,155 @@
+-- The joint sheet as it is held: the parts that were worked out are those of the definition. Assumes nothing.
+use Prim.Native.Nat.{ℕ, _+_, _≤_, max}
+use mathlib.Core.Path.{_≡_, refl, sym, ap, _∙_}
+use mathlib.Core.Logic.{inl, inr, ⊎-elim}
+use mathlib.Core.List.{List, [], _∷_, _++_}
+use native.Mathlib.Omega.{arith}
+use native.Mathlib.Nat.{zero-add}
+use borrow.Author.Tests.{leb-true}
+use lib.ListN.{length, getD, take, length-append}
+use lib.Seq.{length-take-le}
+use Rattle.model.specs.Sheets.{idle, mostSegs, mostRows, mostSteps}
+use Rattle.model.specs.Standing.{Standing}
+use Rattle.model.specs.Values.{zeros, zeroRows, idles, padded, headOf, headValueOf, sheetOf, valueOf}
+use Rattle.model.specs.declared.Kind.{Kind}
+use Rattle.model.specs.declared.PriceRow.{PriceRow}
+use Rattle.model.specs.declared.Head.{Head}
+use Rattle.model.specs.declared.Sheet.{Sheet}
+use Rattle.model.proofs.Standing.{segs-counted, warm-counted, steps-counted}
+use Rattle.model.proofs.Warm.{warm-few}
+use Rattle.joining.specs.Joint.{jointSteps, jointRefs, jointHead, joined, Joins}
+use Rattle.joining.specs.inner.Parts.{moved, movedAfter, Movable, HeadsFit, IsEntry, entriesOf}
+use Rattle.joining.proofs.Entries.{entry-within, joint-length}
+use Rattle.joining.proofs.Lists.{numbers-length}
+
+-- numbers moved by 0
+moved-none : (ys : List ℕ) → moved 0 ys ≡ ys
+moved-none [] = refl
+moved-none (y ∷ ys) = rw (zero-add y, moved-none ys)
+
+-- heads by their parts
+module _ (kind : Kind) (a segs segs' rows rows' warm warm' : ℕ) (sizes sizes' holds holds' : List ℕ) (prices prices' : List PriceRow) where
+  head-parts : segs ≡ segs' → rows ≡ rows' → warm ≡ warm' → sizes ≡ sizes' → holds ≡ holds' → prices ≡ prices'
+      → _≡_ {A = Head}
+      (record { kind = kind; a = a; segs = segs; sizes = sizes; rows = rows; prices = prices; warm = warm; holds = holds })
+      (record { kind = kind; a = a; segs = segs'; sizes = sizes'; rows = rows'; prices = prices'; warm = warm'; holds = holds' })
+  head-parts e f g h i j = rw (e, f, g, h, i, j)
+
+module _ (p q : Head) (segs-in : p .segs ≤ length (p .sizes)) (more-segs-in : q .segs ≤ length (q .sizes)) (warm-in : p .warm ≤ length (p .holds))
+    (more-warm-in : q .warm ≤ length (q .holds)) (rows-in : p .rows ≤ length (p .prices)) where
+  -- the head of the joint sheet, by the sizes, warm segments and rows that were put together
+  pub joint-held : (sizes holds : List ℕ) (prices : List PriceRow)
+      → sizes ≡ padded (movedAfter (take (p .segs) (p .sizes)) 0 (take (q .segs) (q .sizes))) (zeros mostSegs)
+      → holds ≡ padded (movedAfter (take (p .warm) (p .holds)) (p .segs) (take (q .warm) (q .holds))) (zeros mostSegs)
+      → prices ≡ padded (take (p .rows) (p .prices)) (zeroRows mostRows)
+      → _≡_ {A = Head}
+      (record {
+        kind = p .kind;
+        a = p .a;
+        segs = p .segs + q .segs;
+        sizes = sizes;
+        rows = p .rows;
+        prices = prices;
+        warm = p .warm + q .warm;
+        holds = holds;
+      })
+      (headOf (jointHead (headValueOf p) (headValueOf q)))
+  unfolding headOf jointHead headValueOf
+  joint-held sizes holds prices e f g =
+      let n = length-take-le (p .segs) (p .sizes) segs-in in
+      let m = length-take-le (q .segs) (q .sizes) more-segs-in in
+      let k = length-take-le (p .warm) (p .holds) warm-in in
+      let l = length-take-le (q .warm) (q .holds) more-warm-in in
+      head-parts (p .kind) (p .a) _ _ _ _ _ _ _ _ _ _ _ _
+      (omega (arith, length-append (take (p .segs) (p .sizes)) (take (q .segs) (q .sizes)), n, m))
+      (sym (length-take-le (p .rows) (p .prices) rows-in))
+      (omega (arith, numbers-length (take (p .warm) (p .holds)) (length (take (p .segs) (p .sizes))) (take (q .warm) (q .holds)), k, l))
+      (e ∙ ap (λ ys. padded (take (p .segs) (p .sizes) ++ ys) (zeros mostSegs)) (moved-none (take (q .segs) (q .sizes))))
+      (f ∙ ap (λ k. padded (movedAfter (take (p .warm) (p .holds)) k (take (q .warm) (q .holds))) (zeros mostSegs)) (sym n))
+      g
+
+module _ (first second : Sheet) (p : Standing first) (q : Standing second) where
+  -- the steps of the joint sheet, by the counts
+  pub steps-joint : jointSteps (valueOf first) (valueOf second) ≡ max (first .steps) (second .steps)
+  steps-joint = rw (steps-counted first p, steps-counted second q)
+
+  -- the entries of the joint sheet, by the counts
+  entries-joint : (steps : ℕ) → steps ≡ max (first .steps) (second .steps)
+      → entriesOf (first .head .segs) (take (first .steps) (first .touches)) (take (second .steps) (second .touches)) steps
+      ≡ jointRefs (valueOf first) (valueOf second)
+  unfolding jointRefs valueOf
+  entries-joint steps e =
+      ap (λ n. entriesOf n (valueOf first .refs) (valueOf second .refs) steps) (sym (segs-counted first p))
+      ∙ ap (λ k. entriesOf (length (valueOf first .head .sizes)) (valueOf first .refs) (valueOf second .refs) k) (e ∙ sym steps-joint)
+
+  -- the sheet by its head, steps and entries
+  pub sheet-held : (head : Head) (steps : ℕ) (touches : List ℕ)
+      → head ≡ headOf (jointHead (headValueOf (first .head)) (headValueOf (second .head))) → steps ≡ max (first .steps) (second .steps)
+      → touches ≡ padded (entriesOf (first .head .segs) (take (first .steps) (first .touches)) (take (second .steps) (second .touches)) steps) (idles mostSteps)
+      → _≡_ {A = Sheet} (record { form = 3; head = head; steps = steps; touches = touches }) (sheetOf (joined (valueOf first) (valueOf second)))
+  unfolding sheetOf joined valueOf
+  sheet-held head steps touches e f g =
+      sheet-parts head _ steps _ touches _ e (f ∙ sym steps-joint ∙ sym (joint-length (valueOf first) (valueOf second)))
+      (g ∙ ap (λ refs. padded refs (idles mostSteps)) (entries-joint steps f))
+    where
+      sheet-parts : (head head' : Head) (steps steps' : ℕ) (touches touches' : List ℕ) → head ≡ head' → steps ≡ steps' → touches ≡ touches'
+          → _≡_ {A = Sheet}
+          (record { form = 3; head = head; steps = steps; touches = touches })
+          (record { form = 3; head = head'; steps = steps'; touches = touches' })
+      sheet-parts head head' steps steps' touches touches' e f g = rw (e, f, g)
+
+  -- the second's entries are below 256 or idle
+  pub entries-within : (t : ℕ) → IsEntry (getD (take (second .steps) (second .touches)) t idle)
+  unfolding valueOf
+  entries-within t =
+      ⊎-elim (λ lt. inl (omega (arith, q .valid .run .segs-within))) (λ e. inr e) (entry-within (valueOf second) (q .valid) t)
+
+  -- where the two join, their heads fit
+  module _ (joins : Joins (valueOf first) (valueOf second)) where
+    segs-few : first .head .segs + second .head .segs ≤ mostSegs
+    segs-few =
+        omega (
+          arith,
+          leb-true (length (valueOf first .head .sizes) + length (valueOf second .head .sizes)) mostSegs (joins .few),
+          segs-counted first p,
+          segs-counted second q,
+        )
+
+    warm-fits : first .head .warm + second .head .warm ≤ mostSegs
+    warm-fits =
+        omega (
+          arith,
+          segs-few,
+          segs-counted first p,
+          segs-counted second q,
+          warm-counted first p,
+          warm-counted second q,
+          warm-few (length (valueOf first .head .sizes)) (valueOf first .head .warm) (p .valid .warm),
+          warm-few (length (valueOf second .head .sizes)) (valueOf second .head .warm) (q .valid .warm),
+        )
+
+    sizes-movable : Movable (valueOf first .head .sizes) 0 (valueOf second .head .sizes)
+    sizes-movable =
+        record {
+          few = omega (arith, segs-few, segs-counted first p, segs-counted second q);
+          fits = λ k lt. omega (arith, q .valid .run .size-within k lt);
+        }
+
+    holds-movable : Movable (valueOf first .head .warm) (first .head .segs) (valueOf second .head .warm)
+    holds-movable =
+        record {
+          few = omega (arith, warm-fits, warm-counted first p, warm-counted second q);
+          fits = λ k lt. omega (arith, q .valid .warm .below k lt, segs-few, segs-counted second q);
+        }
+
+    pub heads-fit : HeadsFit (first .head) (second .head)
+    unfolding valueOf headValueOf
+    heads-fit =
+        record {
+          rows = p .rows-within;
+          prices = p .prices-whole;
+          segs = segs-few;
+          warm = warm-fits;
+          sizes = sizes-movable;
+          holds = holds-movable;
+        }

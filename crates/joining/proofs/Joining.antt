@@ -1,0 +1,101 @@
+-- What joining comes to: an accepted joint sheet is that of two sheets that join, and it is valid; each refusal by what was told of the two
+-- sheets by value. Assumes nothing.
+use Prim.Native.Nat.{ℕ, _+_, _≤_, _<_, max}
+use mathlib.Core.Path.{_≡_, refl, sym, ap, subst, _∙_}
+use mathlib.Core.Bool.{Bool, true, false, cond}
+use native.Mathlib.Omega.{arith}
+use borrow.Author.Tests.{le-leb, lt-leb}
+use lib.Dec.{leb}
+use lib.ListN.{length, take}
+use Rattle.model.specs.Sheets.{SheetValue, Valid, mostSegs}
+use Rattle.model.specs.Standing.{Standing}
+use Rattle.model.specs.Values.{headValueOf, valueOf}
+use Rattle.model.specs.declared.Refusal.the-variants.{HeadsDiffer, BothTouch, TooManySegments}
+use Rattle.model.specs.declared.Sheet.{Sheet}
+use Rattle.model.proofs.Standing.{segs-counted}
+use Rattle.sheet.specs.Reading.{accepted, rejected}
+use Rattle.joining.specs.Joining.{joinCounted, joinApart, joinOf}
+use Rattle.joining.specs.Joint.{sameHeads, bothTouch, jointSteps, joined, Joins}
+use Rattle.joining.proofs.Held.{steps-joint}
+use Rattle.joining.proofs.Joined.{joined-valid}
+
+module _ (v w : SheetValue) where
+  -- 20, 21, 22, or the joint sheet
+  join-differs : sameHeads (v .head) (w .head) ≡ false → joinOf v w ≡ rejected HeadsDiffer
+  unfolding joinOf
+  join-differs e = rw e
+
+  join-both : sameHeads (v .head) (w .head) ≡ true → bothTouch (v .refs) (w .refs) (jointSteps v w) ≡ true → joinOf v w ≡ rejected BothTouch
+  unfolding joinOf
+  join-both e f = rw (e, f)
+
+  join-many : sameHeads (v .head) (w .head) ≡ true → bothTouch (v .refs) (w .refs) (jointSteps v w) ≡ false
+      → leb (length (v .head .sizes) + length (w .head .sizes)) mostSegs ≡ false → joinOf v w ≡ rejected TooManySegments
+  unfolding joinOf
+  join-many e f g = rw (e, f, g)
+
+  pub join-joined : Joins v w → joinOf v w ≡ accepted (joined v w)
+  unfolding joinOf
+  join-joined joins = rw (joins .same, joins .apart, joins .few)
+
+  -- an accepted sheet is the joint sheet of two sheets that join
+  pub join-accepted : (u : SheetValue) → joinOf v w ≡ accepted u → Joins v w × (joined v w ≡ u)
+  unfolding joinOf
+  join-accepted u = heads (sameHeads (v .head) (w .head)) refl
+    where
+      segments : (b : Bool) → leb (length (v .head .sizes) + length (w .head .sizes)) mostSegs ≡ b → sameHeads (v .head) (w .head) ≡ true
+          → bothTouch (v .refs) (w .refs) (jointSteps v w) ≡ false
+          → cond b (accepted (joined v w)) (rejected TooManySegments) ≡ accepted u → Joins v w × (joined v w ≡ u)
+      segments true few same apart is = (record { same = same; apart = apart; few = few }, cc)
+      segments false few same apart is = absurd (let z : _≡_ {A = ℕ} 0 1 = cc in omega arith)
+
+      steps : (b : Bool) → bothTouch (v .refs) (w .refs) (jointSteps v w) ≡ b → sameHeads (v .head) (w .head) ≡ true
+          → cond b (rejected BothTouch) (joinCounted v w) ≡ accepted u → Joins v w × (joined v w ≡ u)
+      steps true apart same is = absurd (let z : _≡_ {A = ℕ} 0 1 = cc in omega arith)
+      steps false apart same is = segments (leb (length (v .head .sizes) + length (w .head .sizes)) mostSegs) refl same apart is
+
+      heads : (b : Bool) → sameHeads (v .head) (w .head) ≡ b → cond b (joinApart v w) (rejected HeadsDiffer) ≡ accepted u
+          → Joins v w × (joined v w ≡ u)
+      heads true same is = steps (bothTouch (v .refs) (w .refs) (jointSteps v w)) refl same is
+      heads false same is = absurd (let z : _≡_ {A = ℕ} 0 1 = cc in omega arith)
+
+  -- and it is valid
+  pub accepted-valid : Valid v → Valid w → (u : SheetValue) → joinOf v w ≡ accepted u → Valid u
+  accepted-valid first second u e = let found = join-accepted u e in subst Valid (found .1) (joined-valid v w first second (found .0))
+
+-- by what was told of the heads, b, and of the touches, t
+module _ (first second : Sheet) (p : Standing first) (q : Standing second) (b : Bool)
+    (told : b ≡ sameHeads (headValueOf (first .head)) (headValueOf (second .head))) where
+  heads-told : sameHeads (valueOf first .head) (valueOf second .head) ≡ b
+  unfolding valueOf
+  heads-told = sym told
+
+  pub told-differs : b ≡ false → joinOf (valueOf first) (valueOf second) ≡ rejected HeadsDiffer
+  told-differs e = join-differs (valueOf first) (valueOf second) (heads-told ∙ e)
+
+  module _ (same : b ≡ true) (n : ℕ) (steps : n ≡ max (first .steps) (second .steps)) (t : Bool)
+      (touches : t ≡ bothTouch (take (first .steps) (first .touches)) (take (second .steps) (second .touches)) n) where
+    touches-told : bothTouch (valueOf first .refs) (valueOf second .refs) (jointSteps (valueOf first) (valueOf second)) ≡ t
+    unfolding valueOf
+    touches-told =
+        ap (bothTouch (valueOf first .refs) (valueOf second .refs)) (steps-joint first second p q ∙ sym steps) ∙ sym touches
+
+    pub told-both : t ≡ true → joinOf (valueOf first) (valueOf second) ≡ rejected BothTouch
+    told-both e = join-both (valueOf first) (valueOf second) (heads-told ∙ same) (touches-told ∙ e)
+
+    pub told-many : t ≡ false → mostSegs < first .head .segs + second .head .segs
+        → joinOf (valueOf first) (valueOf second) ≡ rejected TooManySegments
+    told-many e many =
+        join-many (valueOf first) (valueOf second) (heads-told ∙ same) (touches-told ∙ e)
+        (lt-leb (length (valueOf first .head .sizes) + length (valueOf second .head .sizes)) mostSegs
+        (omega (arith, segs-counted first p, segs-counted second q)))
+
+    pub told-joins : t ≡ false → first .head .segs + second .head .segs ≤ mostSegs → Joins (valueOf first) (valueOf second)
+    told-joins e few =
+        record {
+          same = heads-told ∙ same;
+          apart = touches-told ∙ e;
+          few =
+              le-leb (length (valueOf first .head .sizes) + length (valueOf second .head .sizes)) mostSegs
+              (omega (arith, segs-counted first p, segs-counted second q));
+        }

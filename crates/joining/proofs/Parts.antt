@@ -1,0 +1,123 @@
+-- What the parts of joining rest on: rows compared one by one, steps in which both touch, numbers one after the other. Assumes nothing.
+use Prim.Native.Nat.{ℕ, zero, suc, _+_, _≤_, _<_}
+use mathlib.Core.Path.{_≡_, refl, sym, ap, _∙_}
+use mathlib.Core.Logic.{⊎-elim}
+use mathlib.Core.Bool.{Bool, true, false, _&&_, _||_, or-true}
+use mathlib.Core.List.{List, [], _∷_}
+use native.Mathlib.Omega.{arith}
+use native.Mathlib.Numerals.{add-one}
+use borrow.Author.Tests.{eq-eqb, ne-eqb}
+use lib.ListN.{length, getD, take, drop, drop-of-length-le}
+use lib.Seq.{length-take-le, getD-take, drop-cons}
+use Rattle.model.specs.Sheets.{idle}
+use Rattle.model.specs.Values.{headValueOf}
+use Rattle.model.specs.declared.Head.{Head}
+use Rattle.model.specs.declared.PriceRow.{PriceRow}
+use Rattle.model.proofs.Sums.{last-or-below}
+use Rattle.model.proofs.Tables.{length-tabulate, getD-tabulate}
+use Rattle.joining.specs.Joint.{sameKind, sameRows, sameHeads, bothTouch, jointEntry}
+use Rattle.joining.specs.inner.Parts.{sameRow, bothAt, entriesOf}
+
+-- ---- rows
+
+-- rows of which there are not as many differ
+pub rows-unlike : (ps qs : List PriceRow) → (length ps ≡ length qs → ⊥) → sameRows ps qs ≡ false
+unfolding sameRows
+rows-unlike [] [] other = absurd (other refl)
+rows-unlike [] (q ∷ qs) other = refl
+rows-unlike (p ∷ ps) [] other = refl
+rows-unlike (p ∷ ps) (q ∷ qs) other =
+    rw (rows-unlike ps qs (λ same. other (ap suc same))) (and-none (sameRow p q))
+  where
+    and-none : (b : Bool) → b && false ≡ false
+    and-none true = refl
+    and-none false = refl
+
+-- of the first m and the first n rows, those from row r on: they begin with row r, of which b tells whether it is alike
+module _ (ps qs : List PriceRow) (m n r : ℕ) (d : PriceRow) (first : m ≤ length ps) (second : n ≤ length qs) (lm : r < m) (ln : r < n)
+    (b : Bool) (told : b ≡ sameRow (getD ps r d) (getD qs r d)) where
+  rows-from : sameRows (drop r (take m ps)) (drop r (take n qs)) ≡ b && sameRows (drop (r + 1) (take m ps)) (drop (r + 1) (take n qs))
+  unfolding sameRows
+  rows-from =
+      rw (
+        told,
+        add-one r,
+        drop-cons (take m ps) r d (omega (arith, length-take-le m ps first)),
+        drop-cons (take n qs) r d (omega (arith, length-take-le n qs second)),
+        getD-take m ps r d lm,
+        getD-take n qs r d ln,
+      )
+
+  -- so they are alike where row r is and those after it are, and not where row r is not
+  pub rows-next : b ≡ true → sameRows (drop r (take m ps)) (drop r (take n qs)) ≡ sameRows (drop (r + 1) (take m ps)) (drop (r + 1) (take n qs))
+  rows-next e = rows-from ∙ ap (λ c. c && sameRows (drop (r + 1) (take m ps)) (drop (r + 1) (take n qs))) e
+
+  pub rows-off : b ≡ false → sameRows (drop r (take m ps)) (drop r (take n qs)) ≡ false
+  rows-off e = rows-from ∙ ap (λ c. c && sameRows (drop (r + 1) (take m ps)) (drop (r + 1) (take n qs))) e
+
+-- none are left
+pub rows-end : (ps qs : List PriceRow) (r : ℕ) → length ps ≤ r → length qs ≤ r → sameRows (drop r ps) (drop r qs) ≡ true
+unfolding sameRows
+rows-end ps qs r first second = rw (drop-of-length-le ps first, drop-of-length-le qs second)
+
+-- ---- touches
+
+module _ (xs ys : List ℕ) where
+  pub both-none : bothTouch xs ys 0 ≡ false
+  unfolding bothTouch
+  both-none = refl
+
+  -- one step more
+  both-next : (t : ℕ) → bothTouch xs ys t ≡ false → bothAt (getD xs t idle) (getD ys t idle) ≡ false → bothTouch xs ys (t + 1) ≡ false
+  unfolding bothTouch
+  both-next t e f = rw (add-one t, e, f)
+
+  -- a step in which both touch
+  both-found : (t n : ℕ) → t < n → bothAt (getD xs t idle) (getD ys t idle) ≡ true → bothTouch xs ys n ≡ true
+  unfolding bothTouch
+  both-found t zero lt e = absurd (omega arith)
+  both-found t (suc n) lt e = ⊎-elim (λ same. here (rw same at e)) (λ l. rw (both-found t n l e)) (last-or-below n t lt)
+    where
+      here : bothAt (getD xs n idle) (getD ys n idle) ≡ true → bothTouch xs ys n || bothAt (getD xs n idle) (getD ys n idle) ≡ true
+      here f = rw f (or-true (bothTouch xs ys n))
+
+  -- the same, by the entries x and y and what was told of them
+  pub both-step : (t : ℕ) → bothTouch xs ys t ≡ false → (x y : ℕ) (b : Bool) → x ≡ getD xs t idle → y ≡ getD ys t idle → b ≡ bothAt x y
+      → b ≡ false → bothTouch xs ys (t + 1) ≡ false
+  both-step t none-before x y b first second told off = both-next t none-before (rw (← first, ← second, ← told) off)
+
+  pub both-stop : (t n : ℕ) → t < n → (x y : ℕ) (b : Bool) → x ≡ getD xs t idle → y ≡ getD ys t idle → b ≡ bothAt x y → b ≡ true
+      → true ≡ bothTouch xs ys n
+  both-stop t n lt x y b first second told on = sym (both-found t n lt (rw (← first, ← second, ← told) on))
+
+-- ---- the entries of the joint sheet
+
+module _ (n : ℕ) (xs ys : List ℕ) (steps : ℕ) where
+  pub entries-length : length (entriesOf n xs ys steps) ≡ steps
+  entries-length = length-tabulate steps (λ t. jointEntry n (getD xs t idle) (getD ys t idle))
+
+  -- the entry e that the entries x and y of a step make
+  pub entries-at : (t : ℕ) → t < steps → (x y e : ℕ) → x ≡ getD xs t idle → y ≡ getD ys t idle → e ≡ jointEntry n x y
+      → e ≡ getD (entriesOf n xs ys steps) t 0
+  entries-at t lt x y e first second is =
+      is
+      ∙ ap (λ k. jointEntry n k y) first
+      ∙ ap (λ k. jointEntry n (getD xs t idle) k) second
+      ∙ sym (getD-tabulate steps (λ s. jointEntry n (getD xs s idle) (getD ys s idle)) t 0 lt)
+
+-- ---- heads
+
+-- two heads, of which b tells whether the kinds are the same: they differ where the kinds or a differ, else as their rows do
+module _ (p q : Head) (b : Bool) (told : b ≡ sameKind (p .kind) (q .kind)) where
+  pub heads-kind : b ≡ false → false ≡ sameHeads (headValueOf p) (headValueOf q)
+  unfolding sameHeads headValueOf
+  heads-kind e = rw (← told, e)
+
+  pub heads-a : b ≡ true → (p .a ≡ q .a → ⊥) → false ≡ sameHeads (headValueOf p) (headValueOf q)
+  unfolding sameHeads headValueOf
+  heads-a e other = rw (← told, e, ne-eqb (p .a) (q .a) other)
+
+  pub heads-rows : b ≡ true → p .a ≡ q .a → (r : Bool) → r ≡ sameRows (take (p .rows) (p .prices)) (take (q .rows) (q .prices))
+      → r ≡ sameHeads (headValueOf p) (headValueOf q)
+  unfolding sameHeads headValueOf
+  heads-rows e same r is = rw (← told, e, eq-eqb (p .a) (q .a) same) is

@@ -1,0 +1,121 @@
+-- `join` meets its contract: the three checks in order, and the joint sheet. Assumes nothing.
+use mathlib.Core.Path.{sym, ap, _∙_}
+use native.Mathlib.Omega.{arith}
+use borrow.Author.Tests.{not-true, not-false}
+use lib.Seq.{length-take-le}
+use Rattle.model.specs.Values.{valueOf}
+use Rattle.model.specs.declared.Sheet.{Sheet}
+use Rattle.model.specs.declared.Verdict.the-variants.{Accepted}
+use Rattle.sheet.specs.Answers.{answerOf}
+use Rattle.sheet.specs.declared.SheetAnswer.{SheetAnswer}
+use Rattle.joining.proofs.Joining.{join-joined, told-differs, told-both, told-many, told-joins}
+use Rattle.joining.proofs.join.Statement.{statement}
+use Rattle.joining.proofs.join.Tie as tie
+
+returns : tie.Need-returns
+returns c =
+    let h = c .before .before in
+    let s = h .before .before .before in
+    c .refused .ensures
+    ∙ ap answerOf
+    (sym
+    (told-differs (s .args .first) (s .args .second) (s .pre .0) (s .pre .1) _ (h .same-heads .ensures) (not-true _ (c .before .if1 .taken))))
+
+same-heads-requires : tie.Need-same-heads-requires
+same-heads-requires c κs = let s = c .before .before in (s .pre .0 .rows-within, s .pre .1 .rows-within)
+
+array-share-prefix-xs : tie.Need-array-share-prefix-xs
+array-share-prefix-xs c =
+    let s = c .before .before .before .before .before .before in
+    omega (arith, s .pre .0 .steps-within, s .pre .0 .touches-whole)
+
+slice-aggregate-both-touch : tie.Need-slice-aggregate-both-touch
+slice-aggregate-both-touch c =
+    let s = c .before .before .before .before .before .before .before in
+    sym (length-take-le _ _ (omega (arith, s .pre .0 .steps-within, s .pre .0 .touches-whole)))
+
+array-share-prefix-ys : tie.Need-array-share-prefix-ys
+array-share-prefix-ys c =
+    let s = c .before .before .before .before .before .before .before in
+    omega (arith, s .pre .1 .steps-within, s .pre .1 .touches-whole)
+
+slice-aggregate-both-touch-2 : tie.Need-slice-aggregate-both-touch-2
+slice-aggregate-both-touch-2 c =
+    let s = c .before .before .before .before .before .before .before .before in
+    sym (length-take-le _ _ (omega (arith, s .pre .1 .steps-within, s .pre .1 .touches-whole)))
+
+returns-2 : tie.Need-returns-2
+returns-2 c =
+    let b = c .before .before in
+    let l = b .before in
+    let e = l .before .before .before .before .before in
+    let h = e .before in
+    let s = h .before .before .before in
+    c .refused2 .ensures
+    ∙ ap answerOf
+    (sym
+    (told-both (s .args .first) (s .args .second) (s .pre .0) (s .pre .1) _ (h .same-heads .ensures) (not-false _ (e .if1 .left)) _
+    (l .larger .ensures) _ (b .both-touch .ensures) (c .before .if2 .taken)))
+
+add-if3 : tie.Need-add-if3
+add-if3 c =
+    let b = c .before .before .before in
+    let s = b .before .before .before .before .before .before .before .before .before .before in
+    omega (arith, s .pre .0 .segs-within, s .pre .1 .segs-within)
+
+returns-3 : tie.Need-returns-3
+returns-3 c =
+    let o = c .before .before .before .before in
+    let b = o .before in
+    let l = b .before in
+    let e = l .before .before .before .before .before in
+    let h = e .before in
+    let s = h .before .before .before in
+    c .refused3 .ensures
+    ∙ ap answerOf
+    (sym
+    (told-many (s .args .first) (s .args .second) (s .pre .0) (s .pre .1) _ (h .same-heads .ensures) (not-false _ (e .if1 .left)) _
+    (l .larger .ensures) _ (b .both-touch .ensures) (o .if2 .left) (c .before .if3 .taken)))
+
+joint-sheet-requires : tie.Need-joint-sheet-requires
+joint-sheet-requires c κs =
+    let o = c .before .before .before in
+    let b = o .before in
+    let l = b .before in
+    let e = l .before .before .before .before .before in
+    let h = e .before in
+    let s = h .before .before .before in (
+      s .pre .0,
+      s .pre .1,
+      told-joins (s .args .first) (s .args .second) (s .pre .0) (s .pre .1) _ (h .same-heads .ensures) (not-false _ (e .if1 .left)) _
+          (l .larger .ensures) _ (b .both-touch .ensures) (o .if2 .left) (c .if3 .left),
+    )
+
+returns-4 : tie.Need-returns-4
+unfolding answerOf
+returns-4 c =
+    let e = c .before .before .before .before .before .before .before .before .before .before .before in
+    let s = e .before .before .before .before in
+    ap {B = SheetAnswer} (λ (x : Sheet). record { verdict = Accepted; sheet = x }) (c .joint-sheet .ensures)
+    ∙ ap answerOf (sym (join-joined (valueOf (s .args .first)) (valueOf (s .args .second)) (joint-sheet-requires (c .before) tt .2)))
+
+pub join-spec : {M : Type 1} → statement M
+join-spec =
+    tie.close
+    (tie.spec
+    same-heads-requires
+    (λ c κs. tt)
+    returns
+    array-share-prefix-xs
+    slice-aggregate-both-touch
+    array-share-prefix-ys
+    slice-aggregate-both-touch-2
+    (λ c κs. tt)
+    (λ c κs. tt)
+    (λ c κs. tt)
+    returns-2
+    add-if3
+    (λ c κs. tt)
+    returns-3
+    joint-sheet-requires
+    returns-4)

@@ -1,0 +1,307 @@
+// Two sheets as one on the same clock, for two aligners in one memory.
+// What the joint sheet is, and which sheets do not join, is written in specs/; nothing is assumed.
+use model::Head;
+use model::Kind;
+use model::PriceRow;
+use model::Refusal;
+use model::Sheet;
+use model::Verdict;
+use sheet::SheetAnswer;
+ghost use mathlib.Core.Path.{_≡_};
+ghost use Prim.Native.Nat.{ℕ, _≤_, _<_, _+_, max};
+ghost use lib.ListN.{length, getD, take};
+ghost use Rattle.model.specs.Sheets.{idle, mostSegs, mostRows, mostSteps};
+ghost use Rattle.model.specs.Standing.{Standing};
+ghost use Rattle.model.specs.Values.{zeros, idles, zeroRows, padded, headOf, headValueOf, sheetOf, valueOf};
+ghost use Rattle.sheet.specs.Answers.{answerOf};
+ghost use Rattle.sheet.specs.Reading.{rejected};
+ghost use Rattle.joining.specs.Joint.{sameKind, sameRows, sameHeads, bothTouch, jointEntry, jointHead, joined, Joins};
+ghost use Rattle.joining.specs.Joining.{joinOf};
+ghost use Rattle.joining.specs.inner.Parts.{sameRow, bothAt, movedAfter, Movable, HeadsFit, IsEntry, entriesOf};
+
+// The form of a joint sheet.
+const FORM: u8 = 3;
+
+// Whether the kinds are the same.
+fn same_kind(p: Kind, q: Kind) -> bool
+    ensures { λ r. ⌜ r ≡ sameKind p q ⌝ }
+{
+    match p {
+        Kind::Time => match q {
+            Kind::Time => true,
+            Kind::Space => false,
+        },
+        Kind::Space => match q {
+            Kind::Time => false,
+            Kind::Space => true,
+        },
+    }
+}
+
+// Whether two rows are written alike.
+fn same_row(p: PriceRow, q: PriceRow) -> bool
+    ensures { λ r. ⌜ r ≡ sameRow p q ⌝ }
+{
+    if p.h == q.h { p.d == q.d } else { false }
+}
+
+// Whether the first m rows of one and the first n of the other are written alike.
+fn same_rows(
+    ps: [PriceRow; Sheet::MAX_ROWS],
+    m: usize,
+    qs: [PriceRow; Sheet::MAX_ROWS],
+    n: usize,
+) -> bool
+    requires { ⌜ (m ≤ mostRows) × (n ≤ mostRows) ⌝ }
+    ensures { λ r. ⌜ r ≡ sameRows (take m ps) (take n qs) ⌝ }
+{
+    if m != n {
+        return false;
+    }
+    let mut r = 0;
+    while r < m {
+        if !same_row(ps[r], qs[r]) {
+            return false;
+        }
+        r += 1;
+    }
+    true
+}
+
+// Whether kind, a and row lines are the same.
+fn same_heads(p: Head, q: Head) -> bool
+    requires { ⌜ (p .rows ≤ mostRows) × (q .rows ≤ mostRows) ⌝ }
+    ensures { λ r. ⌜ r ≡ sameHeads (headValueOf p) (headValueOf q) ⌝ }
+{
+    let kind = p.kind;
+    let other = q.kind;
+    if !same_kind(kind, other) {
+        return false;
+    }
+    if p.a != q.a {
+        return false;
+    }
+    let ps = p.prices;
+    let qs = q.prices;
+    same_rows(ps, p.rows, qs, q.rows)
+}
+
+// The entry of a step, idle beyond the last.
+fn entry_at(refs: &[u16], t: usize) -> u16
+    ensures { λ r. ⌜ r ≡ getD (now (refs .entry)) t idle ⌝ }
+{
+    if t < refs.len() {
+        return refs[t];
+    }
+    Sheet::IDLE
+}
+
+// Whether both entries of a step are touches.
+fn both_at(first: u16, second: u16) -> bool
+    ensures { λ r. ⌜ r ≡ bothAt first second ⌝ }
+{
+    if first != Sheet::IDLE {
+        second != Sheet::IDLE
+    } else {
+        false
+    }
+}
+
+// Whether both touch in one of the first n steps.
+fn both_touch(xs: &[u16], ys: &[u16], n: usize) -> bool
+    ensures { λ r. ⌜ r ≡ bothTouch (now (xs .entry)) (now (ys .entry)) n ⌝ }
+{
+    let mut t = 0;
+    while t < n {
+        if both_at(entry_at(xs, t), entry_at(ys, t)) {
+            return true;
+        }
+        t += 1;
+    }
+    false
+}
+
+// The entry of a step of the joint sheet, where the first has n segments.
+fn joint_entry(n: u16, x: u16, y: u16) -> u16
+    requires { ⌜ (n ≤ mostSegs) × IsEntry y ⌝ }
+    ensures { λ r. ⌜ r ≡ jointEntry n x y ⌝ }
+{
+    if x != Sheet::IDLE {
+        return x;
+    }
+    if y != Sheet::IDLE {
+        return n + y;
+    }
+    Sheet::IDLE
+}
+
+// Idle entries, zeros and rows 0/0.
+fn no_touches() -> [u16; Sheet::MAX_STEPS]
+    ensures { λ r. ⌜ r ≡ idles mostSteps ⌝ }
+{
+    [Sheet::IDLE; Sheet::MAX_STEPS]
+}
+
+fn no_numbers() -> [u16; Sheet::MAX_SEGS]
+    ensures { λ r. ⌜ r ≡ zeros mostSegs ⌝ }
+{
+    [0u16; Sheet::MAX_SEGS]
+}
+
+fn no_rows() -> [PriceRow; Sheet::MAX_ROWS]
+    ensures { λ r. ⌜ r ≡ zeroRows mostRows ⌝ }
+{
+    [PriceRow { h: 0, d: 0 }; Sheet::MAX_ROWS]
+}
+
+// The entries of the joint sheet, step by step on the same clock.
+fn joint_touches(n: u16, xs: &[u16], ys: &[u16], steps: usize) -> [u16; Sheet::MAX_STEPS]
+    requires { ⌜ (n ≤ mostSegs) × (steps ≤ mostSteps) × ((t : ℕ) → IsEntry (getD (now ys) t idle)) ⌝ }
+    ensures { λ r. ⌜ r ≡ padded (entriesOf n (now (xs .entry)) (now (ys .entry)) steps) (idles mostSteps) ⌝ }
+{
+    let mut touches = no_touches();
+    let mut t = 0;
+    while t < steps {
+        touches[t] = joint_entry(n, entry_at(xs, t), entry_at(ys, t));
+        t += 1;
+    }
+    touches
+}
+
+// The k-th of some numbers and then others, which are moved by n.
+fn number_at(xs: &[u16], n: u16, ys: &[u16], k: usize) -> u16
+    requires { ⌜ Movable (now xs) n (now ys) × (k < length (now xs) + length (now ys)) ⌝ }
+    ensures { λ r. ⌜ r ≡ getD (movedAfter (now (xs .entry)) n (now (ys .entry))) k 0 ⌝ }
+{
+    if k < xs.len() {
+        return xs[k];
+    }
+    n + ys[k - xs.len()]
+}
+
+// Numbers and then others, which are moved by n, at the front of zeros.
+fn joint_numbers(xs: &[u16], n: u16, ys: &[u16]) -> [u16; Sheet::MAX_SEGS]
+    requires { ⌜ Movable (now xs) n (now ys) ⌝ }
+    ensures { λ r. ⌜ r ≡ padded (movedAfter (now (xs .entry)) n (now (ys .entry))) (zeros mostSegs) ⌝ }
+{
+    let count = xs.len() + ys.len();
+    let mut all = no_numbers();
+    let mut k = 0;
+    while k < count {
+        all[k] = number_at(xs, n, ys, k);
+        k += 1;
+    }
+    all
+}
+
+// The first n rows, at the front of rows 0/0.
+fn first_rows(prices: [PriceRow; Sheet::MAX_ROWS], n: usize) -> [PriceRow; Sheet::MAX_ROWS]
+    requires { ⌜ n ≤ mostRows ⌝ }
+    ensures { λ r. ⌜ r ≡ padded (take n prices) (zeroRows mostRows) ⌝ }
+{
+    let mut rows = no_rows();
+    let mut r = 0;
+    while r < n {
+        rows[r] = prices[r];
+        r += 1;
+    }
+    rows
+}
+
+// The larger of the two.
+fn larger(a: usize, b: usize) -> usize
+    ensures { λ r. ⌜ r ≡ max a b ⌝ }
+{
+    if a < b {
+        return b;
+    }
+    a
+}
+
+// The answer where the two sheets do not join.
+fn refused(why: Refusal) -> SheetAnswer
+    ensures { λ r. ⌜ r ≡ answerOf (rejected why) ⌝ }
+{
+    SheetAnswer {
+        verdict: Verdict::Refused(why),
+        sheet: Sheet::empty(),
+    }
+}
+
+// The head of the joint sheet.
+fn joint_head(p: Head, q: Head) -> Head
+    requires { ⌜ HeadsFit p q ⌝ }
+    ensures { λ r. ⌜ r ≡ headOf (jointHead (headValueOf p) (headValueOf q)) ⌝ }
+{
+    let kind = p.kind;
+    let n = p.segs;
+    let m = q.segs;
+    let sizes = p.sizes;
+    let more_sizes = q.sizes;
+    let all_sizes = joint_numbers(&sizes[..n], 0, &more_sizes[..m]);
+    let warm = p.warm;
+    let more_warm = q.warm;
+    let holds = p.holds;
+    let more_holds = q.holds;
+    let all_holds = joint_numbers(&holds[..warm], n as u16, &more_holds[..more_warm]);
+    let prices = p.prices;
+    Head {
+        kind: kind,
+        a: p.a,
+        segs: n + m,
+        sizes: all_sizes,
+        rows: p.rows,
+        prices: first_rows(prices, p.rows),
+        warm: warm + more_warm,
+        holds: all_holds,
+    }
+}
+
+// The joint sheet of two accepted sheets that join.
+fn joint_sheet(first: Sheet, second: Sheet) -> Sheet
+    requires { ⌜ Standing first × Standing second × Joins (valueOf first) (valueOf second) ⌝ }
+    ensures { λ r. ⌜ r ≡ sheetOf (joined (valueOf first) (valueOf second)) ⌝ }
+{
+    let p = first.head;
+    let q = second.head;
+    let head = joint_head(p, q);
+    let n = p.segs as u16;
+    let steps = larger(first.steps, second.steps);
+    let xs = first.touches;
+    let ys = second.touches;
+    let x_end = first.steps;
+    let y_end = second.steps;
+    Sheet {
+        form: FORM,
+        head: head,
+        steps: steps,
+        touches: joint_touches(n, &xs[..x_end], &ys[..y_end], steps),
+    }
+}
+
+// Two accepted sheets as one: 20 where kind, a or a row line differs, then 21 where both touch in one step, then 22 where they have more
+// than 256 segments together.
+pub fn join(first: Sheet, second: Sheet) -> SheetAnswer
+    requires { ⌜ Standing first × Standing second ⌝ }
+    ensures { λ r. ⌜ r ≡ answerOf (joinOf (valueOf first) (valueOf second)) ⌝ }
+{
+    let p = first.head;
+    let q = second.head;
+    if !same_heads(p, q) {
+        return refused(Refusal::HeadsDiffer);
+    }
+    let xs = first.touches;
+    let ys = second.touches;
+    let x_end = first.steps;
+    let y_end = second.steps;
+    if both_touch(&xs[..x_end], &ys[..y_end], larger(x_end, y_end)) {
+        return refused(Refusal::BothTouch);
+    }
+    if Sheet::MAX_SEGS < p.segs + q.segs {
+        return refused(Refusal::TooManySegments);
+    }
+    SheetAnswer {
+        verdict: Verdict::Accepted,
+        sheet: joint_sheet(first, second),
+    }
+}
