@@ -72,6 +72,15 @@ uint64_t segtrace_to_form_2(const uint8_t *sheet, size_t sheet_length, uint8_t *
    idle, 11. There and back restores the bytes. */
 uint64_t segtrace_to_form_1(const uint8_t *sheet, size_t sheet_length, uint8_t *out, size_t out_length, uint64_t *written);
 
+/*
+ * Two sheets of form 2 or 3 with the same kind, a and row lines as one sheet of form 3 on the same clock, at the front of `out`, and its
+ * length: the second's segments are numbered after the first's, and steps is the greater of the two. The first sheet's refusals, where any
+ * other form is 4, then the second's; 20 where kind, a or a row line differs, 21 where both touch at one step, 22 where together they have
+ * more than 256 segments, 11. The two sheets may be the same bytes; neither may overlap `out`. SEGTRACE_SHEET_BYTES always suffice.
+ */
+uint64_t segtrace_join(const uint8_t *first, size_t first_length, const uint8_t *second, size_t second_length, uint8_t *out,
+                       size_t out_length, uint64_t *written);
+
 /* The eleven figures of a row, counted from 0; the sheet's refusals, 7. */
 uint64_t segtrace_figures(const uint8_t *sheet, size_t sheet_length, uint64_t row, uint64_t figures[SEGTRACE_FIGURES]);
 

@@ -14,7 +14,8 @@
 
 static uint8_t sheet[SEGTRACE_SHEET_BYTES];
 static size_t sheet_length;
-static uint8_t listing[SEGTRACE_LISTING_BYTES], page[SEGTRACE_PAGE_BYTES], schedule[SEGTRACE_SCHEDULE_BYTES], again[SEGTRACE_SHEET_BYTES];
+static uint8_t listing[SEGTRACE_LISTING_BYTES], page[SEGTRACE_PAGE_BYTES], schedule[SEGTRACE_SCHEDULE_BYTES];
+static uint8_t again[SEGTRACE_SHEET_BYTES], other[SEGTRACE_SHEET_BYTES];
 static uint64_t all[SEGTRACE_ROWS * SEGTRACE_FIGURES];
 static uint16_t segments[SEGTRACE_STEPS];
 
@@ -38,6 +39,7 @@ static void without_pointers(void)
     segtrace_recorder r;
     expect("check", segtrace_check(NULL, 0), 2);
     expect("rewrite", segtrace_rewrite(NULL, 0, NULL, 0, &written), 2);
+    expect("join", segtrace_join(NULL, 0, NULL, 0, NULL, 0, &written), 2);
     expect("figures", segtrace_figures(NULL, 0, 0, figures), 2);
     expect("all_figures", segtrace_all_figures(NULL, 0, NULL, 0, &written), 2);
     expect("listing", segtrace_listing(NULL, 0, NULL, 0, &written), 2);
@@ -107,6 +109,50 @@ static void make_sheet(int form, size_t length)
     expect("bytes of the largest sheet", (uint64_t)(at - (char *)sheet), length);
 }
 
+/* One of two sheets whose joint sheet has as many bytes as a sheet may have: 128 warm segments, 64 rows, 1,024 touches
+   in every other step (or none). */
+static size_t make_part(uint8_t *place, int part, int refs)
+{
+    char *at = (char *)place;
+    int i;
+    at += sprintf(at, "form=3\nkind=space\na=255\nsegs=128\n");
+    for (i = 0; i < 128; i++)
+        at += sprintf(at, "size=4095\n");
+    at += sprintf(at, "rows=64\n");
+    for (i = 0; i < 64; i++)
+        at += sprintf(at, "row=%d/%d\n", 10000 + 800 * i, 65535 - i);
+    at += sprintf(at, "warm=128\n");
+    for (i = 0; i < 128; i++)
+        at += sprintf(at, "hold=%d\n", i);
+    at += sprintf(at, "steps=2048\nrefs=%d\n", refs);
+    for (i = 0; i < refs; i++)
+        at += sprintf(at, "ref=%d@%d\n", 100 + i * 5 % 28, 2 * i + 1 + part);
+    return (size_t)(at - (char *)place);
+}
+
+/* Joining the largest pair; its refusals 4 (form 1), 20, 21, 22 and 11, which write nothing. */
+static void joins(void)
+{
+    static const char text[] = "form=2\nkind=time\na=0\nsegs=1\nsize=1\nrows=1\nrow=1/1\nsteps=0\nrefs=0\n";
+    static const char joint[] = "form=3\nkind=time\na=0\nsegs=2\nsize=1\nsize=1\nrows=1\nrow=1/1\nwarm=0\nsteps=0\nrefs=0\n";
+    const uint8_t *one = (const uint8_t *)text, *of_form_1 = (const uint8_t *)strchr(text, '\n') + 1;
+    size_t one_length = sizeof text - 1, first = make_part(sheet, 0, 1024), second = make_part(other, 1, 1024);
+    uint64_t written = 7, length;
+    expect("join of form 1", segtrace_join(of_form_1, one_length - 7, one, one_length, again, sizeof again, &written), 4);
+    expect("join, a differs", segtrace_join(one, one_length, sheet, first, again, sizeof again, &written), 20);
+    expect("join, both touch", segtrace_join(sheet, first, sheet, first, again, sizeof again, &written), 21);
+    expect("join, no place", segtrace_join(one, one_length, one, one_length, NULL, 0, &written), 11);
+    expect("written", written, 7);
+    expect("join of the same bytes", segtrace_join(one, one_length, one, one_length, again, sizeof again, &written), 0);
+    expect("its length", written, sizeof joint - 1);
+    expect("its bytes", memcmp(again, joint, sizeof joint - 1) != 0, 0);
+    expect("join", segtrace_join(sheet, first, other, second, again, sizeof again, &length), 0);
+    expect("bytes of the largest joint sheet", length, SEGTRACE_SHEET_BYTES);
+    expect("check of it", segtrace_check(again, length), 0);
+    first = make_part(sheet, 0, 0);
+    expect("join to 256 segments", segtrace_join(again, length, sheet, first, other, sizeof other, &written), 22);
+}
+
 /* Every call on the sheet. */
 static void calls_on_sheet(void)
 {
@@ -152,6 +198,7 @@ static void *every_call(void *unused)
     calls_on_sheet();
     expect("to_form_2 of form 3", segtrace_to_form_2(sheet, sheet_length, again, sizeof again, &written), 4);
     expect("to_form_1 of form 3", segtrace_to_form_1(sheet, sheet_length, again, sizeof again, &written), 4);
+    joins();
     return unused;
 }
 

@@ -118,6 +118,28 @@ impl Input {
     }
 }
 
+/// Pairs of sheets of form 3 that joined have 31,366 bytes: 128 warm segments each, touched in turns.
+pub fn pairs() -> Vec<[Vec<u8>; 2]> {
+    (1..=16).map(|number| pair(&mut Prng(number))).collect()
+}
+
+fn pair(prng: &mut Prng) -> [Vec<u8>; 2] {
+    let part = Input { name: "part", longest: true, segs: 128, rows: 64, refs: 1_024, pattern: Pattern::Uniform };
+    let a = prng.between(100, 255);
+    let rows: String = part.rows(prng, &[]).iter().map(|(h, d)| format!("row={h}/{d}\n")).collect();
+    let holds: String = (0..part.segs).map(|segment| format!("hold={segment}\n")).collect();
+    [1, 2].map(|from| {
+        let mut text = format!("form=3\nkind=space\na={a}\nsegs={}\n", part.segs);
+        (0..part.segs).for_each(|_| text += &format!("size={}\n", prng.between(1_000, 4_095)));
+        text += &format!("rows={}\n{rows}warm={}\n{holds}", part.rows, part.segs);
+        text += &format!("steps=2048\nrefs={}\n", part.refs);
+        for (place, segment) in part.references(prng, 100).into_iter().enumerate() {
+            text += &format!("ref={segment}@{}\n", 2 * place + from);
+        }
+        text.into_bytes()
+    })
+}
+
 /// R and w of every reuse.
 fn retentions(space: bool, a: u64, sizes: &[u64], refs: &[usize]) -> Vec<(u64, u64)> {
     let mut last = vec![None; sizes.len()];

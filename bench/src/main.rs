@@ -7,6 +7,7 @@
 
 mod growth;
 mod inputs;
+mod requests;
 
 use inputs::Input;
 use plain::{Figures, Recorder, Sheet};
@@ -39,6 +40,8 @@ fn main() {
     for input in Input::all() {
         Table { input, budget }.measure();
     }
+    println!();
+    requests::print(budget);
     println!();
     growth::print(budget);
 }

@@ -34,6 +34,17 @@ extern "C" {
         written: *mut u64,
     ) -> u64;
 
+    /// Two sheets as one.
+    pub fn segtrace_join(
+        first: *const u8,
+        first_length: usize,
+        second: *const u8,
+        second_length: usize,
+        out: *mut u8,
+        out_length: usize,
+        written: *mut u64,
+    ) -> u64;
+
     /// The eleven figures of a row.
     pub fn segtrace_figures(sheet: *const u8, sheet_length: usize, row: u64, figures: *mut u64) -> u64;
 

@@ -16,9 +16,11 @@
 //! ```
 
 pub mod c;
+mod joining;
 mod recorder;
 mod refusal;
 
+pub use joining::{join, join_into};
 pub use recorder::Recorder;
 pub use refusal::Refusal;
 

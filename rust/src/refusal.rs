@@ -44,11 +44,17 @@ pub enum Refusal {
     TariffOutOfRange,
     /// The segment of a hold line is not above the one before.
     HoldNotAbove,
+    /// Joining: kind, a or a row line differs.
+    HeadsDiffer,
+    /// Joining: both sheets touch at one step.
+    BothTouch,
+    /// Joining: together the sheets have more than 256 segments.
+    TooManySegments,
 }
 
 impl Refusal {
     /// All refusals, in the order of their numbers.
-    pub const ALL: [Refusal; 19] = [
+    pub const ALL: [Refusal; 22] = [
         Refusal::SheetTooLong,
         Refusal::LineMalformed,
         Refusal::ValueMalformed,
@@ -68,6 +74,9 @@ impl Refusal {
         Refusal::IdleStep,
         Refusal::TariffOutOfRange,
         Refusal::HoldNotAbove,
+        Refusal::HeadsDiffer,
+        Refusal::BothTouch,
+        Refusal::TooManySegments,
     ];
 
     /// The number of the refusal.
@@ -112,6 +121,9 @@ impl fmt::Display for Refusal {
             Refusal::IdleStep => "a step is idle",
             Refusal::TariffOutOfRange => "a rate or the minimum lies outside its range",
             Refusal::HoldNotAbove => "a warm segment is not above the one before",
+            Refusal::HeadsDiffer => "kind, a or a row line differs",
+            Refusal::BothTouch => "both sheets touch at one step",
+            Refusal::TooManySegments => "together the sheets have more than 256 segments",
         })
     }
 }

@@ -3,6 +3,7 @@
 //!
 //! In each call the pointers come from slices, arrays and references, so they are valid, and the lent ones overlap nothing else.
 
+use crate::join;
 use crate::mistakes;
 use crate::wrong::{self, Call};
 use segtrace::{c, Recorder};
@@ -28,6 +29,17 @@ pub fn to_form_2(sheet: &[u8], out: &mut [u8], written: &mut u64) -> u64 {
 pub fn to_form_1(sheet: &[u8], out: &mut [u8], written: &mut u64) -> u64 {
     wrong::lent(Call::ToForm1, out, written, |out, written| unsafe {
         c::segtrace_to_form_1(sheet.as_ptr(), sheet.len(), out.as_mut_ptr(), out.len(), written)
+    })
+}
+
+pub fn join(first: &[u8], second: &[u8], out: &mut [u8], written: &mut u64) -> u64 {
+    if let Some(answer) = join::mistaken(first, second) {
+        return wrong::put(answer, out, written);
+    }
+    wrong::lent(Call::Join, out, written, |out, written| unsafe {
+        let (first_length, second_length) = (first.len(), second.len());
+        let (place, length) = (out.as_mut_ptr(), out.len());
+        c::segtrace_join(first.as_ptr(), first_length, second.as_ptr(), second_length, place, length, written)
     })
 }
 

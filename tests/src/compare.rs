@@ -52,6 +52,7 @@ impl Case<'_> {
         let rates = generate::rates(&mut self.prng);
         self.list_call::<u64, 1>("bill", Err(number), |[out]| calls::bill(bytes, row, rates, out))?;
         self.converters()?;
+        self.joins()?;
         self.start_refused(number)?;
         self.wrapper_refused(number, row, reference, ceiling, &schedule)
     }
@@ -90,6 +91,7 @@ impl Case<'_> {
         self.bills(sheet, &all)?;
         self.converters()?;
         self.there_and_back(sheet)?;
+        self.joins()?;
         if sheet.sizes.len() <= enumerate::MOST_SEGS && sheet.steps.len() <= enumerate::MOST_STEPS {
             self.demand_three(sheet)?;
         }
@@ -329,7 +331,7 @@ impl Case<'_> {
 
     /// Makes a call with several places. Where a result is wanted: exact, longer, and short by one and more, which is 11. Where a
     /// refusal is wanted, it comes with places of any length.
-    fn call<T: Item>(
+    pub fn call<T: Item>(
         &mut self,
         name: &str,
         want: Result<&[T], u64>,

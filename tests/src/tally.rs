@@ -10,11 +10,11 @@ pub struct Tally {
 }
 
 /// One more than the largest number of a refusal.
-const NUMBERS: usize = 20;
+const NUMBERS: usize = 23;
 
 impl Tally {
     /// The numbers that every whole run must reach.
-    const REQUIRED: [usize; 19] = [1, 2, 3, 4, 5, 6, 7, 8, 9, 10, 11, 12, 13, 14, 15, 16, 17, 18, 19];
+    const REQUIRED: std::ops::Range<usize> = 1..NUMBERS;
 
     /// Notes a compared call of this sheet and the number that it returned.
     pub fn note(&mut self, number: u64) {
@@ -54,7 +54,6 @@ impl Tally {
     /// A line for each number with its calls and its sheets.
     pub fn lines(&self) -> String {
         let lines: Vec<String> = Self::REQUIRED
-            .into_iter()
             .map(|number| {
                 format!("  {number:>2}: {:>10} calls, {:>9} sheets", self.refused[number], self.sheets[number])
             })
@@ -64,6 +63,6 @@ impl Tally {
 
     /// The required numbers that no sheet reached.
     pub fn missing(&self) -> Vec<usize> {
-        Self::REQUIRED.into_iter().filter(|&number| self.sheets[number] == 0).collect()
+        Self::REQUIRED.filter(|&number| self.sheets[number] == 0).collect()
     }
 }

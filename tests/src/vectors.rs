@@ -3,6 +3,7 @@
 use crate::calls;
 use crate::compare::{done, ensure, Case, Outcome};
 use crate::generate::Prng;
+use crate::join;
 use crate::reference::{self, Figures, Kind, Row, Sheet};
 use crate::tally::Tally;
 use crate::{Run, NOW};
@@ -25,7 +26,7 @@ pub fn sheet(number: usize) -> Vec<u8> {
     examples().swap_remove(number).0
 }
 
-type Check = Box<dyn Fn(&[u8]) -> Outcome>;
+pub type Check = Box<dyn Fn(&[u8]) -> Outcome>;
 
 fn examples() -> Vec<(Vec<u8>, Check)> {
     let mut list: Vec<(Vec<u8>, Check)> = Vec::new();
@@ -52,6 +53,7 @@ fn examples() -> Vec<(Vec<u8>, Check)> {
     for (sheet, rates, cents) in bills() {
         list.push((sheet, Box::new(move |bytes| bill(bytes, rates, cents))));
     }
+    list.extend(join::examples());
     for (text, number) in verdicts() {
         list.push((text, Box::new(move |bytes| verdict(bytes, number))));
     }

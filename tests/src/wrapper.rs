@@ -23,7 +23,7 @@ const OLD: segtrace::Figures = segtrace::Figures {
 
 impl Case<'_> {
     /// The answer of a safe function, with the number for a refusal.
-    fn safe<T: PartialEq + Debug>(&mut self, name: &str, got: Result<T, Refusal>, want: Result<T, u64>) -> Outcome {
+    pub fn safe<T: PartialEq + Debug>(&mut self, name: &str, got: Result<T, Refusal>, want: Result<T, u64>) -> Outcome {
         let got = got.map_err(Refusal::number);
         self.tally.note(*want.as_ref().err().unwrap_or(&0));
         ensure(got == want, || format!("wrapper, {name}: got {got:?}, wanted {want:?}"))

@@ -1,5 +1,6 @@
 //! Wrong answers, put in behind a call one at a time to show that the tests find them.
 
+use crate::join;
 use crate::mistakes;
 use crate::place::Item;
 use segtrace::Recorder;
@@ -11,6 +12,7 @@ pub enum Call {
     Rewrite,
     ToForm2,
     ToForm1,
+    Join,
     Figures,
     AllFigures,
     Listing,
@@ -88,11 +90,21 @@ pub enum Way {
     ComesBack,
     /// A first touch of a warm segment has no margin.
     WarmNoMargin,
+    /// Another answer, worked out beside the call's own examples.
+    Named(&'static str),
 }
 
 /// Wrong ways of every call with a lent place, and of every call with a list of fixed length.
-const PLACE_CALLS: [Call; 7] =
-    [Call::Rewrite, Call::ToForm2, Call::ToForm1, Call::AllFigures, Call::Listing, Call::Page, Call::OptimalSchedule];
+const PLACE_CALLS: [Call; 8] = [
+    Call::Rewrite,
+    Call::ToForm2,
+    Call::ToForm1,
+    Call::Join,
+    Call::AllFigures,
+    Call::Listing,
+    Call::Page,
+    Call::OptimalSchedule,
+];
 const PLACE_WAYS: [Way; 9] = [
     Way::OtherNumber,
     Way::Refused(11),
@@ -172,7 +184,7 @@ const OTHERS: [(Call, Way); 57] = [
 pub fn all() -> Vec<(Call, Way)> {
     let of_places = PLACE_CALLS.into_iter().flat_map(|call| PLACE_WAYS.map(|way| (call, way)));
     let of_lists = LIST_CALLS.into_iter().flat_map(|call| LIST_WAYS.map(|way| (call, way)));
-    of_places.chain(of_lists).chain(OTHERS).collect()
+    of_places.chain(of_lists).chain(OTHERS).chain(join::WRONG).collect()
 }
 
 /// The place in the list of the wrong answer that is put in.
@@ -240,6 +252,19 @@ pub fn lent<T: Item>(
         _ => {}
     }
     number(way, returned)
+}
+
+/// An answer that is worked out here, put into a lent place as the call would.
+pub fn put<T: Item>(answer: Result<Vec<T>, u64>, out: &mut [T], written: &mut u64) -> u64 {
+    match answer {
+        Ok(result) if result.len() > out.len() => 11,
+        Ok(result) => {
+            out[..result.len()].copy_from_slice(&result);
+            *written = result.len() as u64;
+            0
+        }
+        Err(number) => number,
+    }
 }
 
 /// A call with a list of fixed length.

@@ -23,7 +23,7 @@ use Rattle.analyser.specs.Demand.{priceOf, leftSchedule, HasOptimum, Dem
 
 module _ (s : List ℕ) (v : SheetValue) (reads : readSheet s ≡ accepted v) (r : ℕ) (row : r < length (v .head .rows)) where
   -- the figures call answers the row's figures
-  figures-are : figuresAnswer s r ≡ record { verdict = Accepted; figures = figuresAt v r }
+  pub figures-are : figuresAnswer s r ≡ record { verdict = Accepted; figures = figuresAt v r }
   unfolding figuresAnswer figuresOf
   figures-are = rw (reads, lt-ltb r (length (v .head .rows)) row)
 

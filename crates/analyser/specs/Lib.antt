@@ -1,4 +1,5 @@
 pub mod Answers
 pub mod Demand
+pub mod Joining
 pub mod Recording
 pub mod RoundTrip

@@ -4,6 +4,7 @@
 pub mod billing;
 pub mod converting;
 pub mod margins;
+pub mod pairing;
 pub mod recording;
 pub mod sizing;
 
