@@ -44,8 +44,8 @@ abbrev pub Eight : List ℕ → ℕ → ℕ → Type 0
 Eight s at w = (k : ℕ) → k < 64 → bit w k ≡ bit (getD s (at + k / 8) 0) (k % 8)
 
 -- four such numbers have the bits of 32 bytes
-pub words-bits : (s : List ℕ) (w : StartWords) → Eight s 0 (w .first) → Eight s 8 (w .second) → Eight s 16 (w .third) → Eight s 24 (w .fourth)
-    → (i : ℕ) → i < 256 → startBit w i ≡ bit (getD s (i / 8) 0) (i % 8)
+pub words-bits : (s : List ℕ) (w : StartWords) → Eight s 0 (w .first) → Eight s 8 (w .second) → Eight s 16 (w .third)
+    → Eight s 24 (w .fourth) → (i : ℕ) → i < 256 → startBit w i ≡ bit (getD s (i / 8) 0) (i % 8)
 words-bits s w a b c d i lt = go (i / 64) refl
   where
     at : (x n : ℕ) → 64 * n ≤ i → i < 64 * n + 64 → Eight s (8 * n) x → bit x (i % 64) ≡ bit (getD s (i / 8) 0) (i % 8)

@@ -18,7 +18,8 @@ ghost use Rattle.model.specs.Costs.{unitCost, swapCost};
 ghost use Rattle.model.specs.Schedules.{bit};
 ghost use Rattle.pricing.specs.Checking.{noPrice, priceAnswer};
 ghost use Rattle.schedule.specs.inner.Segments.{segmentOf};
-ghost use Rattle.pricing.specs.inner.Steps.{startWord, startBit, StartBits, heldOf, startCost, unitAt, Step, SegmentsPassed, Passing, Through, After, Moved};
+ghost use Rattle.pricing.specs.inner.Steps.{startWord, startBit, StartBits, heldOf, startCost, unitAt};
+ghost use Rattle.pricing.specs.inner.Steps.{Step, SegmentsPassed, Passing, Through, After, Moved};
 
 // What pricing a schedule gives: its memory, load and total, all zero where it is refused.
 pub struct PriceAnswer {

@@ -8,8 +8,8 @@ use Rattle.pricing.proofs.start_words.Tie as tie
 returns : tie.Need-returns
 returns c =
     let s = c .before .before .before .before .before in
-    words-bits (now (s .args .mask)) _ (c .before .before .before .joined .ensures) (c .before .before .joined2 .ensures) (c .before .joined3 .ensures)
-    (c .joined4 .ensures)
+    words-bits (now (s .args .mask)) _ (c .before .before .before .joined .ensures) (c .before .before .joined2 .ensures)
+    (c .before .joined3 .ensures) (c .joined4 .ensures)
 
 pub start-words-spec : {M : Type 1} → statement M
 start-words-spec =
