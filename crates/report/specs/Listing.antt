@@ -97,7 +97,7 @@ unfoldable pub listingOf : SheetValue → List ℕ
 listingOf v =
     listing (v .form) (refsOf (traceOf v)) (length (v .refs)) (length (v .head .sizes)) (tabulate (length (v .head .rows)) (figuresAt v))
 
--- no listing of an accepted sheet has more bytes: form 2, 64 rows, each figure with as many digits as it can have
+-- no listing of an accepted sheet has more bytes: form 2 on, 64 rows, each figure with as many digits as it can have
 abbrev pub mostListing : ℕ
 mostListing = 11558
 

@@ -1,4 +1,4 @@
-// The text of a sheet: the value that it stands for, reading it with refusals 1 to 6, and its text.
+// The text of a sheet: the value that it stands for, reading it with its refusals, and its text.
 // What reading and writing mean is written in specs/; nothing is assumed.
 use model::Sheet;
 use model::Verdict;
