@@ -1,8 +1,7 @@
 -- The bytes of the segments that are held before step 1. Assumes nothing.
-use Prim.Native.Nat.{_+_, _*_, _^_}
+use Prim.Native.Nat.{ℕ, _+_, _*_, _^_}
 use mathlib.Core.Bool.{cond}
 use mathlib.Core.List.{List}
-use Prim.Native.Nat.{ℕ}
 use Rattle.model.specs.Sheets.{listed}
 use Rattle.model.specs.Sums.{sum, tabulate}
 

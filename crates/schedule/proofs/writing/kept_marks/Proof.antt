@@ -1,6 +1,6 @@
 -- `kept_marks` meets its contract: the invariant of its loop is `Marked`, the measure the steps that are left. Assumes nothing.
 use Prim.Native.Nat.{_-_, _<_}
-use mathlib.Core.Path.{refl, sym, _∙_}
+use mathlib.Core.Path.{refl, _∙_}
 use native.Mathlib.Omega.{arith}
 use lib.ListN.{length, getD}
 use denote.Ref.{now}
