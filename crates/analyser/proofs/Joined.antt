@@ -106,7 +106,8 @@ module _ (s1 s2 : List ℕ) (v w : SheetValue) (first : readForms 2 3 s1 ≡ acc
       row-second : rowIn (w .head .rows) r ≡ rowAt v r
       row-second = ap (λ (rows : List PriceRow). rowIn rows r) (sym rows-same)
 
-      figures-joint : figuresAnswer text r ≡ record { verdict = Accepted; figures = rowFigures (jointRun v w) (rowAt v r .h) (rowAt v r .d) }
+      figures-joint : figuresAnswer text r
+          ≡ record { verdict = Accepted; figures = rowFigures (jointRun v w) (rowAt v r .h) (rowAt v r .d) }
       unfolding joined jointHead
       figures-joint = figures-are text (joined v w) reads-joint r row
 
@@ -131,6 +132,7 @@ module _ (s1 s2 : List ℕ) (v w : SheetValue) (first : readForms 2 3 s1 ≡ acc
           rows-second = rows-joint ∙ rows-same;
           figures-accepted = λ r row. ap (λ a. a .verdict) (figures-joint r row);
           figures-add = λ r row.
-              rw (ap (λ a. a .figures) (figures-joint r row), figures-first r row, figures-second r row) (figures-of (rowAt v r .h) (rowAt v r .d));
+              rw (ap (λ a. a .figures) (figures-joint r row), figures-first r row, figures-second r row)
+              (figures-of (rowAt v r .h) (rowAt v r .d));
           schedules = λ r row. side-by-side v w first-valid second-valid (both .0) (rowAt v r .h) (rowAt v r .d);
         }

@@ -4,7 +4,7 @@ use crate::tell;
 ghost use Rattle.analyser.specs.Joining.{joinResult};
 ghost use Rattle.exports.specs.Exported.{PlaceCall};
 
-// Two sheets of form 2 or 3 as one of form 3, and its length: the first sheet's refusals, then the second's, where form 1 is 4, 20, 21, 22, 11.
+// Two sheets of form 2 or 3 as one of form 3, and its length: the first's refusals, then the second's, where form 1 is 4, 20, 21, 22, 11.
 #[no_mangle]
 pub extern "C" fn segtrace_join(
     first: &[u8],

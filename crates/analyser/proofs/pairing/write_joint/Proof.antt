@@ -12,13 +12,15 @@ returns : tie.Need-returns
 returns c =
     let r = c .before .before .before .before .before in
     let a = c .before .before .before .before .before .before .before .args in
-    result-refused (joinOf (valueOf (a .first)) (valueOf (a .second))) (r .join .result) (r .join .ensures) (a .out .now) (λ u. gives (sheetText u)) (c .refused .ensures) (cc)
+    result-refused (joinOf (valueOf (a .first)) (valueOf (a .second))) (r .join .result) (r .join .ensures)
+    (a .out .now) (λ u. gives (sheetText u)) (c .refused .ensures) (cc)
 
 returns-2 : tie.Need-returns-2
 returns-2 c =
     let r = c .before .before .before .before .before .before .before in
     let a = c .before .before .before .before .before .before .before .before .before .args in
-    result-accepted (joinOf (valueOf (a .first)) (valueOf (a .second))) (r .join .result) (r .join .ensures) (λ u. gives (sheetText u)) (c .before .before .write .ensures) (cc)
+    result-accepted (joinOf (valueOf (a .first)) (valueOf (a .second))) (r .join .result) (r .join .ensures)
+    (λ u. gives (sheetText u)) (c .before .before .write .ensures) (cc)
 
 pub write-joint-spec : {M : Type 1} → statement M
 write-joint-spec =
