@@ -81,6 +81,16 @@ uint64_t segtrace_to_form_1(const uint8_t *sheet, size_t sheet_length, uint8_t *
 uint64_t segtrace_join(const uint8_t *first, size_t first_length, const uint8_t *second, size_t second_length, uint8_t *out,
                        size_t out_length, uint64_t *written);
 
+/*
+ * A din trace as a sheet of form 1 of kind time, a=0 and sizes 1, with the rows of a sheet of any form, at the front of `out`, and its length.
+ * A line of the trace is a label 0, 1 or 2, one blank, a hexadecimal address of 1 to 8 digits and a line feed. Each page of 2 to the power k
+ * bytes is a segment, numbered by first appearance. The sheet's refusals; 23 where k is not from 8 to 24; then, line by line, 24 for a
+ * malformed line and 25 for a 2,049th line or a 257th page; 11. The trace and the sheet may overlap; neither may overlap `out`.
+ * SEGTRACE_SHEET_BYTES_FORM_1 always suffice.
+ */
+uint64_t segtrace_import_din(const uint8_t *trace, size_t trace_length, uint64_t k, const uint8_t *sheet, size_t sheet_length,
+                             uint8_t *out, size_t out_length, uint64_t *written);
+
 /* The eleven figures of a row, counted from 0; the sheet's refusals, 7. */
 uint64_t segtrace_figures(const uint8_t *sheet, size_t sheet_length, uint64_t row, uint64_t figures[SEGTRACE_FIGURES]);
 

@@ -40,6 +40,8 @@ static void without_pointers(void)
     expect("check", segtrace_check(NULL, 0), 2);
     expect("rewrite", segtrace_rewrite(NULL, 0, NULL, 0, &written), 2);
     expect("join", segtrace_join(NULL, 0, NULL, 0, NULL, 0, &written), 2);
+    expect("import_din", segtrace_import_din(NULL, 0, 12, NULL, 0, NULL, 0, &written), 2);
+    expect("import_din, no place", segtrace_import_din(NULL, 0, 12, none, none_length, NULL, 0, &written), 11);
     expect("figures", segtrace_figures(NULL, 0, 0, figures), 2);
     expect("all_figures", segtrace_all_figures(NULL, 0, NULL, 0, &written), 2);
     expect("listing", segtrace_listing(NULL, 0, NULL, 0, &written), 2);
@@ -153,6 +155,31 @@ static void joins(void)
     expect("join to 256 segments", segtrace_join(again, length, sheet, first, other, sizeof other, &written), 22);
 }
 
+/* Importing the largest trace, 2,048 lines of 256 pages, with the rows of the sheet; an empty one; its refusals, which write nothing. */
+static void imports(void)
+{
+    static const char empty[] = "kind=time\na=0\nsegs=1\nsize=1\nrows=64\n";
+    static uint8_t trace[11 * SEGTRACE_STEPS + 4];
+    char *at = (char *)trace;
+    size_t length;
+    uint64_t written = 7;
+    int i;
+    for (i = 0; i < SEGTRACE_STEPS; i++)
+        at += sprintf(at, "%d %08X\n", i % 3, (unsigned)(i * 37 % 256) << 24 | 0xbeef);
+    length = (size_t)(at - (char *)trace);
+    at += sprintf(at, "0 0\n");
+    expect("import_din, k = 25", segtrace_import_din(trace, length, 25, sheet, sheet_length, again, sizeof again, &written), 23);
+    expect("import_din, cut off", segtrace_import_din(trace, length - 1, 24, sheet, sheet_length, again, sizeof again, &written), 24);
+    expect("import_din, one more", segtrace_import_din(trace, length + 4, 24, sheet, sheet_length, again, sizeof again, &written), 25);
+    expect("import_din, short", segtrace_import_din(trace, length, 24, sheet, sheet_length, again, 999, &written), 11);
+    expect("written", written, 7);
+    expect("import_din", segtrace_import_din(trace, length, 24, sheet, sheet_length, again, sizeof again, &written), 0);
+    expect("check of it", segtrace_check(again, written), 0);
+    expect("import_din of nothing", segtrace_import_din(NULL, 0, 8, sheet, sheet_length, again, sizeof again, &written), 0);
+    expect("its head", memcmp(again, empty, sizeof empty - 1) != 0, 0);
+    expect("its end", memcmp(again + written - 7, "refs=0\n", 7) != 0, 0);
+}
+
 /* Every call on the sheet. */
 static void calls_on_sheet(void)
 {
@@ -176,6 +203,7 @@ static void calls_on_sheet(void)
     expect("touch_all", segtrace_touch_all(&r, segments, 2046), 0);
     expect("idle of a full recorder", segtrace_idle(&r), 13);
     expect("figures_now", segtrace_figures_now(&r, 63, figures), 0);
+    imports();
 }
 
 /* Every call on the largest sheet of form 1, then on the same sheet in form 2, which is its largest too; and back; then on that of form 3,

@@ -140,6 +140,20 @@ fn pair(prng: &mut Prng) -> [Vec<u8>; 2] {
     })
 }
 
+/// Din traces of 2,048 lines and 256 pages of 2 to the power k bytes, 8 digits each.
+pub fn traces(count: usize, k: u64) -> Vec<Vec<u8>> {
+    let trace = |number: usize| {
+        let mut prng = Prng(number as u64 + 1);
+        let first = prng.between(1 << 28, 1 << 30) >> k;
+        let line = |place: u64| {
+            let page = if place < 256 { place } else { prng.below(256) };
+            format!("{} {:08x}\n", prng.below(3), (first + page) << k | prng.below(1 << k))
+        };
+        (0..2_048).map(line).collect::<String>().into_bytes()
+    };
+    (0..count).map(trace).collect()
+}
+
 /// R and w of every reuse.
 fn retentions(space: bool, a: u64, sizes: &[u64], refs: &[usize]) -> Vec<(u64, u64)> {
     let mut last = vec![None; sizes.len()];

@@ -10,6 +10,7 @@ pub fn print(budget: Duration) {
         "operation", "beside (times in microseconds)", "beside", "library", "ratio"
     );
     join(budget);
+    import(budget);
 }
 
 fn line(
@@ -44,4 +45,29 @@ fn join(budget: Duration) {
             segtrace::join_into(first, second, black_box(&mut out)).expect("room");
         },
     );
+}
+
+/// Traces of 2,048 lines and 256 pages, with the 64 rows of the largest sheets.
+fn import(budget: Duration) {
+    const K: u64 = 12;
+    let sheets = inputs::Input::all()[0].sheets();
+    let traces = inputs::traces(sheets.len(), K);
+    let texts: Vec<Vec<u8>> = traces
+        .iter()
+        .zip(&sheets)
+        .map(|(trace, sheet)| segtrace::import_din(trace, K, sheet).expect("a trace"))
+        .collect();
+    let mut out = vec![0; segtrace::SHEET_BYTES_FORM_1];
+    let mut import = |number: usize| {
+        let (trace, sheet) = black_box((&traces[number], &sheets[number]));
+        segtrace::import_din_into(trace, K, sheet, black_box(&mut out)).expect("room");
+    };
+    let reading = |sheets: &[Vec<u8>], number: usize| segtrace::check(black_box(&sheets[number])).expect("a sheet");
+    let title = "import, 2,048 lines";
+    line(budget, title, "reading the sheet it gives (check)", 16, |number| reading(&texts, number), &mut import);
+    let both = |number| {
+        reading(&sheets, number);
+        reading(&texts, number);
+    };
+    line(budget, title, "reading it and the sheet of the rows", 16, both, &mut import);
 }

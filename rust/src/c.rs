@@ -45,6 +45,18 @@ extern "C" {
         written: *mut u64,
     ) -> u64;
 
+    /// A din trace as a sheet.
+    pub fn segtrace_import_din(
+        trace: *const u8,
+        trace_length: usize,
+        k: u64,
+        sheet: *const u8,
+        sheet_length: usize,
+        out: *mut u8,
+        out_length: usize,
+        written: *mut u64,
+    ) -> u64;
+
     /// The eleven figures of a row.
     pub fn segtrace_figures(sheet: *const u8, sheet_length: usize, row: u64, figures: *mut u64) -> u64;
 

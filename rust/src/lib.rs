@@ -16,10 +16,12 @@
 //! ```
 
 pub mod c;
+mod importing;
 mod joining;
 mod recorder;
 mod refusal;
 
+pub use importing::{import_din, import_din_into};
 pub use joining::{join, join_into};
 pub use recorder::Recorder;
 pub use refusal::Refusal;

@@ -50,11 +50,17 @@ pub enum Refusal {
     BothTouch,
     /// Joining: together the sheets have more than 256 segments.
     TooManySegments,
+    /// Importing: k is not from 8 to 24.
+    PageOutOfRange,
+    /// Importing: a line of the trace is malformed.
+    TraceMalformed,
+    /// Importing: the trace has a 2,049th line or a 257th page.
+    TraceTooLong,
 }
 
 impl Refusal {
     /// All refusals, in the order of their numbers.
-    pub const ALL: [Refusal; 22] = [
+    pub const ALL: [Refusal; 25] = [
         Refusal::SheetTooLong,
         Refusal::LineMalformed,
         Refusal::ValueMalformed,
@@ -77,6 +83,9 @@ impl Refusal {
         Refusal::HeadsDiffer,
         Refusal::BothTouch,
         Refusal::TooManySegments,
+        Refusal::PageOutOfRange,
+        Refusal::TraceMalformed,
+        Refusal::TraceTooLong,
     ];
 
     /// The number of the refusal.
@@ -124,6 +133,9 @@ impl fmt::Display for Refusal {
             Refusal::HeadsDiffer => "kind, a or a row line differs",
             Refusal::BothTouch => "both sheets touch at one step",
             Refusal::TooManySegments => "together the sheets have more than 256 segments",
+            Refusal::PageOutOfRange => "k is not from 8 to 24",
+            Refusal::TraceMalformed => "a line of the trace is malformed",
+            Refusal::TraceTooLong => "the trace has a 2,049th line or a 257th page",
         })
     }
 }

@@ -3,6 +3,7 @@
 //!
 //! In each call the pointers come from slices, arrays and references, so they are valid, and the lent ones overlap nothing else.
 
+use crate::import;
 use crate::join;
 use crate::mistakes;
 use crate::wrong::{self, Call};
@@ -40,6 +41,17 @@ pub fn join(first: &[u8], second: &[u8], out: &mut [u8], written: &mut u64) -> u
         let (first_length, second_length) = (first.len(), second.len());
         let (place, length) = (out.as_mut_ptr(), out.len());
         c::segtrace_join(first.as_ptr(), first_length, second.as_ptr(), second_length, place, length, written)
+    })
+}
+
+pub fn import_din(trace: &[u8], k: u64, sheet: &[u8], out: &mut [u8], written: &mut u64) -> u64 {
+    if let Some(answer) = import::mistaken(trace, k, sheet) {
+        return wrong::put(answer, out, written);
+    }
+    wrong::lent(Call::ImportDin, out, written, |out, written| unsafe {
+        let (trace_length, sheet_length) = (trace.len(), sheet.len());
+        let (place, length) = (out.as_mut_ptr(), out.len());
+        c::segtrace_import_din(trace.as_ptr(), trace_length, k, sheet.as_ptr(), sheet_length, place, length, written)
     })
 }
 

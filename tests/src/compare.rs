@@ -53,6 +53,7 @@ impl Case<'_> {
         self.list_call::<u64, 1>("bill", Err(number), |[out]| calls::bill(bytes, row, rates, out))?;
         self.converters()?;
         self.joins()?;
+        self.imports()?;
         self.start_refused(number)?;
         self.wrapper_refused(number, row, reference, ceiling, &schedule)
     }
@@ -92,6 +93,7 @@ impl Case<'_> {
         self.converters()?;
         self.there_and_back(sheet)?;
         self.joins()?;
+        self.imports()?;
         if sheet.sizes.len() <= enumerate::MOST_SEGS && sheet.steps.len() <= enumerate::MOST_STEPS {
             self.demand_three(sheet)?;
         }

@@ -7,6 +7,7 @@ mod compare;
 mod crash;
 mod enumerate;
 mod generate;
+mod import;
 mod join;
 mod mistakes;
 mod place;

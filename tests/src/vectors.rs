@@ -3,6 +3,7 @@
 use crate::calls;
 use crate::compare::{done, ensure, Case, Outcome};
 use crate::generate::Prng;
+use crate::import;
 use crate::join;
 use crate::reference::{self, Figures, Kind, Row, Sheet};
 use crate::tally::Tally;
@@ -54,6 +55,7 @@ fn examples() -> Vec<(Vec<u8>, Check)> {
         list.push((sheet, Box::new(move |bytes| bill(bytes, rates, cents))));
     }
     list.extend(join::examples());
+    list.extend(import::examples());
     for (text, number) in verdicts() {
         list.push((text, Box::new(move |bytes| verdict(bytes, number))));
     }

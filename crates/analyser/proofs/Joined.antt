@@ -5,13 +5,12 @@ use mathlib.Core.Path.{_≡_, refl, sym, ap, _∙_}
 use mathlib.Core.List.{List}
 use native.Mathlib.Omega.{arith}
 use lib.ListN.{length}
-use Rattle.model.specs.Places.{Result, gives, refuses}
+use Rattle.model.specs.Places.{gives}
 use Rattle.model.specs.Rows.{rowFigures}
 use Rattle.model.specs.Sheets.{SheetValue, Valid, formBytes, newestForm, traceOf, rowIn, rowAt}
 use Rattle.model.specs.declared.PriceRow.{PriceRow}
 use Rattle.model.specs.declared.Verdict.the-variants.{Accepted}
-use Rattle.sheet.specs.Accepting.{onSheet}
-use Rattle.sheet.specs.Reading.{Outcome, accepted, rejected, readForms, readSheet}
+use Rattle.sheet.specs.Reading.{accepted, readForms, readSheet}
 use Rattle.sheet.specs.Writing.{sheetText}
 use Rattle.sheet.proofs.Accepted.{accepted-valid}
 use Rattle.sheet.proofs.Lengths.{text-within}
@@ -24,18 +23,7 @@ use Rattle.joining.proofs.Joining.{join-joined, join-accepted}
 use Rattle.analyser.specs.Answers.{figuresAnswer}
 use Rattle.analyser.specs.Joining.{jointResult, joinResult, FiguresAdd, JoinedFromBytes}
 use Rattle.analyser.proofs.Demand.{figures-are}
-
--- the text that a result gives; none for a refusal
-textIn : Result → List ℕ → List ℕ
-textIn (gives text) other = text
-textIn (refuses r) other = other
-
--- a result by what joining comes to
-given-accepted : (o : Outcome) (text : List ℕ) → onSheet o refuses (λ u. gives (sheetText u)) ≡ gives text
-    → (u : SheetValue) × (o ≡ accepted u) × (text ≡ sheetText u)
-unfolding textIn
-given-accepted (accepted u) text e = (u, refl, sym (ap (λ r. textIn r text) e))
-given-accepted (rejected r) text e = absurd (let z : _≡_ {A = ℕ} 0 1 = cc in omega arith)
+use Rattle.analyser.proofs.Given.{given-accepted}
 
 module _ (s1 s2 : List ℕ) (v w : SheetValue) (first : readForms 2 3 s1 ≡ accepted v) (second : readForms 2 3 s2 ≡ accepted w) where
   -- the call goes by what joining the two comes to

@@ -1,5 +1,6 @@
 pub mod Answers
 pub mod Demand
+pub mod Importing
 pub mod Joining
 pub mod Recording
 pub mod RoundTrip

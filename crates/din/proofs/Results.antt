@@ -22,23 +22,11 @@ use Rattle.sheet.proofs.RoundTrip.{written-then-read}
 use Rattle.din.specs.Lines.{Lines, end, line, linesOf, addressOf}
 use Rattle.din.specs.Pages.{Touched, touches, refused, pageOf, placeIn, firsts}
 use Rattle.din.specs.Pages.{firstsAfter, segmentsOf, tooMany, touchedFrom, touchedBy}
+use Rattle.din.specs.Traced.{andAddress, addresses, lineCount, pagesIn, pageAt, pagesBefore}
 use Rattle.din.specs.Import.{leastPower, largestPower, segmentCount, sheetOfPages, sheetOfTouched, touchedWith, imported}
 use Rattle.din.proofs.Firsts.{place-le, place-page, known, segments-length, segment-at, segment-before, firsts-absent}
 
 -- ---- the lines of a trace that is taken
-
--- the addresses of the lines, and how many lines there are
-abbrev pub andAddress : Option ℕ → List ℕ → List ℕ
-andAddress none l = l
-andAddress (some a) l = a ∷ l
-
-unfoldable pub addresses : Lines → List ℕ
-addresses (end s) = []
-addresses (line s more) = andAddress (addressOf s) (addresses more)
-
-unfoldable pub lineCount : Lines → ℕ
-lineCount (end s) = 0
-lineCount (line s more) = suc (lineCount more)
 
 -- the lines L after lines that touch the pages ps touch the pages qs in all: the page of each address, within the limits
 record Reached (k : ℕ) (ps : List ℕ) (L : Lines) (qs : List ℕ) : Type 0 where
@@ -141,16 +129,6 @@ pages-valid ps rows w rows-within =
     size : (i : ℕ) → i < segmentCount ps → _≡_ {A = ℕ} (getD (replicate (segmentCount ps) 1) i 0) 1
     size i lt = getD-replicate {A = ℕ} (segmentCount ps) i 1 0 lt
 
--- the page of each line, of the line at place t, and of the lines before that
-unfoldable pub pagesIn : ℕ → List ℕ → List ℕ
-pagesIn k trace = map (pageOf k) (addresses (linesOf trace))
-
-unfoldable pub pageAt : ℕ → List ℕ → ℕ → ℕ
-pageAt k trace t = getD (pagesIn k trace) t 0
-
-unfoldable pub pagesBefore : ℕ → List ℕ → ℕ → List ℕ
-pagesBefore k trace t = take t (pagesIn k trace)
-
 isAccepted : Outcome → Bool
 isAccepted (accepted v) = true
 isAccepted (rejected r) = false
@@ -198,6 +176,11 @@ module _ (k : ℕ) (trace : List ℕ) (rows : List PriceRow) (v : SheetValue) wh
 
     refs-long : length (v .refs) ≡ length (taken e .ps)
     refs-long = ap length refs-are ∙ segments-length (taken e .ps)
+
+    -- it is the sheet of the pages of the lines
+    pub imported-is : v ≡ sheetOfPages (pagesIn k trace) rows
+    unfolding pagesIn
+    imported-is = taken e .value ∙ ap (λ (ps : List ℕ). sheetOfPages ps rows) (all-reached .pages-are)
 
     -- with rows of a valid sheet the sheet is valid, and its text is read again as itself
     pub imported-valid : RowsWithin rows → Valid v

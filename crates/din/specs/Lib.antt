@@ -2,3 +2,4 @@ pub mod Held
 pub mod Import
 pub mod Lines
 pub mod Pages
+pub mod Traced
