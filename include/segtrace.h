@@ -17,8 +17,8 @@ extern "C" {
 #endif
 
 /*
- * The most bytes of a sheet (of form 1, of form 2, and of any form), of a listing, of two pages and of a schedule; the most rows and steps;
- * more stack than a call uses.
+ * The most bytes of a sheet (of form 1, of form 2, and of any form), of a listing, of two pages and of a schedule; the most rows, steps and
+ * segments; more stack than a call uses.
  * That no listing is longer is proved (`listing-most`, crates/report/proofs/ListingMost.antt): each figure with as many digits as it can
  * have.
  */
@@ -31,6 +31,7 @@ enum {
     SEGTRACE_SCHEDULE_BYTES = 65536,
     SEGTRACE_ROWS = 64,
     SEGTRACE_STEPS = 2048,
+    SEGTRACE_SEGS = 256,
     SEGTRACE_STACK_BYTES = 65536
 };
 
@@ -118,6 +119,16 @@ uint64_t segtrace_margin(const uint8_t *sheet, size_t sheet_length, uint64_t row
 
 /* The lowest row with the least load among the rows with optmem within the ceiling; the sheet's refusals, 12. */
 uint64_t segtrace_size(const uint8_t *sheet, size_t sheet_length, uint64_t ceiling, uint64_t *row);
+
+/*
+ * The misses of least-recently-used replacement with 1, 2, .., segs frames, at the front of `out`, and how many numbers, segs: for a sheet of
+ * any form with every size 1 and no warm segment, from stack distances in one pass. Idle steps play no part. The sheet's refusals, 26 where
+ * a size is not 1, 27 where a warm segment is named, 11. SEGTRACE_SEGS numbers always suffice.
+ */
+uint64_t segtrace_lru(const uint8_t *sheet, size_t sheet_length, uint64_t *out, size_t out_length, uint64_t *written);
+
+/* The same list, by simulating one memory for each number of frames in turn: slower by two orders of magnitude. The same refusals. */
+uint64_t segtrace_lru_plain(const uint8_t *sheet, size_t sheet_length, uint64_t *out, size_t out_length, uint64_t *written);
 
 /* The largest rate and the largest minimum of the loading tariff, in cents. */
 enum { SEGTRACE_MAX_RATE = 9999, SEGTRACE_MAX_MINIMUM = 99999 };

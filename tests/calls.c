@@ -42,6 +42,10 @@ static void without_pointers(void)
     expect("join", segtrace_join(NULL, 0, NULL, 0, NULL, 0, &written), 2);
     expect("import_din", segtrace_import_din(NULL, 0, 12, NULL, 0, NULL, 0, &written), 2);
     expect("import_din, no place", segtrace_import_din(NULL, 0, 12, none, none_length, NULL, 0, &written), 11);
+    expect("lru", segtrace_lru(NULL, 0, NULL, 0, &written), 2);
+    expect("lru_plain", segtrace_lru_plain(NULL, 0, NULL, 0, &written), 2);
+    expect("lru, no place", segtrace_lru(one, one_length, NULL, 0, &written), 11);
+    expect("lru_plain, no place", segtrace_lru_plain(one, one_length, NULL, 0, &written), 11);
     expect("figures", segtrace_figures(NULL, 0, 0, figures), 2);
     expect("all_figures", segtrace_all_figures(NULL, 0, NULL, 0, &written), 2);
     expect("listing", segtrace_listing(NULL, 0, NULL, 0, &written), 2);
@@ -180,6 +184,38 @@ static void imports(void)
     expect("its end", memcmp(again + written - 7, "refs=0\n", 7) != 0, 0);
 }
 
+/* The misses with every number of frames: of Belady's string, of 2,048 references to 256 segments by both engines, and refused with 26 and 27. */
+static void curves(void)
+{
+    static const char head[] = "form=3\nkind=time\na=0\nsegs=5\nsize=1\nsize=1\nsize=1\nsize=1\nsize=1\nrows=1\nrow=1/1\n";
+    static const uint64_t wanted[5] = {12, 12, 10, 8, 5};
+    static const char string[] = "012301401234";
+    static uint64_t list[SEGTRACE_SEGS], plain[SEGTRACE_SEGS];
+    char *at = (char *)other + sprintf((char *)other, "%swarm=0\nsteps=12\nrefs=12\n", head);
+    uint64_t written = 7;
+    int i;
+    for (i = 0; i < 12; i++)
+        at += sprintf(at, "ref=%c@%d\n", string[i], i + 1);
+    expect("lru", segtrace_lru(other, (size_t)(at - (char *)other), list, 5, &written), 0);
+    expect("how many", written, 5);
+    expect("the misses", memcmp(list, wanted, sizeof wanted) != 0, 0);
+    at = (char *)other + sprintf((char *)other, "%swarm=1\nhold=4\nsteps=0\nrefs=0\n", head);
+    expect("lru of a warm segment", segtrace_lru(other, (size_t)(at - (char *)other), list, 5, &written), 27);
+    expect("lru_plain of it", segtrace_lru_plain(other, (size_t)(at - (char *)other), list, 5, &written), 27);
+    expect("lru of sizes", segtrace_lru(sheet, sheet_length, list, SEGTRACE_SEGS, &written), 26);
+    expect("lru_plain of sizes", segtrace_lru_plain(sheet, sheet_length, list, SEGTRACE_SEGS, &written), 26);
+    at = (char *)other + sprintf((char *)other, "kind=time\na=0\nsegs=256\n");
+    for (i = 0; i < 256; i++)
+        at += sprintf(at, "size=1\n");
+    at += sprintf(at, "rows=1\nrow=1/1\nrefs=2048\n");
+    for (i = 0; i < 2048; i++)
+        at += sprintf(at, "ref=%d\n", (i * i + i / 5) % 256);
+    expect("lru", segtrace_lru(other, (size_t)(at - (char *)other), list, SEGTRACE_SEGS, &written), 0);
+    expect("how many", written, SEGTRACE_SEGS);
+    expect("lru_plain", segtrace_lru_plain(other, (size_t)(at - (char *)other), plain, SEGTRACE_SEGS, &written), 0);
+    expect("the same misses", memcmp(list, plain, sizeof list) != 0, 0);
+}
+
 /* Every call on the sheet. */
 static void calls_on_sheet(void)
 {
@@ -204,6 +240,7 @@ static void calls_on_sheet(void)
     expect("idle of a full recorder", segtrace_idle(&r), 13);
     expect("figures_now", segtrace_figures_now(&r, 63, figures), 0);
     imports();
+    curves();
 }
 
 /* Every call on the largest sheet of form 1, then on the same sheet in form 2, which is its largest too; and back; then on that of form 3,

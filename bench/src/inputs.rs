@@ -154,6 +154,18 @@ pub fn traces(count: usize, k: u64) -> Vec<Vec<u8>> {
     (0..count).map(trace).collect()
 }
 
+/// The sheets of an input with every size 1, of kind time and a=0.
+pub fn of_pages(input: &Input) -> Vec<Vec<u8>> {
+    let line = |line: &str| match line.split_once('=') {
+        Some(("kind", _)) => "kind=time\n".to_string(),
+        Some(("a", _)) => "a=0\n".to_string(),
+        Some(("size", _)) => "size=1\n".to_string(),
+        _ => format!("{line}\n"),
+    };
+    let text = |sheet: Vec<u8>| String::from_utf8(sheet).expect("text").lines().map(line).collect::<String>();
+    input.sheets().into_iter().map(|sheet| text(sheet).into_bytes()).collect()
+}
+
 /// R and w of every reuse.
 fn retentions(space: bool, a: u64, sizes: &[u64], refs: &[usize]) -> Vec<(u64, u64)> {
     let mut last = vec![None; sizes.len()];

@@ -5,6 +5,7 @@
 
 mod digits;
 pub mod figures;
+pub mod frames;
 pub mod listing;
 pub mod page;
 pub mod recorder;

@@ -1,6 +1,8 @@
 //! The calls of document 02, each beside what its line names. Times as in the first table.
 
-use crate::{inputs, times};
+use crate::inputs::{self, Input};
+use crate::times;
+use plain::{frames, Sheet};
 use std::hint::black_box;
 use std::time::Duration;
 
@@ -11,6 +13,7 @@ pub fn print(budget: Duration) {
     );
     join(budget);
     import(budget);
+    lru(budget);
 }
 
 fn line(
@@ -50,7 +53,7 @@ fn join(budget: Duration) {
 /// Traces of 2,048 lines and 256 pages, with the 64 rows of the largest sheets.
 fn import(budget: Duration) {
     const K: u64 = 12;
-    let sheets = inputs::Input::all()[0].sheets();
+    let sheets = Input::all()[0].sheets();
     let traces = inputs::traces(sheets.len(), K);
     let texts: Vec<Vec<u8>> = traces
         .iter()
@@ -70,4 +73,36 @@ fn import(budget: Duration) {
         reading(&texts, number);
     };
     line(budget, title, "reading it and the sheet of the rows", 16, both, &mut import);
+}
+
+/// Both engines on sheets of 256 segments of size 1 and 2,048 references, beside plain Rust of the same way.
+fn lru(budget: Duration) {
+    for input in &Input::all()[..3] {
+        let sheets = inputs::of_pages(input);
+        let pattern = format!("plain Rust, {}", format!("{:?}", input.pattern).to_lowercase());
+        engines(budget, "lru, from bytes", &pattern, &sheets, frames::lru, segtrace::lru_into);
+        // The plain engine takes milliseconds.
+        engines(budget, "lru_plain, from bytes", &pattern, &sheets[..1], frames::lru_plain, segtrace::lru_plain_into);
+    }
+}
+
+type Plain = fn(usize, &[u16], &mut [u64]);
+type Library = fn(&[u8], &mut [u64]) -> Result<usize, segtrace::Refusal>;
+
+fn engines(budget: Duration, operation: &str, beside: &str, sheets: &[Vec<u8>], plain: Plain, library: Library) {
+    let mut sheet = Sheet::empty();
+    let (mut ours, mut theirs) = ([0; segtrace::SEGS], [0; segtrace::SEGS]);
+    let mut from_bytes = |number: usize, out: &mut [u64]| {
+        sheet.read(black_box(&sheets[number])).expect("a sheet");
+        assert!(sheet.sizes().iter().all(|&size| size == 1), "pages");
+        plain(sheet.segs, sheet.references(), black_box(out));
+    };
+    for (number, bytes) in sheets.iter().enumerate() {
+        from_bytes(number, &mut ours);
+        assert!(library(bytes, &mut theirs) == Ok(segtrace::SEGS) && ours == theirs, "the curves differ");
+    }
+    let by_library = |number: usize| {
+        library(black_box(&sheets[number]), black_box(&mut theirs)).expect("room");
+    };
+    line(budget, operation, beside, sheets.len(), |number| from_bytes(number, &mut ours), by_library);
 }

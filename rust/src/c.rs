@@ -124,6 +124,24 @@ extern "C" {
     /// A row within a ceiling.
     pub fn segtrace_size(sheet: *const u8, sheet_length: usize, ceiling: u64, row: *mut u64) -> u64;
 
+    /// Misses with every number of frames, by stack distances.
+    pub fn segtrace_lru(
+        sheet: *const u8,
+        sheet_length: usize,
+        out: *mut u64,
+        out_length: usize,
+        written: *mut u64,
+    ) -> u64;
+
+    /// The same by simulation.
+    pub fn segtrace_lru_plain(
+        sheet: *const u8,
+        sheet_length: usize,
+        out: *mut u64,
+        out_length: usize,
+        written: *mut u64,
+    ) -> u64;
+
     /// Fills a recorder.
     pub fn segtrace_recorder_start(
         sheet: *const u8,

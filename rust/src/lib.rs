@@ -16,11 +16,13 @@
 //! ```
 
 pub mod c;
+mod curving;
 mod importing;
 mod joining;
 mod recorder;
 mod refusal;
 
+pub use curving::{lru, lru_into, lru_plain, lru_plain_into};
 pub use importing::{import_din, import_din_into};
 pub use joining::{join, join_into};
 pub use recorder::Recorder;
@@ -42,6 +44,8 @@ pub const SCHEDULE_BYTES: usize = 65_536;
 pub const ROWS: usize = 64;
 /// The most steps of a sheet or a recorder, and so the most references.
 pub const STEPS: usize = 2_048;
+/// The most segments of a sheet.
+pub const SEGS: usize = 256;
 
 /// The eleven figures of a row.
 #[derive(Clone, Copy, Debug, Default, PartialEq, Eq)]

@@ -56,11 +56,15 @@ pub enum Refusal {
     TraceMalformed,
     /// Importing: the trace has a 2,049th line or a 257th page.
     TraceTooLong,
+    /// A size is not 1.
+    SizeNotOne,
+    /// A warm segment is named.
+    WarmSegment,
 }
 
 impl Refusal {
     /// All refusals, in the order of their numbers.
-    pub const ALL: [Refusal; 25] = [
+    pub const ALL: [Refusal; 27] = [
         Refusal::SheetTooLong,
         Refusal::LineMalformed,
         Refusal::ValueMalformed,
@@ -86,6 +90,8 @@ impl Refusal {
         Refusal::PageOutOfRange,
         Refusal::TraceMalformed,
         Refusal::TraceTooLong,
+        Refusal::SizeNotOne,
+        Refusal::WarmSegment,
     ];
 
     /// The number of the refusal.
@@ -136,6 +142,8 @@ impl fmt::Display for Refusal {
             Refusal::PageOutOfRange => "k is not from 8 to 24",
             Refusal::TraceMalformed => "a line of the trace is malformed",
             Refusal::TraceTooLong => "the trace has a 2,049th line or a 257th page",
+            Refusal::SizeNotOne => "a size is not 1",
+            Refusal::WarmSegment => "a warm segment is named",
         })
     }
 }

@@ -3,6 +3,7 @@
 //!
 //! In each call the pointers come from slices, arrays and references, so they are valid, and the lent ones overlap nothing else.
 
+use crate::frames;
 use crate::import;
 use crate::join;
 use crate::mistakes;
@@ -52,6 +53,24 @@ pub fn import_din(trace: &[u8], k: u64, sheet: &[u8], out: &mut [u8], written: &
         let (trace_length, sheet_length) = (trace.len(), sheet.len());
         let (place, length) = (out.as_mut_ptr(), out.len());
         c::segtrace_import_din(trace.as_ptr(), trace_length, k, sheet.as_ptr(), sheet_length, place, length, written)
+    })
+}
+
+pub fn lru(sheet: &[u8], out: &mut [u64], written: &mut u64) -> u64 {
+    if let Some(answer) = frames::mistaken(Call::Lru, sheet) {
+        return wrong::put(answer, out, written);
+    }
+    wrong::lent(Call::Lru, out, written, |out, written| unsafe {
+        c::segtrace_lru(sheet.as_ptr(), sheet.len(), out.as_mut_ptr(), out.len(), written)
+    })
+}
+
+pub fn lru_plain(sheet: &[u8], out: &mut [u64], written: &mut u64) -> u64 {
+    if let Some(answer) = frames::mistaken(Call::LruPlain, sheet) {
+        return wrong::put(answer, out, written);
+    }
+    wrong::lent(Call::LruPlain, out, written, |out, written| unsafe {
+        c::segtrace_lru_plain(sheet.as_ptr(), sheet.len(), out.as_mut_ptr(), out.len(), written)
     })
 }
 

@@ -54,6 +54,7 @@ impl Case<'_> {
         self.converters()?;
         self.joins()?;
         self.imports()?;
+        self.frames()?;
         self.start_refused(number)?;
         self.wrapper_refused(number, row, reference, ceiling, &schedule)
     }
@@ -94,6 +95,7 @@ impl Case<'_> {
         self.there_and_back(sheet)?;
         self.joins()?;
         self.imports()?;
+        self.frames()?;
         if sheet.sizes.len() <= enumerate::MOST_SEGS && sheet.steps.len() <= enumerate::MOST_STEPS {
             self.demand_three(sheet)?;
         }

@@ -6,6 +6,7 @@ mod calls;
 mod compare;
 mod crash;
 mod enumerate;
+mod frames;
 mod generate;
 mod import;
 mod join;

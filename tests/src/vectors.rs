@@ -2,6 +2,7 @@
 
 use crate::calls;
 use crate::compare::{done, ensure, Case, Outcome};
+use crate::frames;
 use crate::generate::Prng;
 use crate::import;
 use crate::join;
@@ -56,6 +57,7 @@ fn examples() -> Vec<(Vec<u8>, Check)> {
     }
     list.extend(join::examples());
     list.extend(import::examples());
+    list.extend(frames::examples());
     for (text, number) in verdicts() {
         list.push((text, Box::new(move |bytes| verdict(bytes, number))));
     }

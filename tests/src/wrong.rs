@@ -1,5 +1,6 @@
 //! Wrong answers, put in behind a call one at a time to show that the tests find them.
 
+use crate::frames;
 use crate::import;
 use crate::join;
 use crate::mistakes;
@@ -15,6 +16,8 @@ pub enum Call {
     ToForm1,
     Join,
     ImportDin,
+    Lru,
+    LruPlain,
     Figures,
     AllFigures,
     Listing,
@@ -97,12 +100,14 @@ pub enum Way {
 }
 
 /// Wrong ways of every call with a lent place, and of every call with a list of fixed length.
-const PLACE_CALLS: [Call; 9] = [
+const PLACE_CALLS: [Call; 11] = [
     Call::Rewrite,
     Call::ToForm2,
     Call::ToForm1,
     Call::Join,
     Call::ImportDin,
+    Call::Lru,
+    Call::LruPlain,
     Call::AllFigures,
     Call::Listing,
     Call::Page,
@@ -187,7 +192,7 @@ const OTHERS: [(Call, Way); 57] = [
 pub fn all() -> Vec<(Call, Way)> {
     let of_places = PLACE_CALLS.into_iter().flat_map(|call| PLACE_WAYS.map(|way| (call, way)));
     let of_lists = LIST_CALLS.into_iter().flat_map(|call| LIST_WAYS.map(|way| (call, way)));
-    of_places.chain(of_lists).chain(OTHERS).chain(join::WRONG).chain(import::WRONG).collect()
+    of_places.chain(of_lists).chain(OTHERS).chain(join::WRONG).chain(import::WRONG).chain(frames::WRONG).collect()
 }
 
 /// The place in the list of the wrong answer that is put in.

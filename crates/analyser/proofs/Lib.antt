@@ -1,8 +1,10 @@
 pub mod Demand
 pub mod Given
+pub mod GivenLists
 pub mod Handed
 pub mod Imported
 pub mod Joined
+pub mod LruFromBytes
 pub mod MarginSigns
 pub mod Printing
 pub mod RoundTrips

@@ -1,4 +1,5 @@
 pub mod Answers
+pub mod Curving
 pub mod Demand
 pub mod Importing
 pub mod Joining

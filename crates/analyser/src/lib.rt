@@ -3,6 +3,7 @@
 // What each call answers is written in specs/ here and in the crates below; nothing is assumed.
 pub mod billing;
 pub mod converting;
+pub mod curving;
 pub mod importing;
 pub mod margins;
 pub mod pairing;

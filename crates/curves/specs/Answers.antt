@@ -2,7 +2,7 @@
 use Prim.Native.Nat.{ℕ, _*_, _≤_}
 use mathlib.Core.Path.{_≡_}
 use mathlib.Core.List.{List}
-use Rattle.model.specs.Places.{Result, answerFor, placeFor}
+use Rattle.model.specs.Places.{Result, nothingPlaced, PlaceLeft}
 use Rattle.model.specs.Sheets.{SheetValue, traceOf}
 use Rattle.model.specs.Traces.{steps, refsOf}
 use Rattle.model.specs.declared.Refusal.{Refusal}
@@ -15,7 +15,7 @@ use Rattle.curves.specs.declared.CurveAnswer.{CurveAnswer}
 
 -- no list: 0 beside the refusal
 abbrev pub noCurve : Refusal → CurveAnswer
-noCurve r = record { verdict = Refused r; looked = 0 }
+noCurve r = record { placed = nothingPlaced r; looked = 0 }
 
 -- the list of a sheet, by distances and by simulation: 26 where a size is not 1, then 27 where a segment is warm
 unfoldable pub curveFor : SheetValue → Result
@@ -31,12 +31,6 @@ lookedFor v (Refused r) = 0
 
 -- what the call by distances answers, and what the place is before and after it
 pub record CurveLeft (v : SheetValue) (place place' : List ℕ) (answer : CurveAnswer) : Type 0 where
-  pub verdict-is : answer .verdict ≡ answerFor (curveFor v) place .verdict
-  pub place-is : place' ≡ placeFor (curveFor v) place
-  pub looked-is : answer .looked ≡ lookedFor v (answer .verdict)
+  pub left : PlaceLeft (curveFor v) place place' (answer .placed)
+  pub looked-is : answer .looked ≡ lookedFor v (answer .placed .verdict)
   pub bounded : answer .looked ≤ refsOf (traceOf v) * distinct (traceOf v) (steps (traceOf v))
-
--- and the call by simulation
-pub record PlainLeft (v : SheetValue) (place place' : List ℕ) (verdict : Verdict) : Type 0 where
-  pub verdict-is : verdict ≡ answerFor (plainFor v) place .verdict
-  pub place-is : place' ≡ placeFor (plainFor v) place

@@ -1,16 +1,18 @@
 // The misses of an accepted sheet with 1, 2, .., segs frames, by either engine, into a lent place.
 // What is answered is written in specs/Answers.antt, what the misses are in crate `lru`; nothing is assumed.
+use model::PlaceAnswer;
 use model::Refusal;
 use model::Sheet;
 use model::Verdict;
 ghost use mathlib.Core.Path.{_≡_};
+ghost use Rattle.model.specs.Places.{PlaceLeft};
 ghost use Rattle.model.specs.Standing.{Standing};
 ghost use Rattle.model.specs.Values.{valueOf};
-ghost use Rattle.curves.specs.Answers.{noCurve, CurveLeft, PlainLeft};
+ghost use Rattle.curves.specs.Answers.{noCurve, plainFor, CurveLeft};
 
-// Whether the list of misses was written, and the entries looked at, 0 where it was not.
+// Whether the list of misses was written and how long it is, and the entries looked at, 0 where it was not.
 pub struct CurveAnswer {
-    pub verdict: Verdict,
+    pub placed: PlaceAnswer,
     pub looked: u64,
 }
 
@@ -19,7 +21,10 @@ pub fn no_curve(why: Refusal) -> CurveAnswer
     ensures { λ r. ⌜ r ≡ noCurve why ⌝ }
 {
     CurveAnswer {
-        verdict: Verdict::Refused(why),
+        placed: PlaceAnswer {
+            verdict: Verdict::Refused(why),
+            length: 0,
+        },
         looked: 0,
     }
 }
@@ -43,7 +48,10 @@ pub fn sheet_curve(s: Sheet, out: &mut [u64]) -> CurveAnswer
             }
             let looked = frames::distances::curve(&sizes[..segs], &touches[..steps], out);
             CurveAnswer {
-                verdict: Verdict::Accepted,
+                placed: PlaceAnswer {
+                    verdict: Verdict::Accepted,
+                    length: segs,
+                },
                 looked: looked,
             }
         }
@@ -51,9 +59,9 @@ pub fn sheet_curve(s: Sheet, out: &mut [u64]) -> CurveAnswer
 }
 
 // The same list, each number of frames simulated in turn: 26, 27, 11.
-pub fn sheet_curve_plain(s: Sheet, place: &mut [u64]) -> Verdict
+pub fn sheet_curve_plain(s: Sheet, place: &mut [u64]) -> PlaceAnswer
     requires { ⌜ Standing s ⌝ }
-    ensures { λ r. ⌜ PlainLeft (valueOf s) (now (place .entry)) (now (place .exit)) r ⌝ }
+    ensures { λ r. ⌜ PlaceLeft (plainFor (valueOf s)) (now (place .entry)) (now (place .exit)) r ⌝ }
 {
     let head = s.head;
     let segs = head.segs;
@@ -62,13 +70,16 @@ pub fn sheet_curve_plain(s: Sheet, place: &mut [u64]) -> Verdict
     let sizes = head.sizes;
     let touches = s.touches;
     match frames::ones_verdict(&sizes[..segs], warm) {
-        Verdict::Refused(why) => Verdict::Refused(why),
+        Verdict::Refused(why) => PlaceAnswer::refused(why),
         Verdict::Accepted => {
             if place.len() < segs {
-                return Verdict::Refused(Refusal::PlaceTooShort);
+                return PlaceAnswer::refused(Refusal::PlaceTooShort);
             }
             frames::plain::curve(&sizes[..segs], &touches[..steps], place);
-            Verdict::Accepted
+            PlaceAnswer {
+                verdict: Verdict::Accepted,
+                length: segs,
+            }
         }
     }
 }

@@ -27,10 +27,11 @@ slice-aggregate-ones-verdict c = sym (length-take-le _ _ (omega (arith, c .befor
 
 returns : tie.Need-returns
 returns c =
-    let a = c .before .before .before in
+    let t = c .before in
+    let a = t .before .before .before in
     let s = Begin a in
     let n = segs-counted (s .args .s) (s .pre) in
-    plain-short (valueOf (s .args .s)) _ (sym (ones-are a) ∙ cc) (omega (arith, c .if1 .taken))
+    rw (c .refused2 .ensures) (plain-short (valueOf (s .args .s)) _ (sym (ones-are a) ∙ cc) (omega (arith, t .if1 .taken)))
 
 array-share-prefix-sizes-2 : tie.Need-array-share-prefix-sizes-2
 array-share-prefix-sizes-2 c = omega (arith, Begin (c .before .before .before) .pre)
@@ -55,8 +56,8 @@ curve-requires c κs =
 
 returns-2 : tie.Need-returns-2
 returns-2 c =
-    let a = c .before .before .before in
-    plain-refused (valueOf (Begin a .args .s)) _ _ (sym (ones-are a) ∙ cc)
+    let a = c .before .before .before .before in
+    rw (c .refused .ensures) (plain-refused (valueOf (Begin a .args .s)) _ _ (sym (ones-are a) ∙ cc))
 
 returns-3 : tie.Need-returns-3
 unfolding valueOf headValueOf
@@ -65,7 +66,7 @@ returns-3 c =
     let a = e .before .before .before in
     let s = Begin a in
     let n = segs-counted (s .args .s) (s .pre) in
-    plain-placed (valueOf (s .args .s)) _ (sym (ones-are a) ∙ cc) _ (omega (arith, e .if1 .left)) (c .before .before .curve .ensures)
+    plain-placed (valueOf (s .args .s)) _ (sym (ones-are a) ∙ cc) _ (omega (arith, e .if1 .left)) _ (sym n) (c .before .before .curve .ensures)
 
 pub sheet-curve-plain-spec : {M : Type 1} → statement M
 sheet-curve-plain-spec =
@@ -75,7 +76,9 @@ sheet-curve-plain-spec =
     slice-aggregate-ones-verdict
     (λ c κs. search needs)
     (λ c. search needs)
+    (λ c κs. search needs)
     (λ c. search needs)
+    (λ c κs. search needs)
     returns
     array-share-prefix-sizes-2
     slice-aggregate-curve
