@@ -34,7 +34,7 @@ static void without_pointers(void)
     static const char once[] = "kind=time\na=0\nsegs=1\nsize=1\nrows=1\nrow=1/1\nrefs=1\nref=0\n";
     const uint8_t *none = (const uint8_t *)text, *one = (const uint8_t *)once;
     size_t none_length = sizeof text - 1, one_length = sizeof once - 1;
-    uint64_t figures[SEGTRACE_FIGURES], price[SEGTRACE_PRICE], written = 7, row;
+    uint64_t figures[SEGTRACE_FIGURES], price[SEGTRACE_PRICE], written = 7, looked = 7, row;
     int64_t margin;
     segtrace_recorder r;
     expect("check", segtrace_check(NULL, 0), 2);
@@ -42,9 +42,9 @@ static void without_pointers(void)
     expect("join", segtrace_join(NULL, 0, NULL, 0, NULL, 0, &written), 2);
     expect("import_din", segtrace_import_din(NULL, 0, 12, NULL, 0, NULL, 0, &written), 2);
     expect("import_din, no place", segtrace_import_din(NULL, 0, 12, none, none_length, NULL, 0, &written), 11);
-    expect("lru", segtrace_lru(NULL, 0, NULL, 0, &written), 2);
+    expect("lru", segtrace_lru(NULL, 0, NULL, 0, &written, &looked), 2);
     expect("lru_plain", segtrace_lru_plain(NULL, 0, NULL, 0, &written), 2);
-    expect("lru, no place", segtrace_lru(one, one_length, NULL, 0, &written), 11);
+    expect("lru, no place", segtrace_lru(one, one_length, NULL, 0, &written, &looked), 11);
     expect("lru_plain, no place", segtrace_lru_plain(one, one_length, NULL, 0, &written), 11);
     expect("figures", segtrace_figures(NULL, 0, 0, figures), 2);
     expect("all_figures", segtrace_all_figures(NULL, 0, NULL, 0, &written), 2);
@@ -61,6 +61,7 @@ static void without_pointers(void)
     expect("optimal_schedule, no place", segtrace_optimal_schedule(one, one_length, 0, NULL, 0, &written), 11);
     expect("price, no schedule", segtrace_price(one, one_length, 0, NULL, 0, price), 8);
     expect("written", written, 7);
+    expect("looked", looked, 7);
     expect("optimal_schedule of no references", segtrace_optimal_schedule(none, none_length, 0, NULL, 0, &written), 0);
     expect("its length", written, 0);
     expect("price of no references", segtrace_price(none, none_length, 0, NULL, 0, price), 0);
@@ -192,17 +193,19 @@ static void curves(void)
     static const char string[] = "012301401234";
     static uint64_t list[SEGTRACE_SEGS], plain[SEGTRACE_SEGS];
     char *at = (char *)other + sprintf((char *)other, "%swarm=0\nsteps=12\nrefs=12\n", head);
-    uint64_t written = 7;
+    uint64_t written = 7, looked = 7;
     int i;
     for (i = 0; i < 12; i++)
         at += sprintf(at, "ref=%c@%d\n", string[i], i + 1);
-    expect("lru", segtrace_lru(other, (size_t)(at - (char *)other), list, 5, &written), 0);
+    expect("lru", segtrace_lru(other, (size_t)(at - (char *)other), list, 5, &written, &looked), 0);
     expect("how many", written, 5);
+    expect("entries looked at", looked, 39);
     expect("the misses", memcmp(list, wanted, sizeof wanted) != 0, 0);
     at = (char *)other + sprintf((char *)other, "%swarm=1\nhold=4\nsteps=0\nrefs=0\n", head);
-    expect("lru of a warm segment", segtrace_lru(other, (size_t)(at - (char *)other), list, 5, &written), 27);
+    expect("lru of a warm segment", segtrace_lru(other, (size_t)(at - (char *)other), list, 5, &written, &looked), 27);
     expect("lru_plain of it", segtrace_lru_plain(other, (size_t)(at - (char *)other), list, 5, &written), 27);
-    expect("lru of sizes", segtrace_lru(sheet, sheet_length, list, SEGTRACE_SEGS, &written), 26);
+    expect("lru of sizes", segtrace_lru(sheet, sheet_length, list, SEGTRACE_SEGS, &written, &looked), 26);
+    expect("looked", looked, 39);
     expect("lru_plain of sizes", segtrace_lru_plain(sheet, sheet_length, list, SEGTRACE_SEGS, &written), 26);
     at = (char *)other + sprintf((char *)other, "kind=time\na=0\nsegs=256\n");
     for (i = 0; i < 256; i++)
@@ -210,7 +213,7 @@ static void curves(void)
     at += sprintf(at, "rows=1\nrow=1/1\nrefs=2048\n");
     for (i = 0; i < 2048; i++)
         at += sprintf(at, "ref=%d\n", (i * i + i / 5) % 256);
-    expect("lru", segtrace_lru(other, (size_t)(at - (char *)other), list, SEGTRACE_SEGS, &written), 0);
+    expect("lru", segtrace_lru(other, (size_t)(at - (char *)other), list, SEGTRACE_SEGS, &written, &looked), 0);
     expect("how many", written, SEGTRACE_SEGS);
     expect("lru_plain", segtrace_lru_plain(other, (size_t)(at - (char *)other), plain, SEGTRACE_SEGS, &written), 0);
     expect("the same misses", memcmp(list, plain, sizeof list) != 0, 0);

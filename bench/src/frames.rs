@@ -1,14 +1,16 @@
 //! The misses of least-recently-used replacement with every number of frames.
 
-/// The misses with 1, 2, .., segs frames, from stack distances in one pass over the references.
-pub fn lru(segs: usize, refs: &[u16], out: &mut [u64]) {
+/// The misses with 1, 2, .., segs frames, from stack distances in one pass over the references. Gives the entries looked at.
+pub fn lru(segs: usize, refs: &[u16], out: &mut [u64]) -> u64 {
     let mut recent = [0; 256];
     let mut length = 0;
     // At each place of the list how many touches were found there; first touches in the last.
     let mut found = [0; 257];
+    let mut looked = 0;
     for &segment in refs {
         let place = recent[..length].iter().position(|&other| other == segment);
         found[place.unwrap_or(256)] += 1;
+        looked += place.map_or(length, |place| place + 1) as u64;
         if place.is_none() {
             recent[length] = segment;
             length += 1;
@@ -20,10 +22,11 @@ pub fn lru(segs: usize, refs: &[u16], out: &mut [u64]) {
         out[frames] = misses;
         misses += found[frames];
     }
+    looked
 }
 
-/// The same by simulating one memory for each number of frames in turn.
-pub fn lru_plain(segs: usize, refs: &[u16], out: &mut [u64]) {
+/// The same misses by simulating one memory for each number of frames in turn. Gives 0.
+pub fn lru_plain(segs: usize, refs: &[u16], out: &mut [u64]) -> u64 {
     for frames in 1..=segs {
         let mut memory = [0; 256];
         let mut held = 0;
@@ -39,4 +42,5 @@ pub fn lru_plain(segs: usize, refs: &[u16], out: &mut [u64]) {
         }
         out[frames - 1] = misses;
     }
+    0
 }

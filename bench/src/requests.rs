@@ -82,12 +82,15 @@ fn lru(budget: Duration) {
         let pattern = format!("plain Rust, {}", format!("{:?}", input.pattern).to_lowercase());
         engines(budget, "lru, from bytes", &pattern, &sheets, frames::lru, segtrace::lru_into);
         // The plain engine takes milliseconds.
-        engines(budget, "lru_plain, from bytes", &pattern, &sheets[..1], frames::lru_plain, segtrace::lru_plain_into);
+        engines(budget, "lru_plain, from bytes", &pattern, &sheets[..1], frames::lru_plain, |sheet, out| {
+            Ok((segtrace::lru_plain_into(sheet, out)?, 0))
+        });
     }
 }
 
-type Plain = fn(usize, &[u16], &mut [u64]);
-type Library = fn(&[u8], &mut [u64]) -> Result<usize, segtrace::Refusal>;
+/// Each fills a place with the misses and gives the entries looked at, the plain engine 0.
+type Plain = fn(usize, &[u16], &mut [u64]) -> u64;
+type Library = fn(&[u8], &mut [u64]) -> Result<(usize, u64), segtrace::Refusal>;
 
 fn engines(budget: Duration, operation: &str, beside: &str, sheets: &[Vec<u8>], plain: Plain, library: Library) {
     let mut sheet = Sheet::empty();
@@ -95,14 +98,15 @@ fn engines(budget: Duration, operation: &str, beside: &str, sheets: &[Vec<u8>], 
     let mut from_bytes = |number: usize, out: &mut [u64]| {
         sheet.read(black_box(&sheets[number])).expect("a sheet");
         assert!(sheet.sizes().iter().all(|&size| size == 1), "pages");
-        plain(sheet.segs, sheet.references(), black_box(out));
+        plain(sheet.segs, sheet.references(), black_box(out))
     };
     for (number, bytes) in sheets.iter().enumerate() {
-        from_bytes(number, &mut ours);
-        assert!(library(bytes, &mut theirs) == Ok(segtrace::SEGS) && ours == theirs, "the curves differ");
+        let looked = from_bytes(number, &mut ours);
+        assert!(library(bytes, &mut theirs) == Ok((segtrace::SEGS, looked)) && ours == theirs, "the curves differ");
     }
     let by_library = |number: usize| {
-        library(black_box(&sheets[number]), black_box(&mut theirs)).expect("room");
+        black_box(library(black_box(&sheets[number]), black_box(&mut theirs)).expect("room"));
     };
-    line(budget, operation, beside, sheets.len(), |number| from_bytes(number, &mut ours), by_library);
+    let plain = |number| _ = black_box(from_bytes(number, &mut ours));
+    line(budget, operation, beside, sheets.len(), plain, by_library);
 }

@@ -124,13 +124,14 @@ extern "C" {
     /// A row within a ceiling.
     pub fn segtrace_size(sheet: *const u8, sheet_length: usize, ceiling: u64, row: *mut u64) -> u64;
 
-    /// Misses with every number of frames, by stack distances.
+    /// Misses with every number of frames, by stack distances, and the entries looked at.
     pub fn segtrace_lru(
         sheet: *const u8,
         sheet_length: usize,
         out: *mut u64,
         out_length: usize,
         written: *mut u64,
+        looked: *mut u64,
     ) -> u64;
 
     /// The same by simulation.

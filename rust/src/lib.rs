@@ -22,7 +22,7 @@ mod joining;
 mod recorder;
 mod refusal;
 
-pub use curving::{lru, lru_into, lru_plain, lru_plain_into};
+pub use curving::{lru, lru_into, lru_plain, lru_plain_into, Lru};
 pub use importing::{import_din, import_din_into};
 pub use joining::{join, join_into};
 pub use recorder::Recorder;

@@ -56,13 +56,13 @@ pub fn import_din(trace: &[u8], k: u64, sheet: &[u8], out: &mut [u8], written: &
     })
 }
 
-pub fn lru(sheet: &[u8], out: &mut [u64], written: &mut u64) -> u64 {
-    if let Some(answer) = frames::mistaken(Call::Lru, sheet) {
-        return wrong::put(answer, out, written);
-    }
-    wrong::lent(Call::Lru, out, written, |out, written| unsafe {
-        c::segtrace_lru(sheet.as_ptr(), sheet.len(), out.as_mut_ptr(), out.len(), written)
-    })
+pub fn lru(sheet: &[u8], out: &mut [u64], written: &mut u64, looked: &mut u64) -> u64 {
+    let returned = wrong::lent(Call::Lru, out, written, |out, written| match frames::mistaken(Call::Lru, sheet) {
+        Some(answer) => wrong::put(answer, out, written),
+        None => unsafe { c::segtrace_lru(sheet.as_ptr(), sheet.len(), out.as_mut_ptr(), out.len(), written, looked) },
+    });
+    frames::mistaken_looked(sheet, returned, looked);
+    returned
 }
 
 pub fn lru_plain(sheet: &[u8], out: &mut [u64], written: &mut u64) -> u64 {

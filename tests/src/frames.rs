@@ -1,5 +1,5 @@
-//! LRU frames (F-9): the second implementation, a simulation with time stamps, against both calls; sheets of sizes 1, examples worked by
-//! hand, and wrong answers.
+//! LRU frames (F-9) and how far the list is walked (F-10): the second implementation, a simulation with time stamps, against both calls;
+//! sheets of sizes 1, examples worked by hand, and wrong answers.
 
 use crate::calls;
 use crate::compare::{ensure, Case, Outcome};
@@ -7,6 +7,7 @@ use crate::generate::Prng;
 use crate::reference::{self, Kind, Row, Sheet};
 use crate::vectors::Check;
 use crate::wrong::{self, Call, Way};
+use std::cell::RefCell;
 
 // ---- The second implementation ----
 
@@ -53,6 +54,30 @@ fn misses(segs: usize, touches: &[usize], frames: usize) -> u64 {
     misses
 }
 
+/// The entries of the recency list that the pass of a sheet looks at, 0 where it is refused.
+fn looked(bytes: &[u8]) -> u64 {
+    let sheet = reference::read(bytes).and_then(of_pages);
+    sheet.map_or(0, |sheet| entries(&touches(&sheet)).iter().sum())
+}
+
+/// The entries that each touch looks at: the distinct segments touched since the last touch of its own, which counts too, or all that were
+/// touched before.
+fn entries(touches: &[usize]) -> Vec<u64> {
+    let count = |(time, segment)| {
+        let last = touches[..time].iter().rposition(|other| other == segment);
+        distinct(&touches[last.unwrap_or(0)..time])
+    };
+    touches.iter().enumerate().map(count).collect()
+}
+
+/// How many segments there are among some touches.
+fn distinct(touches: &[usize]) -> u64 {
+    let mut segments = touches.to_vec();
+    segments.sort_unstable();
+    segments.dedup();
+    segments.len() as u64
+}
+
 // ---- Sheets ----
 
 impl Case<'_> {
@@ -75,13 +100,16 @@ impl Case<'_> {
         let want = lru(bytes);
         let shown = |message| format!("{message}; the sheet of sizes 1:\n{}", bytes.escape_ascii());
         let answer = want.as_deref().map_err(|&number| number);
-        self.call("lru", answer, |out, written| calls::lru(bytes, out, written)).map_err(shown)?;
+        self.walk(bytes, answer).map_err(shown)?;
         self.call("lru_plain", answer, |out, written| calls::lru_plain(bytes, out, written)).map_err(shown)?;
         if self.prng.one_in(4) {
             let exact = want.as_ref().map_or(0, Vec::len);
             let length = want.clone().map(|list| list.len());
-            self.safe("lru", segtrace::lru(bytes), want.clone()).map_err(shown)?;
-            self.safe("lru_into", segtrace::lru_into(bytes, &mut vec![0; exact]), length).map_err(shown)?;
+            let looked = looked(bytes);
+            let curve = want.clone().map(|misses| segtrace::Lru { misses, looked });
+            self.safe("lru", segtrace::lru(bytes), curve).map_err(shown)?;
+            let both = length.map(|length| (length, looked));
+            self.safe("lru_into", segtrace::lru_into(bytes, &mut vec![0; exact]), both).map_err(shown)?;
             self.safe("lru_plain", segtrace::lru_plain(bytes), want.clone()).map_err(shown)?;
             self.safe("lru_plain_into", segtrace::lru_plain_into(bytes, &mut vec![0; exact]), length).map_err(shown)?;
         }
@@ -90,18 +118,33 @@ impl Case<'_> {
             Err(_) => Ok(()),
         }
     }
+
+    /// The pass, and the entries that it looks at: none are reported where it is refused.
+    fn walk(&mut self, bytes: &[u8], answer: Result<&[u64], u64>) -> Outcome {
+        let old = self.prng.next();
+        let reports = RefCell::new(Vec::new());
+        self.call("lru", answer, |out, written| {
+            let mut looked = old;
+            let returned = calls::lru(bytes, out, written, &mut looked);
+            reports.borrow_mut().push((returned, looked));
+            returned
+        })?;
+        let want = looked(bytes);
+        let wrong =
+            reports.into_inner().into_iter().find(|&(number, looked)| looked != if number == 0 { want } else { old });
+        ensure(wrong.is_none(), || format!("lru, entries looked at: {wrong:?}, wanted {want}, {old} where refused"))
+    }
 }
 
-/// The misses fall with the frames, down to one for each segment touched.
+/// The misses fall with the frames, down to one for each segment touched; and the entries looked at are within their bound.
 fn falls(bytes: &[u8], list: &[u64]) -> Outcome {
-    let mut touched = touches(&reference::read(bytes).expect("a sheet"));
-    touched.sort_unstable();
-    touched.dedup();
-    let least = touched.len() as u64;
+    let touched = touches(&reference::read(bytes).expect("a sheet"));
+    let least = distinct(&touched);
     ensure(list.windows(2).all(|pair| pair[0] >= pair[1]), || "the reference's misses rise".to_string())?;
-    ensure(list[touched.len().saturating_sub(1)..].iter().all(|&misses| misses == least), || {
+    ensure(list[(least as usize).saturating_sub(1)..].iter().all(|&misses| misses == least), || {
         "the reference misses more than each segment once".to_string()
-    })
+    })?;
+    ensure(looked(bytes) <= touched.len() as u64 * least, || "the reference looks too far".to_string())
 }
 
 /// The sheet with every size 1 and no warm segment, in any form that it can have.
@@ -144,35 +187,37 @@ const BELADY: &[usize] = &[0, 1, 2, 3, 0, 1, 4, 0, 1, 2, 3, 4];
 /// Four segments in turn, three times.
 const ROUND: &[usize] = &[0, 1, 2, 3, 0, 1, 2, 3, 0, 1, 2, 3];
 
-/// Strings of references and their misses with 1, 2, .. frames.
-fn curves() -> Vec<(usize, &'static [usize], &'static [u64])> {
+/// Strings of references, their misses with 1, 2, .. frames, and the entries looked at.
+fn curves() -> Vec<(usize, &'static [usize], &'static [u64], u64)> {
     vec![
-        (5, PAPER, &[13, 11, 9, 7, 5]),
+        (5, PAPER, &[13, 11, 9, 7, 5], 39),
         // First in, first out has 9 misses with 3 frames and 10 with 4.
-        (5, BELADY, &[12, 12, 10, 8, 5]),
+        // The touches look at 0 1 2 3, 4 4, 4 (a first one), 3 3 5 5 5 entries.
+        (5, BELADY, &[12, 12, 10, 8, 5], 39),
         // Segments that are never touched have numbers too.
-        (7, BELADY, &[12, 12, 10, 8, 5, 5, 5]),
-        // One frame too few misses every time.
-        (4, ROUND, &[12, 12, 12, 4]),
-        (1, &[], &[0]),
-        (3, &[], &[0, 0, 0]),
-        (1, &[0, 0, 0], &[1]),
-        (2, &[1, 1, 1], &[1, 1]),
-        (2, &[0, 1, 0, 1, 1], &[4, 2]),
+        (7, BELADY, &[12, 12, 10, 8, 5, 5, 5], 39),
+        // One frame too few misses every time, and the whole list is looked at: 0 1 2 3, then 4 each.
+        (4, ROUND, &[12, 12, 12, 4], 38),
+        (1, &[], &[0], 0),
+        (3, &[], &[0, 0, 0], 0),
+        // The very first touch looks at nothing, a repeated one at one entry.
+        (1, &[0, 0, 0], &[1], 2),
+        (2, &[1, 1, 1], &[1, 1], 2),
+        (2, &[0, 1, 0, 1, 1], &[4, 2], 6),
     ]
 }
 
 pub fn examples() -> Vec<(Vec<u8>, Check)> {
     let mut list: Vec<(Vec<u8>, Check)> = Vec::new();
-    for (segs, touches, want) in curves() {
+    for (segs, touches, want, looked) in curves() {
         for form in 1..=3 {
-            let want = Ok(want.to_vec());
+            let want = Ok((want.to_vec(), looked));
             list.push((string(form, segs, touches), Box::new(move |bytes| gives(bytes, &want))));
         }
     }
     // The trace of examples/aligner.din with pages of 4,096 bytes.
     let aligner: &[u8] = include_bytes!("../../examples/aligner.sheet");
-    list.push((aligner.to_vec(), Box::new(|bytes| gives(bytes, &Ok(vec![39, 36, 26, 18, 12, 7, 7])))));
+    list.push((aligner.to_vec(), Box::new(|bytes| gives(bytes, &Ok((vec![39, 36, 26, 18, 12, 7, 7], 151))))));
     for (sizes, warm, number) in
         [([1, 2], 0, 26), ([2, 1], 0, 26), ([1, 1], 1, 27), ([1, 2], 1, 26), ([4_095, 1], 2, 26)]
     {
@@ -185,16 +230,15 @@ pub fn examples() -> Vec<(Vec<u8>, Check)> {
     list
 }
 
-fn gives(bytes: &[u8], want: &Result<Vec<u64>, u64>) -> Outcome {
-    for (name, call) in [("lru", calls::lru as fn(&[u8], &mut [u64], &mut u64) -> u64), ("lru_plain", calls::lru_plain)]
-    {
-        let mut out = [0; 256];
-        let mut written = 0;
-        let returned = call(bytes, &mut out, &mut written);
-        let got = if returned == 0 { Ok(out[..written as usize].to_vec()) } else { Err(returned) };
-        ensure(got == *want, || format!("{name}: got {got:?}, wanted {want:?}"))?;
-    }
-    Ok(())
+fn gives(bytes: &[u8], want: &Result<(Vec<u64>, u64), u64>) -> Outcome {
+    let (mut out, mut written, mut looked) = ([0; 256], 0, 0);
+    let returned = calls::lru(bytes, &mut out, &mut written, &mut looked);
+    let got = if returned == 0 { Ok((out[..written as usize].to_vec(), looked)) } else { Err(returned) };
+    ensure(got == *want, || format!("lru: got {got:?}, wanted {want:?}"))?;
+    let returned = calls::lru_plain(bytes, &mut out, &mut written);
+    let got = if returned == 0 { Ok(out[..written as usize].to_vec()) } else { Err(returned) };
+    let want = want.clone().map(|(misses, _)| misses);
+    ensure(got == want, || format!("lru_plain: got {got:?}, wanted {want:?}"))
 }
 
 // ---- Wrong answers ----
@@ -213,8 +257,20 @@ const NAMES: [&str; 10] = [
     "27 only where a warm segment is touched",
 ];
 
-pub const WRONG: [(Call, Way); 24] = {
-    let mut list = [(Call::Lru, Way::NotRefused(26)); 24];
+/// Mistakes about the entries looked at.
+const LOOKED: [&str; 8] = [
+    "the whole list on every touch",
+    "nothing on a first touch",
+    "the segment itself not counted",
+    "a first touch counts itself",
+    "every segment in the list from the start",
+    "a repeated touch looks at nothing",
+    "the bound for the count",
+    "reported where refused",
+];
+
+pub const WRONG: [(Call, Way); 32] = {
+    let mut list = [(Call::Lru, Way::NotRefused(26)); 32];
     list[1] = (Call::Lru, Way::NotRefused(27));
     list[2] = (Call::LruPlain, Way::NotRefused(26));
     list[3] = (Call::LruPlain, Way::NotRefused(27));
@@ -224,15 +280,49 @@ pub const WRONG: [(Call, Way); 24] = {
         list[5 + 2 * place] = (Call::LruPlain, Way::Named(NAMES[place]));
         place += 1;
     }
+    let mut place = 0;
+    while place < LOOKED.len() {
+        list[24 + place] = (Call::Lru, Way::Named(LOOKED[place]));
+        place += 1;
+    }
     list
 };
 
 /// The answer of a call with the mistake that is put in, if one is.
 pub fn mistaken(call: Call, bytes: &[u8]) -> Option<Result<Vec<u64>, u64>> {
     match wrong::way(call) {
-        Some(Way::Named(name)) => Some(with_mistake(name, bytes)),
+        Some(Way::Named(name)) if NAMES.contains(&name) => Some(with_mistake(name, bytes)),
         _ => None,
     }
+}
+
+/// The entries looked at as a mistake about them, or another one, makes them.
+pub fn mistaken_looked(bytes: &[u8], returned: u64, report: &mut u64) {
+    let Some(Way::Named(name)) = wrong::way(Call::Lru) else { return };
+    if name == "reported where refused" && returned > 0 {
+        *report = 0;
+    }
+    if returned > 0 {
+        return;
+    }
+    let sheet = reference::read(bytes).expect("a sheet");
+    let touches = touches(&sheet);
+    let entries = entries(&touches);
+    let changed = |time: usize| {
+        let before = distinct(&touches[..time]);
+        let first = !touches[..time].contains(&touches[time]);
+        match name {
+            "the whole list on every touch" => before,
+            "nothing on a first touch" if first => 0,
+            "the segment itself not counted" if !first => entries[time] - 1,
+            "a first touch counts itself" if first => before + 1,
+            "every segment in the list from the start" if first => sheet.sizes.len() as u64,
+            "a repeated touch looks at nothing" if entries[time] == 1 && !first => 0,
+            "the bound for the count" => distinct(&touches),
+            _ => entries[time],
+        }
+    };
+    *report = (0..touches.len()).map(changed).sum();
 }
 
 fn with_mistake(name: &str, bytes: &[u8]) -> Result<Vec<u64>, u64> {
@@ -248,19 +338,17 @@ fn with_mistake(name: &str, bytes: &[u8]) -> Result<Vec<u64>, u64> {
     }
     let sheet = of_pages(sheet)?;
     let (segs, touches) = (sheet.sizes.len(), touches(&sheet));
-    let mut distinct = touches.clone();
-    distinct.sort_unstable();
-    distinct.dedup();
+    let all = distinct(&touches);
     let count = |frames: usize| match name {
         "first in, first out" => replaced(&touches, frames, |place, _| place),
         "the most recently used leaves" => replaced(&touches, frames, |_, times| usize::MAX - times[times.len() - 1]),
         "the least often used leaves" => replaced(&touches, frames, |_, times| times.len()),
         "one frame more" => misses(segs, &touches, frames + 1),
         "one frame fewer" if frames > 1 => misses(segs, &touches, frames - 1),
-        "first touches not counted" => misses(segs, &touches, frames) - distinct.len() as u64,
+        "first touches not counted" => misses(segs, &touches, frames) - all,
         _ => misses(segs, &touches, frames),
     };
-    let most = if name == "as many numbers as segments touched" { distinct.len() } else { segs };
+    let most = if name == "as many numbers as segments touched" { all as usize } else { segs };
     Ok((1..=most).map(count).collect())
 }
 

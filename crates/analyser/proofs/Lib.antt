@@ -4,6 +4,7 @@ pub mod GivenLists
 pub mod Handed
 pub mod Imported
 pub mod Joined
+pub mod LookedAt
 pub mod LruFromBytes
 pub mod MarginSigns
 pub mod Printing

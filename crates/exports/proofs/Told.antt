@@ -1,13 +1,16 @@
 -- What an exported call returns and leaves in a lent value, from the answer that it had. Assumes nothing.
 use Prim.Native.Nat.{ℕ}
-use mathlib.Core.Path.{_≡_, refl}
+use mathlib.Core.Path.{_≡_, refl, ap, _∙_}
 use mathlib.Core.List.{List}
 use Rattle.model.specs.Refusals.{numberOf, verdictNumber}
 use Rattle.model.specs.declared.PlaceAnswer.{PlaceAnswer}
 use Rattle.model.specs.declared.Refusal.{Refusal}
 use Rattle.model.specs.declared.Verdict.{Verdict}
 use Rattle.model.specs.declared.Verdict.the-variants.{Accepted, Refused}
-use Rattle.model.specs.Places.{Result, refuses, PlaceLeft}
+use Rattle.model.specs.Places.{Result, refuses, answerFor, PlaceLeft}
+use Rattle.curves.specs.declared.CurveAnswer.{CurveAnswer}
+use Rattle.analyser.specs.Curving.{lruResult, LruLeft}
+use Rattle.exports.specs.Curving.{LruCall}
 use Rattle.exports.specs.Exported.{orOld, PlaceCall}
 
 -- a call with an answer R, which has a verdict and a value: the answer is the one that is due
@@ -37,3 +40,16 @@ place-call answer a t =
 pub place-refused : {result : Result} {place : List ℕ} {written returned : ℕ} {q : Refusal} → result ≡ refuses q → returned ≡ numberOf q
     → PlaceCall result place place written written returned
 place-refused e h = rw e (record { returned-is = h; place-is = refl; written-is = refl })
+
+-- the call for the misses by stack distances, which tells the entries looked at beside
+pub lru-call : {s place place' : List ℕ} {written written' looked looked' returned : ℕ} (answer : CurveAnswer) → LruLeft s place place' answer
+    → (returned ≡ verdictNumber (answer .placed .verdict)) × (written' ≡ orOld (answer .placed .verdict) (answer .placed .length) written)
+    → looked' ≡ orOld (answer .placed .verdict) (answer .looked) looked → LruCall s place place' written written' looked looked' returned
+lru-call {s} {place} {looked = looked} answer l t o =
+    record {
+      placed = place-call (answer .placed) (l .left) t;
+      looked-is =
+          o
+          ∙ ap (λ (p : PlaceAnswer). orOld {A = ℕ} (p .verdict) (answer .looked) looked) (l .left .answer-is)
+          ∙ ap (λ (n : ℕ). orOld {A = ℕ} (answerFor (lruResult s) place .verdict) n looked) (l .looked-is);
+    }

@@ -1,9 +1,7 @@
 -- `curving::lru` meets its contract: what the sheet reads as decides. Assumes nothing.
 use borrow.Author.Needs.{needs}
-use Rattle.curves.specs.Answers.{curveFor}
-use Rattle.analyser.specs.Curving.{lruResult}
-use Rattle.sheet.specs.Reading.{readSheet}
-use Rattle.sheet.proofs.Accepting.{result-refused, result-accepted, stands}
+use Rattle.sheet.proofs.Accepting.{stands}
+use Rattle.analyser.proofs.LookedAt.{lru-refused, lru-accepted}
 use Rattle.analyser.proofs.curving.lru.Statement.{statement}
 use Rattle.analyser.proofs.curving.lru.Tie as tie
 
@@ -13,19 +11,17 @@ sheet-curve-requires c κs =
     stands _ (r .read .result) (r .read .ensures) (cc)
 
 returns : tie.Need-returns
-unfolding lruResult
 returns c =
     let r = c .before .before .before .before .before in
-    let a = c .before .before .before .before .before .before .before .before .args in
-    result-refused (readSheet (a .bytes .now)) (r .read .result) (r .read .ensures) (a .out .now) curveFor (c .refused .ensures) (cc)
+    let a = r .before .before .before .args in
+    lru-refused (a .bytes .now) (r .read .result) (r .read .ensures) (a .out .now) (c .no-curve .ensures) (cc)
 
 returns-2 : tie.Need-returns-2
-unfolding lruResult
 returns-2 c =
-    let l = c .before .before .before in
+    let l = c .before .before in
     let r = l .before .before .before .before .before in
     let a = r .before .before .before .args in
-    result-accepted (readSheet (a .bytes .now)) (r .read .result) (r .read .ensures) curveFor (l .sheet-curve .ensures .left) (cc)
+    lru-accepted (a .bytes .now) (r .read .result) (r .read .ensures) (a .out .now) (l .sheet-curve .ensures) (cc)
 
 pub lru-spec : {M : Type 1} → statement M
 lru-spec =
