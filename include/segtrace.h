@@ -132,6 +132,13 @@ uint64_t segtrace_lru(const uint8_t *sheet, size_t sheet_length, uint64_t *out, 
 /* The same list, by simulating one memory for each number of frames in turn: slower by two orders of magnitude. The same refusals. */
 uint64_t segtrace_lru_plain(const uint8_t *sheet, size_t sheet_length, uint64_t *out, size_t out_length, uint64_t *written);
 
+/*
+ * wsocc for every window T from 1 to steps, which is that of the row T-1/1, at the front of `out`, and how many numbers, steps: for a sheet of
+ * any form of kind time with a=0, every size 1 and no warm segment, by the window recursion. The sheet's refusals, 28 where kind or a
+ * differs, 26 where a size is not 1, 27 where a warm segment is named, 11. SEGTRACE_STEPS numbers always suffice.
+ */
+uint64_t segtrace_windows(const uint8_t *sheet, size_t sheet_length, uint64_t *out, size_t out_length, uint64_t *written);
+
 /* The largest rate and the largest minimum of the loading tariff, in cents. */
 enum { SEGTRACE_MAX_RATE = 9999, SEGTRACE_MAX_MINIMUM = 99999 };
 

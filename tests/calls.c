@@ -46,6 +46,8 @@ static void without_pointers(void)
     expect("lru_plain", segtrace_lru_plain(NULL, 0, NULL, 0, &written), 2);
     expect("lru, no place", segtrace_lru(one, one_length, NULL, 0, &written, &looked), 11);
     expect("lru_plain, no place", segtrace_lru_plain(one, one_length, NULL, 0, &written), 11);
+    expect("windows", segtrace_windows(NULL, 0, NULL, 0, &written), 2);
+    expect("windows, no place", segtrace_windows(one, one_length, NULL, 0, &written), 11);
     expect("figures", segtrace_figures(NULL, 0, 0, figures), 2);
     expect("all_figures", segtrace_all_figures(NULL, 0, NULL, 0, &written), 2);
     expect("listing", segtrace_listing(NULL, 0, NULL, 0, &written), 2);
@@ -64,6 +66,8 @@ static void without_pointers(void)
     expect("looked", looked, 7);
     expect("optimal_schedule of no references", segtrace_optimal_schedule(none, none_length, 0, NULL, 0, &written), 0);
     expect("its length", written, 0);
+    expect("windows of no steps", segtrace_windows(none, none_length, NULL, 0, &written), 0);
+    expect("how many", written, 0);
     expect("price of no references", segtrace_price(none, none_length, 0, NULL, 0, price), 0);
     expect("start", segtrace_start(one, one_length, &r), 0);
     expect("touch_all of no references", segtrace_touch_all(&r, NULL, 0), 0);
@@ -185,13 +189,14 @@ static void imports(void)
     expect("its end", memcmp(again + written - 7, "refs=0\n", 7) != 0, 0);
 }
 
-/* The misses with every number of frames: of Belady's string, of 2,048 references to 256 segments by both engines, and refused with 26 and 27. */
+/* The misses with every number of frames: of Belady's string, of 2,048 references to 256 segments by both engines, and refused with 26 and
+   27; and the working set at every window of the latter, and refused with 28. */
 static void curves(void)
 {
     static const char head[] = "form=3\nkind=time\na=0\nsegs=5\nsize=1\nsize=1\nsize=1\nsize=1\nsize=1\nrows=1\nrow=1/1\n";
     static const uint64_t wanted[5] = {12, 12, 10, 8, 5};
     static const char string[] = "012301401234";
-    static uint64_t list[SEGTRACE_SEGS], plain[SEGTRACE_SEGS];
+    static uint64_t list[SEGTRACE_SEGS], plain[SEGTRACE_SEGS], values[SEGTRACE_STEPS];
     char *at = (char *)other + sprintf((char *)other, "%swarm=0\nsteps=12\nrefs=12\n", head);
     uint64_t written = 7, looked = 7;
     int i;
@@ -217,6 +222,10 @@ static void curves(void)
     expect("how many", written, SEGTRACE_SEGS);
     expect("lru_plain", segtrace_lru_plain(other, (size_t)(at - (char *)other), plain, SEGTRACE_SEGS, &written), 0);
     expect("the same misses", memcmp(list, plain, sizeof list) != 0, 0);
+    expect("windows", segtrace_windows(other, (size_t)(at - (char *)other), values, SEGTRACE_STEPS, &written), 0);
+    expect("how many", written, SEGTRACE_STEPS);
+    expect("the first window", values[0], 2048);
+    expect("windows of kind space", segtrace_windows(sheet, sheet_length, values, SEGTRACE_STEPS, &written), 28);
 }
 
 /* Every call on the sheet. */

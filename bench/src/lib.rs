@@ -11,6 +11,7 @@ pub mod page;
 pub mod recorder;
 pub mod schedule;
 pub mod sheet;
+pub mod windows;
 
 pub use figures::{all_figures, margin, row_figures, size, Figures};
 pub use listing::{listing, listing_of};

@@ -13,7 +13,7 @@ pub fn print(budget: Duration) {
     );
     join(budget);
     import(budget);
-    lru(budget);
+    pages(budget);
 }
 
 fn line(
@@ -75,38 +75,56 @@ fn import(budget: Duration) {
     line(budget, title, "reading it and the sheet of the rows", 16, both, &mut import);
 }
 
-/// Both engines on sheets of 256 segments of size 1 and 2,048 references, beside plain Rust of the same way.
-fn lru(budget: Duration) {
+/// The calls on sheets of 256 segments of size 1 and 2,048 references, each beside plain Rust of the same way.
+fn pages(budget: Duration) {
     for input in &Input::all()[..3] {
         let sheets = inputs::of_pages(input);
-        let pattern = format!("plain Rust, {}", format!("{:?}", input.pattern).to_lowercase());
-        engines(budget, "lru, from bytes", &pattern, &sheets, frames::lru, segtrace::lru_into);
-        // The plain engine takes milliseconds.
-        engines(budget, "lru_plain, from bytes", &pattern, &sheets[..1], frames::lru_plain, |sheet, out| {
+        let beside = format!("plain Rust, {}", format!("{:?}", input.pattern).to_lowercase());
+        let lines = Pages { budget, beside, sheets: &sheets };
+        lines.measure("lru, from bytes", segtrace::SEGS, frames::lru, segtrace::lru_into);
+        let windows: Plain = |segs, refs, out| {
+            plain::windows::windows(segs, refs, out);
+            0
+        };
+        lines.measure("windows, from bytes", segtrace::STEPS, windows, |sheet, out| {
+            Ok((segtrace::windows_into(sheet, out)?, 0))
+        });
+        // The plain engine takes milliseconds: one sheet.
+        let one = Pages { sheets: &sheets[..1], ..lines };
+        one.measure("lru_plain, from bytes", segtrace::SEGS, frames::lru_plain, |sheet, out| {
             Ok((segtrace::lru_plain_into(sheet, out)?, 0))
         });
     }
 }
 
-/// Each fills a place with the misses and gives the entries looked at, the plain engine 0.
+/// Each fills a place with numbers; the pass of LRU gives the entries looked at, the others 0.
 type Plain = fn(usize, &[u16], &mut [u64]) -> u64;
 type Library = fn(&[u8], &mut [u64]) -> Result<(usize, u64), segtrace::Refusal>;
 
-fn engines(budget: Duration, operation: &str, beside: &str, sheets: &[Vec<u8>], plain: Plain, library: Library) {
-    let mut sheet = Sheet::empty();
-    let (mut ours, mut theirs) = ([0; segtrace::SEGS], [0; segtrace::SEGS]);
-    let mut from_bytes = |number: usize, out: &mut [u64]| {
-        sheet.read(black_box(&sheets[number])).expect("a sheet");
-        assert!(sheet.sizes().iter().all(|&size| size == 1), "pages");
-        plain(sheet.segs, sheet.references(), black_box(out))
-    };
-    for (number, bytes) in sheets.iter().enumerate() {
-        let looked = from_bytes(number, &mut ours);
-        assert!(library(bytes, &mut theirs) == Ok((segtrace::SEGS, looked)) && ours == theirs, "the curves differ");
+/// The lines of sheets of size 1.
+struct Pages<'a> {
+    budget: Duration,
+    beside: String,
+    sheets: &'a [Vec<u8>],
+}
+
+impl Pages<'_> {
+    fn measure(&self, operation: &str, numbers: usize, plain: Plain, library: Library) {
+        let mut sheet = Sheet::empty();
+        let (mut ours, mut theirs) = (vec![0; numbers], vec![0; numbers]);
+        let mut from_bytes = |number: usize, out: &mut [u64]| {
+            sheet.read(black_box(&self.sheets[number])).expect("a sheet");
+            assert!(sheet.sizes().iter().all(|&size| size == 1), "pages");
+            plain(sheet.segs, sheet.references(), black_box(out))
+        };
+        for (number, bytes) in self.sheets.iter().enumerate() {
+            let looked = from_bytes(number, &mut ours);
+            assert!(library(bytes, &mut theirs) == Ok((numbers, looked)) && ours == theirs, "{operation}: they differ");
+        }
+        let by_library = |number: usize| {
+            black_box(library(black_box(&self.sheets[number]), black_box(&mut theirs)).expect("room"));
+        };
+        let by_plain = |number| _ = black_box(from_bytes(number, &mut ours));
+        line(self.budget, operation, &self.beside, self.sheets.len(), by_plain, by_library);
     }
-    let by_library = |number: usize| {
-        black_box(library(black_box(&sheets[number]), black_box(&mut theirs)).expect("room"));
-    };
-    let plain = |number| _ = black_box(from_bytes(number, &mut ours));
-    line(budget, operation, beside, sheets.len(), plain, by_library);
 }

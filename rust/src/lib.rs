@@ -21,12 +21,14 @@ mod importing;
 mod joining;
 mod recorder;
 mod refusal;
+mod windowing;
 
 pub use curving::{lru, lru_into, lru_plain, lru_plain_into, Lru};
 pub use importing::{import_din, import_din_into};
 pub use joining::{join, join_into};
 pub use recorder::Recorder;
 pub use refusal::Refusal;
+pub use windowing::{windows, windows_into};
 
 /// The most bytes of a sheet, of any form.
 pub const SHEET_BYTES: usize = 31_366;

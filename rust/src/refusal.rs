@@ -60,11 +60,13 @@ pub enum Refusal {
     SizeNotOne,
     /// A warm segment is named.
     WarmSegment,
+    /// The kind is not time, or a is not 0.
+    NotTimeZero,
 }
 
 impl Refusal {
     /// All refusals, in the order of their numbers.
-    pub const ALL: [Refusal; 27] = [
+    pub const ALL: [Refusal; 28] = [
         Refusal::SheetTooLong,
         Refusal::LineMalformed,
         Refusal::ValueMalformed,
@@ -92,6 +94,7 @@ impl Refusal {
         Refusal::TraceTooLong,
         Refusal::SizeNotOne,
         Refusal::WarmSegment,
+        Refusal::NotTimeZero,
     ];
 
     /// The number of the refusal.
@@ -144,6 +147,7 @@ impl fmt::Display for Refusal {
             Refusal::TraceTooLong => "the trace has a 2,049th line or a 257th page",
             Refusal::SizeNotOne => "a size is not 1",
             Refusal::WarmSegment => "a warm segment is named",
+            Refusal::NotTimeZero => "the kind is not time or a is not 0",
         })
     }
 }

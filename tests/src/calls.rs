@@ -7,6 +7,7 @@ use crate::frames;
 use crate::import;
 use crate::join;
 use crate::mistakes;
+use crate::windows;
 use crate::wrong::{self, Call};
 use segtrace::{c, Recorder};
 use std::slice::from_mut;
@@ -71,6 +72,15 @@ pub fn lru_plain(sheet: &[u8], out: &mut [u64], written: &mut u64) -> u64 {
     }
     wrong::lent(Call::LruPlain, out, written, |out, written| unsafe {
         c::segtrace_lru_plain(sheet.as_ptr(), sheet.len(), out.as_mut_ptr(), out.len(), written)
+    })
+}
+
+pub fn windows(sheet: &[u8], out: &mut [u64], written: &mut u64) -> u64 {
+    if let Some(answer) = windows::mistaken(sheet) {
+        return wrong::put(answer, out, written);
+    }
+    wrong::lent(Call::Windows, out, written, |out, written| unsafe {
+        c::segtrace_windows(sheet.as_ptr(), sheet.len(), out.as_mut_ptr(), out.len(), written)
     })
 }
 

@@ -55,6 +55,7 @@ impl Case<'_> {
         self.joins()?;
         self.imports()?;
         self.frames()?;
+        self.windows()?;
         self.start_refused(number)?;
         self.wrapper_refused(number, row, reference, ceiling, &schedule)
     }
@@ -96,6 +97,7 @@ impl Case<'_> {
         self.joins()?;
         self.imports()?;
         self.frames()?;
+        self.windows()?;
         if sheet.sizes.len() <= enumerate::MOST_SEGS && sheet.steps.len() <= enumerate::MOST_STEPS {
             self.demand_three(sheet)?;
         }

@@ -16,6 +16,7 @@ mod recorder;
 mod reference;
 mod tally;
 mod vectors;
+mod windows;
 mod wrapper;
 mod wrong;
 

@@ -10,7 +10,7 @@ pub struct Tally {
 }
 
 /// One more than the largest number of a refusal.
-const NUMBERS: usize = 28;
+const NUMBERS: usize = 29;
 
 impl Tally {
     /// The numbers that every whole run must reach.

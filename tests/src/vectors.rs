@@ -8,6 +8,7 @@ use crate::import;
 use crate::join;
 use crate::reference::{self, Figures, Kind, Row, Sheet};
 use crate::tally::Tally;
+use crate::windows;
 use crate::{Run, NOW};
 
 /// Runs them all and gives their number.
@@ -58,6 +59,7 @@ fn examples() -> Vec<(Vec<u8>, Check)> {
     list.extend(join::examples());
     list.extend(import::examples());
     list.extend(frames::examples());
+    list.extend(windows::examples());
     for (text, number) in verdicts() {
         list.push((text, Box::new(move |bytes| verdict(bytes, number))));
     }

@@ -5,6 +5,7 @@ use crate::import;
 use crate::join;
 use crate::mistakes;
 use crate::place::Item;
+use crate::windows;
 use segtrace::Recorder;
 use std::sync::atomic::{AtomicUsize, Ordering};
 
@@ -18,6 +19,7 @@ pub enum Call {
     ImportDin,
     Lru,
     LruPlain,
+    Windows,
     Figures,
     AllFigures,
     Listing,
@@ -100,7 +102,7 @@ pub enum Way {
 }
 
 /// Wrong ways of every call with a lent place, and of every call with a list of fixed length.
-const PLACE_CALLS: [Call; 11] = [
+const PLACE_CALLS: [Call; 12] = [
     Call::Rewrite,
     Call::ToForm2,
     Call::ToForm1,
@@ -108,6 +110,7 @@ const PLACE_CALLS: [Call; 11] = [
     Call::ImportDin,
     Call::Lru,
     Call::LruPlain,
+    Call::Windows,
     Call::AllFigures,
     Call::Listing,
     Call::Page,
@@ -192,7 +195,8 @@ const OTHERS: [(Call, Way); 57] = [
 pub fn all() -> Vec<(Call, Way)> {
     let of_places = PLACE_CALLS.into_iter().flat_map(|call| PLACE_WAYS.map(|way| (call, way)));
     let of_lists = LIST_CALLS.into_iter().flat_map(|call| LIST_WAYS.map(|way| (call, way)));
-    of_places.chain(of_lists).chain(OTHERS).chain(join::WRONG).chain(import::WRONG).chain(frames::WRONG).collect()
+    let named = join::WRONG.into_iter().chain(import::WRONG).chain(frames::WRONG).chain(windows::WRONG);
+    of_places.chain(of_lists).chain(OTHERS).chain(named).collect()
 }
 
 /// The place in the list of the wrong answer that is put in.

@@ -9,3 +9,4 @@ pub mod LruFromBytes
 pub mod MarginSigns
 pub mod Printing
 pub mod RoundTrips
+pub mod WindowsFromBytes

@@ -5,3 +5,4 @@ pub mod Importing
 pub mod Joining
 pub mod Recording
 pub mod RoundTrip
+pub mod Windowing

@@ -9,6 +9,7 @@ pub mod margins;
 pub mod pairing;
 pub mod recording;
 pub mod sizing;
+pub mod windowing;
 
 use figures::FiguresAnswer;
 use model::PlaceAnswer;

@@ -5,6 +5,7 @@ pub mod curving;
 pub mod importing;
 pub mod pairing;
 pub mod recording;
+pub mod windowing;
 
 use model::PlaceAnswer;
 use model::RowFigures;

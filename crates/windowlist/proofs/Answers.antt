@@ -100,7 +100,7 @@ module _ (v : SheetValue) where
         rw (kind-a .0, kind-a .1, none)
 
     -- and the recursion gives wsocc
-    windowed : Windowed (traceOf v)
+    pub windowed : Windowed (traceOf v)
     windowed = record { time = kind-a .0; no-weight = kind-a .1; unit-size = λ i lt. size-one (v .head .sizes) (ones-cold .0) i lt }
 
     pub list-is : windowList (windowRun (v .head .sizes) (v .refs)) ≡ wsoccs (traceOf v)
