@@ -139,6 +139,18 @@ uint64_t segtrace_lru_plain(const uint8_t *sheet, size_t sheet_length, uint64_t 
  */
 uint64_t segtrace_windows(const uint8_t *sheet, size_t sheet_length, uint64_t *out, size_t out_length, uint64_t *written);
 
+/* The places of an operating point in a list of SEGTRACE_POINT numbers, and the most points of a sheet. */
+enum { SEGTRACE_POINT_R, SEGTRACE_POINT_W, SEGTRACE_POINT_OPTMEM, SEGTRACE_POINT_LOAD, SEGTRACE_POINT };
+enum { SEGTRACE_POINTS = 2048 };
+
+/*
+ * Every operating point of a sheet of any form, SEGTRACE_POINT numbers each, at the front of `out`, and how many numbers: each distinct ratio
+ * R/w among the reuses once, ascending, as the R and w of the earliest reuse having it, with optmem and load at that threshold. Where no
+ * reuse has ratio 0, the list starts with 0 and 1, where every reuse is dropped. First touches of warm segments are reuses. The sheet's
+ * refusals, 11. SEGTRACE_POINT * SEGTRACE_POINTS numbers always suffice.
+ */
+uint64_t segtrace_points(const uint8_t *sheet, size_t sheet_length, uint64_t *out, size_t out_length, uint64_t *written);
+
 /* The largest rate and the largest minimum of the loading tariff, in cents. */
 enum { SEGTRACE_MAX_RATE = 9999, SEGTRACE_MAX_MINIMUM = 99999 };
 

@@ -48,6 +48,8 @@ static void without_pointers(void)
     expect("lru_plain, no place", segtrace_lru_plain(one, one_length, NULL, 0, &written), 11);
     expect("windows", segtrace_windows(NULL, 0, NULL, 0, &written), 2);
     expect("windows, no place", segtrace_windows(one, one_length, NULL, 0, &written), 11);
+    expect("points", segtrace_points(NULL, 0, NULL, 0, &written), 2);
+    expect("points, no place", segtrace_points(none, none_length, NULL, 0, &written), 11);
     expect("figures", segtrace_figures(NULL, 0, 0, figures), 2);
     expect("all_figures", segtrace_all_figures(NULL, 0, NULL, 0, &written), 2);
     expect("listing", segtrace_listing(NULL, 0, NULL, 0, &written), 2);
@@ -228,6 +230,21 @@ static void curves(void)
     expect("windows of kind space", segtrace_windows(sheet, sheet_length, values, SEGTRACE_STEPS, &written), 28);
 }
 
+/* The operating points of the sheet, of one without references, and refused with 11: a place for 2,048 always suffices. */
+static void operating_points(void)
+{
+    static const char text[] = "kind=time\na=0\nsegs=1\nsize=1\nrows=1\nrow=1/1\nrefs=0\n";
+    static const uint64_t wanted[SEGTRACE_POINT] = {0, 1, 0, 0};
+    static uint64_t points[SEGTRACE_POINT * SEGTRACE_POINTS];
+    uint64_t written, length;
+    expect("points", segtrace_points(sheet, sheet_length, points, SEGTRACE_POINT * SEGTRACE_POINTS, &length), 0);
+    expect("whole points", length % SEGTRACE_POINT, 0);
+    expect("points, short", segtrace_points(sheet, sheet_length, points, (size_t)length - 1, &written), 11);
+    expect("points of no reuse", segtrace_points((const uint8_t *)text, sizeof text - 1, points, SEGTRACE_POINT, &written), 0);
+    expect("how many numbers", written, SEGTRACE_POINT);
+    expect("the one point", memcmp(points, wanted, sizeof wanted) != 0, 0);
+}
+
 /* Every call on the sheet. */
 static void calls_on_sheet(void)
 {
@@ -253,6 +270,7 @@ static void calls_on_sheet(void)
     expect("figures_now", segtrace_figures_now(&r, 63, figures), 0);
     imports();
     curves();
+    operating_points();
 }
 
 /* Every call on the largest sheet of form 1, then on the same sheet in form 2, which is its largest too; and back; then on that of form 3,

@@ -166,6 +166,42 @@ pub fn of_pages(input: &Input) -> Vec<Vec<u8>> {
     input.sheets().into_iter().map(|sheet| text(sheet).into_bytes()).collect()
 }
 
+/// Sheets of 64 segments and 2,048 references, of kind time and a=1. Distinct: the w are primes above 2,048 and no segment has one R twice, so
+/// no ratio comes twice, and none is 0. Else all segments have one size and are touched in turn, so that all ratios are equal.
+pub fn of_ratios(distinct: bool) -> Vec<Vec<u8>> {
+    (1..=16).map(|number| of_ratio(&mut Prng(number), distinct)).collect()
+}
+
+fn of_ratio(prng: &mut Prng, distinct: bool) -> Vec<u8> {
+    const SEGS: usize = 64;
+    let prime = |number: &u64| (2..64).all(|divisor| number % divisor > 0);
+    let primes: Vec<u64> = (2_049..4_096).filter(prime).collect();
+    let from = prng.below((primes.len() - SEGS) as u64) as usize;
+    let sizes: Vec<u64> = (from..from + SEGS).map(|place| primes[if distinct { place } else { from }] - 1).collect();
+    // The last step, 0 before the first touch, and the number of each segment: those longest untouched in front.
+    let mut order: Vec<(usize, usize)> = (0..SEGS).map(|segment| (0, segment)).collect();
+    let mut lengths = vec![Vec::new(); SEGS];
+    let mut refs = Vec::new();
+    for step in 1..=2_048 {
+        // Where distinct, one near the front that was never touched, or with an interval that it did not have; never the last one touched.
+        let near = prng.below(8) as usize;
+        let fits = |&place: &usize| {
+            let (last, segment) = order[place];
+            last == 0 || !lengths[segment].contains(&(step - last))
+        };
+        let place = if distinct { (near..SEGS - 1).chain(0..near).find(fits).expect("a segment") } else { 0 };
+        let (last, segment) = order.remove(place);
+        lengths[segment].push(step - last);
+        order.push((step, segment));
+        refs.push(segment);
+    }
+    let mut text = format!("kind=time\na=1\nsegs={SEGS}\n");
+    sizes.iter().for_each(|size| text += &format!("size={size}\n"));
+    text += "rows=1\nrow=1/1\nrefs=2048\n";
+    refs.iter().for_each(|segment| text += &format!("ref={segment}\n"));
+    text.into_bytes()
+}
+
 /// R and w of every reuse.
 fn retentions(space: bool, a: u64, sizes: &[u64], refs: &[usize]) -> Vec<(u64, u64)> {
     let mut last = vec![None; sizes.len()];

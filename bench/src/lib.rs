@@ -8,6 +8,7 @@ pub mod figures;
 pub mod frames;
 pub mod listing;
 pub mod page;
+pub mod points;
 pub mod recorder;
 pub mod schedule;
 pub mod sheet;

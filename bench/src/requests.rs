@@ -2,7 +2,8 @@
 
 use crate::inputs::{self, Input};
 use crate::times;
-use plain::{frames, Sheet};
+use plain::points::Run;
+use plain::{frames, Kind, Sheet};
 use std::hint::black_box;
 use std::time::Duration;
 
@@ -14,6 +15,7 @@ pub fn print(budget: Duration) {
     join(budget);
     import(budget);
     pages(budget);
+    points(budget);
 }
 
 fn line(
@@ -126,5 +128,32 @@ impl Pages<'_> {
         };
         let by_plain = |number| _ = black_box(from_bytes(number, &mut ours));
         line(self.budget, operation, &self.beside, self.sheets.len(), by_plain, by_library);
+    }
+}
+
+/// 1,984 reuses of 2,048 references, with ratios that are all distinct and with one alone, beside plain Rust that sorts them.
+fn points(budget: Duration) {
+    for (title, distinct) in [("points, all ratios distinct", true), ("points, all ratios equal", false)] {
+        let sheets = inputs::of_ratios(distinct);
+        let mut sheet = Sheet::empty();
+        let mut ours = vec![0; segtrace::Point::COUNT * segtrace::POINTS];
+        let mut theirs = vec![segtrace::Point::default(); segtrace::POINTS];
+        let mut from_bytes = |number: usize, out: &mut [u64]| {
+            sheet.read(black_box(&sheets[number])).expect("a sheet");
+            let (space, steps) = (sheet.kind == Kind::Space, sheet.references());
+            Run { space, a: sheet.a, sizes: sheet.sizes(), warm: &[], steps }.points(black_box(out))
+        };
+        for (number, bytes) in sheets.iter().enumerate() {
+            let count = from_bytes(number, &mut ours);
+            assert_eq!(segtrace::points_into(bytes, &mut theirs), Ok(count), "the points differ");
+            let numbers = theirs.iter().flat_map(|point| [point.r, point.w, point.optmem, point.load]);
+            assert!(numbers.take(4 * count).eq(ours[..4 * count].iter().copied()), "the points differ");
+            assert_eq!(count, if distinct { 1_985 } else { 2 }, "how many points");
+        }
+        let by_library = |number: usize| {
+            segtrace::points_into(black_box(&sheets[number]), black_box(&mut theirs)).expect("room");
+        };
+        let by_plain = |number| _ = black_box(from_bytes(number, &mut ours));
+        line(budget, title, "plain Rust, sort_unstable_by", sheets.len(), by_plain, by_library);
     }
 }

@@ -152,6 +152,15 @@ extern "C" {
         written: *mut u64,
     ) -> u64;
 
+    /// Every operating point.
+    pub fn segtrace_points(
+        sheet: *const u8,
+        sheet_length: usize,
+        out: *mut u64,
+        out_length: usize,
+        written: *mut u64,
+    ) -> u64;
+
     /// Fills a recorder.
     pub fn segtrace_recorder_start(
         sheet: *const u8,

@@ -19,6 +19,7 @@ pub mod c;
 mod curving;
 mod importing;
 mod joining;
+mod operating;
 mod recorder;
 mod refusal;
 mod windowing;
@@ -26,6 +27,7 @@ mod windowing;
 pub use curving::{lru, lru_into, lru_plain, lru_plain_into, Lru};
 pub use importing::{import_din, import_din_into};
 pub use joining::{join, join_into};
+pub use operating::{points, points_into, Point};
 pub use recorder::Recorder;
 pub use refusal::Refusal;
 pub use windowing::{windows, windows_into};
@@ -46,6 +48,8 @@ pub const SCHEDULE_BYTES: usize = 65_536;
 pub const ROWS: usize = 64;
 /// The most steps of a sheet or a recorder, and so the most references.
 pub const STEPS: usize = 2_048;
+/// The most operating points of a sheet.
+pub const POINTS: usize = 2_048;
 /// The most segments of a sheet.
 pub const SEGS: usize = 256;
 

@@ -7,6 +7,7 @@ use crate::frames;
 use crate::import;
 use crate::join;
 use crate::mistakes;
+use crate::points;
 use crate::windows;
 use crate::wrong::{self, Call};
 use segtrace::{c, Recorder};
@@ -81,6 +82,15 @@ pub fn windows(sheet: &[u8], out: &mut [u64], written: &mut u64) -> u64 {
     }
     wrong::lent(Call::Windows, out, written, |out, written| unsafe {
         c::segtrace_windows(sheet.as_ptr(), sheet.len(), out.as_mut_ptr(), out.len(), written)
+    })
+}
+
+pub fn points(sheet: &[u8], out: &mut [u64], written: &mut u64) -> u64 {
+    if let Some(answer) = points::mistaken(sheet) {
+        return wrong::put(answer, out, written);
+    }
+    wrong::lent(Call::Points, out, written, |out, written| unsafe {
+        c::segtrace_points(sheet.as_ptr(), sheet.len(), out.as_mut_ptr(), out.len(), written)
     })
 }
 

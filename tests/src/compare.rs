@@ -56,6 +56,7 @@ impl Case<'_> {
         self.imports()?;
         self.frames()?;
         self.windows()?;
+        self.points()?;
         self.start_refused(number)?;
         self.wrapper_refused(number, row, reference, ceiling, &schedule)
     }
@@ -98,6 +99,7 @@ impl Case<'_> {
         self.imports()?;
         self.frames()?;
         self.windows()?;
+        self.points()?;
         if sheet.sizes.len() <= enumerate::MOST_SEGS && sheet.steps.len() <= enumerate::MOST_STEPS {
             self.demand_three(sheet)?;
         }

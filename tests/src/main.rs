@@ -12,6 +12,7 @@ mod import;
 mod join;
 mod mistakes;
 mod place;
+mod points;
 mod recorder;
 mod reference;
 mod tally;

@@ -6,6 +6,7 @@ use crate::frames;
 use crate::generate::Prng;
 use crate::import;
 use crate::join;
+use crate::points;
 use crate::reference::{self, Figures, Kind, Row, Sheet};
 use crate::tally::Tally;
 use crate::windows;
@@ -60,6 +61,7 @@ fn examples() -> Vec<(Vec<u8>, Check)> {
     list.extend(import::examples());
     list.extend(frames::examples());
     list.extend(windows::examples());
+    list.extend(points::examples());
     for (text, number) in verdicts() {
         list.push((text, Box::new(move |bytes| verdict(bytes, number))));
     }

@@ -5,6 +5,7 @@ use crate::import;
 use crate::join;
 use crate::mistakes;
 use crate::place::Item;
+use crate::points;
 use crate::windows;
 use segtrace::Recorder;
 use std::sync::atomic::{AtomicUsize, Ordering};
@@ -20,6 +21,7 @@ pub enum Call {
     Lru,
     LruPlain,
     Windows,
+    Points,
     Figures,
     AllFigures,
     Listing,
@@ -102,7 +104,7 @@ pub enum Way {
 }
 
 /// Wrong ways of every call with a lent place, and of every call with a list of fixed length.
-const PLACE_CALLS: [Call; 12] = [
+const PLACE_CALLS: [Call; 13] = [
     Call::Rewrite,
     Call::ToForm2,
     Call::ToForm1,
@@ -111,6 +113,7 @@ const PLACE_CALLS: [Call; 12] = [
     Call::Lru,
     Call::LruPlain,
     Call::Windows,
+    Call::Points,
     Call::AllFigures,
     Call::Listing,
     Call::Page,
@@ -195,7 +198,8 @@ const OTHERS: [(Call, Way); 57] = [
 pub fn all() -> Vec<(Call, Way)> {
     let of_places = PLACE_CALLS.into_iter().flat_map(|call| PLACE_WAYS.map(|way| (call, way)));
     let of_lists = LIST_CALLS.into_iter().flat_map(|call| LIST_WAYS.map(|way| (call, way)));
-    let named = join::WRONG.into_iter().chain(import::WRONG).chain(frames::WRONG).chain(windows::WRONG);
+    let named =
+        join::WRONG.into_iter().chain(import::WRONG).chain(frames::WRONG).chain(windows::WRONG).chain(points::WRONG);
     of_places.chain(of_lists).chain(OTHERS).chain(named).collect()
 }
 

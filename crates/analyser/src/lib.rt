@@ -6,6 +6,7 @@ pub mod converting;
 pub mod curving;
 pub mod importing;
 pub mod margins;
+pub mod operating;
 pub mod pairing;
 pub mod recording;
 pub mod sizing;

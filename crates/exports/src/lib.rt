@@ -3,6 +3,7 @@
 // What each returns and leaves is written in specs/; nothing is assumed.
 pub mod curving;
 pub mod importing;
+pub mod operating;
 pub mod pairing;
 pub mod recording;
 pub mod windowing;
