@@ -1,6 +1,6 @@
 /*
- * Prints the operating points of a sheet and where its rows stand, for examples/curve: ./points FILE. A line for each point, `point R w optmem
- * load`, then one for each row, `row h d optmem load`. A refusal is printed as refused= and its number.
+ * Prints the operating points of a sheet and where its rows stand, for examples/curve: ./points FILE. A line for each point,
+ * `point R w optmem load`, then one for each row, `row h d optmem load`. A refusal is printed as refused= and its number.
  *
  *     cc -Iinclude examples/points.c target/staticlib/libexports.a -o points
  */

@@ -83,10 +83,10 @@ uint64_t segtrace_join(const uint8_t *first, size_t first_length, const uint8_t 
                        size_t out_length, uint64_t *written);
 
 /*
- * A din trace as a sheet of form 1 of kind time, a=0 and sizes 1, with the rows of a sheet of any form, at the front of `out`, and its length.
- * A line of the trace is a label 0, 1 or 2, one blank, a hexadecimal address of 1 to 8 digits and a line feed. Each page of 2 to the power k
- * bytes is a segment, numbered by first appearance. The sheet's refusals; 23 where k is not from 8 to 24; then, line by line, 24 for a
- * malformed line and 25 for a 2,049th line or a 257th page; 11. The trace and the sheet may overlap; neither may overlap `out`.
+ * A din trace as a sheet of form 1 of kind time, a=0 and sizes 1, with the rows of a sheet of any form, at the front of `out`, and its
+ * length. A line of the trace is a label 0, 1 or 2, one blank, a hexadecimal address of 1 to 8 digits and a line feed. Each page of 2 to
+ * the power k bytes is a segment, numbered by first appearance. The sheet's refusals; 23 where k is not from 8 to 24; then, line by line,
+ * 24 for a malformed line and 25 for a 2,049th line or a 257th page; 11. The trace and the sheet may overlap; neither may overlap `out`.
  * SEGTRACE_SHEET_BYTES_FORM_1 always suffice.
  */
 uint64_t segtrace_import_din(const uint8_t *trace, size_t trace_length, uint64_t k, const uint8_t *sheet, size_t sheet_length,
@@ -121,11 +121,11 @@ uint64_t segtrace_margin(const uint8_t *sheet, size_t sheet_length, uint64_t row
 uint64_t segtrace_size(const uint8_t *sheet, size_t sheet_length, uint64_t ceiling, uint64_t *row);
 
 /*
- * The misses of least-recently-used replacement with 1, 2, .., segs frames, at the front of `out`, and how many numbers, segs: for a sheet of
- * any form with every size 1 and no warm segment, from stack distances in one pass. Idle steps play no part. `looked` gets how many entries
- * of the recency list the pass looks at: on a touch those from the most recent up to its segment, on a first touch all; never more than refs
- * times the number of distinct segments touched. The sheet's refusals, 26 where a size is not 1, 27 where a warm segment is named, 11.
- * SEGTRACE_SEGS numbers always suffice.
+ * The misses of least-recently-used replacement with 1, 2, .., segs frames, at the front of `out`, and how many numbers, segs: for a sheet
+ * of any form with every size 1 and no warm segment, from stack distances in one pass. Idle steps play no part. `looked` gets how many
+ * entries of the recency list the pass looks at: on a touch those from the most recent up to its segment, on a first touch all; never more
+ * than refs times the number of distinct segments touched. The sheet's refusals, 26 where a size is not 1, 27 where a warm segment is
+ * named, 11. SEGTRACE_SEGS numbers always suffice.
  */
 uint64_t segtrace_lru(const uint8_t *sheet, size_t sheet_length, uint64_t *out, size_t out_length, uint64_t *written, uint64_t *looked);
 
@@ -133,8 +133,8 @@ uint64_t segtrace_lru(const uint8_t *sheet, size_t sheet_length, uint64_t *out, 
 uint64_t segtrace_lru_plain(const uint8_t *sheet, size_t sheet_length, uint64_t *out, size_t out_length, uint64_t *written);
 
 /*
- * wsocc for every window T from 1 to steps, which is that of the row T-1/1, at the front of `out`, and how many numbers, steps: for a sheet of
- * any form of kind time with a=0, every size 1 and no warm segment, by the window recursion. The sheet's refusals, 28 where kind or a
+ * wsocc for every window T from 1 to steps, which is that of the row T-1/1, at the front of `out`, and how many numbers, steps: for a sheet
+ * of any form of kind time with a=0, every size 1 and no warm segment, by the window recursion. The sheet's refusals, 28 where kind or a
  * differs, 26 where a size is not 1, 27 where a warm segment is named, 11. SEGTRACE_STEPS numbers always suffice.
  */
 uint64_t segtrace_windows(const uint8_t *sheet, size_t sheet_length, uint64_t *out, size_t out_length, uint64_t *written);
@@ -144,9 +144,9 @@ enum { SEGTRACE_POINT_R, SEGTRACE_POINT_W, SEGTRACE_POINT_OPTMEM, SEGTRACE_POINT
 enum { SEGTRACE_POINTS = 2048 };
 
 /*
- * Every operating point of a sheet of any form, SEGTRACE_POINT numbers each, at the front of `out`, and how many numbers: each distinct ratio
- * R/w among the reuses once, ascending, as the R and w of the earliest reuse having it, with optmem and load at that threshold. Where no
- * reuse has ratio 0, the list starts with 0 and 1, where every reuse is dropped. First touches of warm segments are reuses. The sheet's
+ * Every operating point of a sheet of any form, SEGTRACE_POINT numbers each, at the front of `out`, and how many numbers: each distinct
+ * ratio R/w among the reuses once, ascending, as the R and w of the earliest reuse having it, with optmem and load at that threshold. Where
+ * no reuse has ratio 0, the list starts with 0 and 1, where every reuse is dropped. First touches of warm segments are reuses. The sheet's
  * refusals, 11. SEGTRACE_POINT * SEGTRACE_POINTS numbers always suffice.
  */
 uint64_t segtrace_points(const uint8_t *sheet, size_t sheet_length, uint64_t *out, size_t out_length, uint64_t *written);

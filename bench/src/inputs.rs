@@ -166,8 +166,8 @@ pub fn of_pages(input: &Input) -> Vec<Vec<u8>> {
     input.sheets().into_iter().map(|sheet| text(sheet).into_bytes()).collect()
 }
 
-/// Sheets of 64 segments and 2,048 references, of kind time and a=1. Distinct: the w are primes above 2,048 and no segment has one R twice, so
-/// no ratio comes twice, and none is 0. Else all segments have one size and are touched in turn, so that all ratios are equal.
+/// Sheets of 64 segments and 2,048 references, of kind time and a=1. Distinct: the w are primes above 2,048 and no segment has one R twice,
+/// so no ratio comes twice, and none is 0. Else all segments have one size and are touched in turn, so that all ratios are equal.
 pub fn of_ratios(distinct: bool) -> Vec<Vec<u8>> {
     (1..=16).map(|number| of_ratio(&mut Prng(number), distinct)).collect()
 }

@@ -1,7 +1,7 @@
 //! Every operating point.
 
-/// A run: the cost of a segment, its sizes, the segments in memory before it, and the segment of each step; an entry not below the number of
-/// segments is a step without a touch.
+/// A run: kind and a, the sizes of the segments, those in memory before it, and the segment of each step; an entry not below the number
+/// of segments is a step without a touch.
 pub struct Run<'a> {
     pub space: bool,
     pub a: u64,
@@ -19,8 +19,8 @@ struct Reuse {
 }
 
 impl Run<'_> {
-    /// The points at the head of a place, four numbers each: R, w, optmem and load. Gives how many points. The reuses are sorted by ratio and
-    /// step; then the points are running sums.
+    /// The points at the head of a place, four numbers each: R, w, optmem and load. Gives how many points. The reuses are sorted by ratio
+    /// and step; then the points are running sums.
     pub fn points(&self, out: &mut [u64]) -> usize {
         let mut reuses = Vec::with_capacity(self.steps.len());
         let (mut memory, mut load) = self.take(&mut reuses);

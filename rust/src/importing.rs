@@ -2,8 +2,8 @@
 
 use crate::{c, Refusal, SHEET_BYTES_FORM_1};
 
-/// A din trace as a sheet of form 1 of kind time, a=0 and sizes 1, with the rows of a sheet of any form. Each page of 2 to the power k bytes is
-/// a segment, numbered by first appearance. The sheet's refusals, 23, then 24 and 25 line by line.
+/// A din trace as a sheet of form 1 of kind time, a=0 and sizes 1, with the rows of a sheet of any form. Each page of 2 to the power k
+/// bytes is a segment, numbered by first appearance. The sheet's refusals, 23, then 24 and 25 line by line.
 ///
 /// ```
 /// let sheet = b"kind=space\na=1\nsegs=1\nsize=3\nrows=1\nrow=1/2\nrefs=0\n";

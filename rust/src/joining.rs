@@ -2,8 +2,8 @@
 
 use crate::{c, Refusal, SHEET_BYTES};
 
-/// Two sheets of form 2 or 3 with the same kind, a and row lines as one sheet of form 3 on the same clock; the second's segments are numbered
-/// after the first's. The first sheet's refusals (any other form is 4), then the second's, 20, 21, 22.
+/// Two sheets of form 2 or 3 with the same kind, a and row lines as one sheet of form 3 on the same clock; the second's segments are
+/// numbered after the first's. The first sheet's refusals (any other form is 4), then the second's, 20, 21, 22.
 ///
 /// ```
 /// let first = b"form=2\nkind=time\na=0\nsegs=1\nsize=1\nrows=1\nrow=1/1\nsteps=3\nrefs=2\nref=0@1\nref=0@3\n";

@@ -41,8 +41,8 @@ pub fn points(sheet: &[u8]) -> Result<Vec<Point>, Refusal> {
 /// The same at the front of `out`. Gives how many points: the sheet's refusals, 11.
 pub fn points_into(sheet: &[u8], out: &mut [Point]) -> Result<usize, Refusal> {
     let mut written = 0;
-    // A point is four numbers one after the other, so a list of points is one list of numbers. The pointers come from slices and a reference,
-    // so they are valid, and the place overlaps nothing else.
+    // A point is four numbers one after the other, so a list of points is one list of numbers. The pointers come from slices and a
+    // reference, so they are valid, and the place overlaps nothing else.
     let numbers = out.as_mut_ptr().cast();
     let length = Point::COUNT * out.len();
     Refusal::answer(unsafe { c::segtrace_points(sheet.as_ptr(), sheet.len(), numbers, length, &mut written) })?;

@@ -291,9 +291,9 @@ fn joins_as(first: &[u8], second: &[u8], want: &Result<Vec<u8>, u64>) -> Outcome
     ensure(got == *want, || format!("join to {}: got {:?}, wanted {:?}", second.escape_ascii(), text(&got), text(want)))
 }
 
-/// Misses to optocc are the sums 5 + 2, 9 + 4, 14 + 6, 12 + 6, 38 + 18, 12 + 6 and 3 + 2, 7 + 4, 10 + 6, 16 + 6, 26 + 12, 16 + 6. The first's
-/// end intervals now reach step 11 and not 9: at row 1/1 segment 0 adds min(3, 2) and not min(1, 2), so wsmem is 25 + 14 + 1; at row 1/2 both
-/// were cut off before, so it is 38 + 21.
+/// Misses to optocc are the sums 5 + 2, 9 + 4, 14 + 6, 12 + 6, 38 + 18, 12 + 6 and 3 + 2, 7 + 4, 10 + 6, 16 + 6, 26 + 12, 16 + 6. The
+/// first's end intervals now reach step 11 and not 9: at row 1/1 segment 0 adds min(3, 2) and not min(1, 2), so wsmem is 25 + 14 + 1; at
+/// row 1/2 both were cut off before, so it is 38 + 21.
 fn joint_rows(bytes: &[u8]) -> Outcome {
     rows_are(bytes, [[1, 2, 7, 13, 20, 18, 56, 18, 59, 59, 2_950], [1, 1, 5, 11, 16, 22, 38, 22, 40, 40, 4_000]])
 }

@@ -78,8 +78,8 @@ impl Case<'_> {
         }
     }
 
-    /// The value at a window T is wsocc at the row T - 1 over 1: by the reference at every window, and by the figures of sheets with this one
-    /// row, at every window of a short record and at some of a long one.
+    /// The value at a window T is wsocc at the row T - 1 over 1: by the reference at every window, and by the figures of sheets with this
+    /// one row, at every window of a short record and at some of a long one.
     fn row_definition(&mut self, bytes: &[u8], list: &[u64]) -> Outcome {
         const WSOCC: usize = 9;
         let mut sheet = reference::read(bytes).expect("a sheet");
