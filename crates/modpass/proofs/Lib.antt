@@ -1,0 +1,4 @@
+pub mod Adding
+pub mod Bounds
+pub mod Tables
+pub mod Touches

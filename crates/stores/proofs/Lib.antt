@@ -1,0 +1,13 @@
+pub mod Decisions
+pub mod Demand
+pub mod Ends
+pub mod Examples
+pub mod Flags
+pub mod LeastLoad
+pub mod LowerBound
+pub mod Nexts
+pub mod Paid
+pub mod Reached
+pub mod Tight
+pub mod Unique
+pub mod Unmarked

@@ -1,0 +1,105 @@
+-- Modified segments (request F-13): what a schedule costs with stores counted, the least such total, and the schedule that has it. `marks t`
+-- says that the touch in the step at place t modifies, the letter w; S t i that segment i is held in step t, counted from 1, and S 0 i that
+-- it is warm. Assumes nothing.
+use Prim.Native.Nat.{ℕ, zero, suc, _+_, _-_, _*_, min}
+use mathlib.Core.Bool.{Bool, false, cond, not, _&&_, _||_}
+use mathlib.Core.List.{List}
+use mathlib.Core.Option.{Option, none, some}
+use lib.ListN.{getD}
+use Rattle.model.specs.Costs.{keeps, totalCost}
+use Rattle.model.specs.Sums.{sum}
+use Rattle.model.specs.Traces.{Trace, steps, touched, swapOf, overTouches, overSegments}
+use Rattle.model.specs.Figures.{retentionOf, opttotal}
+use Rattle.model.specs.Schedules.{held, scheduleMemory, scheduleLoad, nextKept}
+use Rattle.model.specs.Decisions.{heldBytes}
+
+-- the marks of a list with one for each step
+abbrev pub marksOf : List Bool → ℕ → Bool
+marksOf marks t = getD marks t false
+
+-- the step at place t touches segment i and modifies it; a mark on a step without a touch says nothing
+abbrev pub modifies : Trace → (ℕ → Bool) → ℕ → ℕ → Bool
+modifies T marks t i = touched T t i && marks t
+
+-- segment i is held in step t, in a stay that has had a modifying touch, in this step or before. A stay is an unbroken run of steps that hold
+-- the segment, from step 0 on for a warm one held in step 1; no segment is modified before step 1
+unfoldable pub dirty : Trace → (ℕ → Bool) → (ℕ → ℕ → Bool) → ℕ → ℕ → Bool
+dirty T marks S zero i = false
+dirty T marks S (suc t) i = S (suc t) i && (modifies T marks t i || dirty T marks S t i)
+
+-- the stores: w for each stay with a modifying touch, once, counted at its first modifying touch
+unfoldable pub storesOf : Trace → (ℕ → Bool) → (ℕ → ℕ → Bool) → ℕ
+storesOf T marks S = overTouches T (λ t i. cond (marks t && not (dirty T marks S t i)) (swapOf T i) 0)
+
+-- the same, counted where the stay ends: the next step does not hold the segment, or the record ends
+unfoldable pub storesAtEnds : Trace → (ℕ → Bool) → (ℕ → ℕ → Bool) → ℕ
+storesAtEnds T marks S =
+    sum (steps T) (λ t. overSegments T (λ i. cond (dirty T marks S t i && not (S (suc t) i)) (swapOf T i) 0))
+    + overSegments T (λ i. cond (dirty T marks S (steps T) i) (swapOf T i) 0)
+
+-- load of a schedule with stores counted, and its total
+unfoldable pub markedLoad : Trace → (ℕ → Bool) → List ℕ → ℕ
+markedLoad T marks p = scheduleLoad T p + storesOf T marks (held T p)
+
+unfoldable pub markedTotal : Trace → (ℕ → Bool) → ℕ → ℕ → List ℕ → ℕ
+markedTotal T marks h d p = totalCost h d (scheduleMemory T p) (markedLoad T marks p)
+
+-- what holding a segment for its touch in the step at place t costs beyond a load: d × R − h × w, 0 where the reuse is kept anyway
+abbrev pub excess : Trace → ℕ → ℕ → ℕ → ℕ → ℕ
+excess T h d t i = d * retentionOf T t i - h * swapOf T i
+
+-- e and x more, none where there is no e
+abbrev pub plus : Option ℕ → ℕ → Option ℕ
+plus none x = none
+plus (some e) x = some (e + x)
+
+-- after t steps: the excess of all reuses of segment i since its last modifying touch; none before the first such touch
+unfoldable pub sinceMark : Trace → (ℕ → Bool) → ℕ → ℕ → ℕ → ℕ → Option ℕ
+sinceMark T marks h d zero i = none
+sinceMark T marks h d (suc t) i =
+    cond (touched T t i) (cond (marks t) (some 0) (plus (sinceMark T marks h d t i) (excess T h d t i))) (sinceMark T marks h d t i)
+
+-- the same up to a touch in the step at place t, with the excess of the reuse that this touch ends
+abbrev pub sinceThrough : Trace → (ℕ → Bool) → ℕ → ℕ → ℕ → ℕ → Option ℕ
+sinceThrough T marks h d t i = plus (sinceMark T marks h d t i) (excess T h d t i)
+
+-- a store, h × w, or what it takes to hold the segment since the last modifying touch where that is less
+abbrev pub orStore : ℕ → Option ℕ → ℕ
+orStore hw none = hw
+orStore hw (some e) = min hw e
+
+-- what a modifying touch of segment i in the step at place t adds
+unfoldable pub storeCost : Trace → (ℕ → Bool) → ℕ → ℕ → ℕ → ℕ → ℕ
+storeCost T marks h d t i = orStore (h * swapOf T i) (sinceThrough T marks h d t i)
+
+-- what all modifying touches add to opttotal, and modtotal
+unfoldable pub modAdded : Trace → (ℕ → Bool) → ℕ → ℕ → ℕ
+modAdded T marks h d = overTouches T (λ t i. cond (marks t) (storeCost T marks h d t i) 0)
+
+unfoldable pub modtotal : Trace → (ℕ → Bool) → ℕ → ℕ → ℕ
+modtotal T marks h d = opttotal T h d + modAdded T marks h d
+
+-- it is worth holding the segment since the last modifying touch where that costs at most a store; equality holds
+abbrev pub joins : ℕ → Option ℕ → Bool
+joins hw none = false
+joins hw (some e) = keeps e hw
+
+-- a modifying touch of segment i in the step at place t belongs to the stay of the one before it
+unfoldable pub joined : Trace → (ℕ → Bool) → ℕ → ℕ → ℕ → ℕ → Bool
+joined T marks h d t i = joins (h * swapOf T i) (sinceThrough T marks h d t i)
+
+-- of the k steps from place t on, the first that modifies segment i is decided so by f
+unfoldable pub nextMarked : Trace → (ℕ → Bool) → (ℕ → ℕ → Bool) → ℕ → ℕ → ℕ → Bool
+nextMarked T marks f zero t i = false
+nextMarked T marks f (suc k) t i = cond (modifies T marks t i) (f t i) (nextMarked T marks f k (suc t) i)
+
+-- the schedule of the least total holds in the step at place t the touched segment, a segment whose next touch is a kept reuse, and one
+-- whose next modifying touch belongs to the stay of the one before
+unfoldable pub modHeld : Trace → (ℕ → Bool) → ℕ → ℕ → ℕ → ℕ → Bool
+modHeld T marks h d t i =
+    touched T t i
+    || (nextKept T h d (steps T - suc t) (suc t) i || nextMarked T marks (joined T marks h d) (steps T - suc t) (suc t) i)
+
+-- its bytes
+unfoldable pub modSchedule : Trace → (ℕ → Bool) → ℕ → ℕ → List ℕ
+modSchedule T marks h d = heldBytes (steps T) (modHeld T marks h d)
