@@ -4,7 +4,7 @@
  * Every call returns 0, or the number of the refusal (README.md lists them; where several apply, the first that the call's
  * comment names). A refused call writes nothing: every lent place, number and recorder is as it was. No call keeps a pointer or
  * allocates. Lent places overlap nothing else. A pointer that comes with a length may be NULL where the length is 0; no other may be
- * NULL. A call uses less than SEGTRACE_STACK_BYTES of stack, which is not proved; tests/calls.c measures it (57 KB).
+ * NULL. A call uses less than SEGTRACE_STACK_BYTES of stack, which is not proved; tests/calls.c measures it (74 KB).
  */
 #ifndef SEGTRACE_INCLUDED
 #define SEGTRACE_INCLUDED
@@ -32,7 +32,7 @@ enum {
     SEGTRACE_ROWS = 64,
     SEGTRACE_STEPS = 2048,
     SEGTRACE_SEGS = 256,
-    SEGTRACE_STACK_BYTES = 65536
+    SEGTRACE_STACK_BYTES = 81920
 };
 
 /* The places of a row's figures in a list of SEGTRACE_FIGURES numbers. */
