@@ -1,6 +1,6 @@
 /*
- * Prints the listing of a sheet and, for row 0, the optimal total and load and what the optimal schedule costs when it is priced:
- * ./listing FILE. A refusal is printed as the analyser prints it, refused= and its number.
+ * Prints the listing of a sheet and, for row 0, the optimal total and load and what the optimal schedule costs when it is priced, for a
+ * sheet of form 4 the one with stores counted: ./listing FILE. A refusal is printed as the analyser prints it, refused= and its number.
  *
  *     cc -Iinclude examples/listing.c target/staticlib/libexports.a -o listing
  */
@@ -37,7 +37,11 @@ static uint64_t print_row_0(size_t length)
     uint64_t figures[SEGTRACE_FIGURES], price[SEGTRACE_PRICE], written, refusal;
     if ((refusal = segtrace_figures(sheet, length, 0, figures)) != 0)
         return refusal;
-    if ((refusal = segtrace_optimal_schedule(sheet, length, 0, schedule, sizeof schedule, &written)) != 0)
+    /* Each of the two calls gives 4 for the forms that the other is made for. */
+    refusal = segtrace_optimal_schedule(sheet, length, 0, schedule, sizeof schedule, &written);
+    if (refusal == 4)
+        refusal = segtrace_modified_schedule(sheet, length, 0, schedule, sizeof schedule, &written);
+    if (refusal != 0)
         return refusal;
     if ((refusal = segtrace_price(sheet, length, 0, schedule, (size_t)written, price)) != 0)
         return refusal;

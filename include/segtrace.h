@@ -4,7 +4,7 @@
  * Every call returns 0, or the number of the refusal (README.md lists them; where several apply, the first that the call's
  * comment names). A refused call writes nothing: every lent place, number and recorder is as it was. No call keeps a pointer or
  * allocates. Lent places overlap nothing else. A pointer that comes with a length may be NULL where the length is 0; no other may be
- * NULL. A call uses less than SEGTRACE_STACK_BYTES of stack, which is not proved; tests/calls.c measures it (74 KB).
+ * NULL. A call uses less than SEGTRACE_STACK_BYTES of stack, which is not proved; tests/calls.c measures it (77 KB).
  */
 #ifndef SEGTRACE_INCLUDED
 #define SEGTRACE_INCLUDED
@@ -17,16 +17,16 @@ extern "C" {
 #endif
 
 /*
- * The most bytes of a sheet (of form 1, of form 2, and of any form), of a listing, of two pages and of a schedule; the most rows, steps and
- * segments; more stack than a call uses.
- * That no listing is longer is proved (`listing-most`, crates/report/proofs/ListingMost.antt): each figure with as many digits as it can
- * have.
+ * The most bytes of a sheet (of form 1, of form 2, of form 3, and of any form), of a listing, of two pages and of a schedule; the most
+ * rows, steps and segments; more stack than a call uses. That no listing is longer is proved (`listing-most`,
+ * crates/report/proofs/ListingMost.antt): each figure with as many digits as it can have.
  */
 enum {
     SEGTRACE_SHEET_BYTES_FORM_1 = 20012,
     SEGTRACE_SHEET_BYTES_FORM_2 = 29163,
-    SEGTRACE_SHEET_BYTES = 31366,
-    SEGTRACE_LISTING_BYTES = 11558,
+    SEGTRACE_SHEET_BYTES_FORM_3 = 31366,
+    SEGTRACE_SHEET_BYTES = 33414,
+    SEGTRACE_LISTING_BYTES = 13158,
     SEGTRACE_PAGE_BYTES = 8760,
     SEGTRACE_SCHEDULE_BYTES = 65536,
     SEGTRACE_ROWS = 64,
@@ -55,9 +55,13 @@ enum {
 enum { SEGTRACE_PRICE_MEMORY, SEGTRACE_PRICE_LOAD, SEGTRACE_PRICE_TOTAL, SEGTRACE_PRICE };
 
 /*
- * A sheet is of form 1, or of form 2 or 3 where its first line is form=2 or form=3. Its refusals are 1 to 6, 16 and 19: the first faulty
- * line decides, and on one line 16 and 19 come after 4. Form 3 names the warm segments, those in memory before step 1: such a segment
- * counts as touched at step 0 without cost, so its first touch is a reuse, and in a schedule it may be held from step 1 on.
+ * A sheet is of form 1, or of form 2, 3 or 4 where its first line is form=2, form=3 or form=4. Its refusals are 1 to 6, 16 and 19: the
+ * first faulty line decides, and on one line 16 and 19 come after 4. A call that is not made for a sheet's form gives 4 on the form line,
+ * or for form 1 on the kind line. From form 3 on a sheet names the warm segments, those in memory before step 1: such a segment counts as
+ * touched at step 0 without cost, so its first touch is a reuse, and in a schedule it may be held from step 1 on. In form 4 the letter w
+ * marks the touches that modify. A stay of a segment, an unbroken run of steps that hold it, from step 0 on for a warm one held in step 1,
+ * is stored once where it has such a touch: that adds its w to the load, where the stay ends or the record ends. Only segtrace_price, the
+ * line modtotal= of segtrace_listing and segtrace_modified_schedule see the letters.
  */
 
 /* Whether the bytes are a sheet: its refusals. */
@@ -77,7 +81,7 @@ uint64_t segtrace_to_form_1(const uint8_t *sheet, size_t sheet_length, uint8_t *
  * Two sheets of form 2 or 3 with the same kind, a and row lines as one sheet of form 3 on the same clock, at the front of `out`, and its
  * length: the second's segments are numbered after the first's, and steps is the greater of the two. The first sheet's refusals, where any
  * other form is 4, then the second's; 20 where kind, a or a row line differs, 21 where both touch at one step, 22 where together they have
- * more than 256 segments, 11. The two sheets may be the same bytes; neither may overlap `out`. SEGTRACE_SHEET_BYTES always suffice.
+ * more than 256 segments, 11. The two sheets may be the same bytes; neither may overlap `out`. SEGTRACE_SHEET_BYTES_FORM_3 always suffice.
  */
 uint64_t segtrace_join(const uint8_t *first, size_t first_length, const uint8_t *second, size_t second_length, uint8_t *out,
                        size_t out_length, uint64_t *written);
@@ -98,18 +102,27 @@ uint64_t segtrace_figures(const uint8_t *sheet, size_t sheet_length, uint64_t ro
 /* The figures of every row, SEGTRACE_FIGURES numbers each, at the front of `out`, and how many numbers; the sheet's refusals, 11. */
 uint64_t segtrace_all_figures(const uint8_t *sheet, size_t sheet_length, uint64_t *out, size_t out_length, uint64_t *written);
 
-/* The listing at the front of `out`, and its length; the sheet's refusals, 11. */
+/* The listing at the front of `out`, and its length; the sheet's refusals, 11. In form 4 it has after each mean the row's modtotal: the
+   least d * memory + h * load of a permitted schedule with stores counted. */
 uint64_t segtrace_listing(const uint8_t *sheet, size_t sheet_length, uint8_t *out, size_t out_length, uint64_t *written);
 
 /* The page for the binder, 60 lines of 72 characters and a line feed, at the front of `out`, two pages where there are more than 58 rows,
    and their length, 4380 or 8760; the sheet's refusals, 11. */
 uint64_t segtrace_page(const uint8_t *sheet, size_t sheet_length, uint8_t *out, size_t out_length, uint64_t *written);
 
-/* The optimal schedule of a row, 32 bytes a step, at the front of `out`, and its length; the sheet's refusals, 7, 11. */
+/* The optimal schedule of a row of a sheet of forms 1 to 3, 32 bytes a step, at the front of `out`, and its length; the sheet's refusals,
+   where form 4 is 4, 7, 11. */
 uint64_t segtrace_optimal_schedule(const uint8_t *sheet, size_t sheet_length, uint64_t row, uint8_t *out, size_t out_length,
                                    uint64_t *written);
 
-/* Memory, load and total of a schedule at a row; the sheet's refusals, 7, 8, then 9 or 10 of the earliest faulty step. */
+/* The schedule of the least total with stores counted, of a row of a sheet of form 4, 32 bytes a step, at the front of `out`, and its
+   length; the sheet's refusals, where any other form is 4, 7, 11. Its total is the row's modtotal, and of several that have it, it is the
+   one with the least load, stores counted. Without a letter w it is the optimal schedule of the same sheet in form 3. */
+uint64_t segtrace_modified_schedule(const uint8_t *sheet, size_t sheet_length, uint64_t row, uint8_t *out, size_t out_length,
+                                    uint64_t *written);
+
+/* Memory, load and total of a schedule at a row, in form 4 with stores counted; the sheet's refusals, 7, 8, then 9 or 10 of the earliest
+   faulty step. */
 uint64_t segtrace_price(const uint8_t *sheet, size_t sheet_length, uint64_t row, const uint8_t *schedule, size_t schedule_length,
                         uint64_t price[SEGTRACE_PRICE]);
 
@@ -189,7 +202,8 @@ uint64_t segtrace_recorder_figures(const uint64_t *head, const uint64_t *counts,
                                    const uint16_t *h, const uint16_t *d, const uint16_t *last, const uint64_t *sums, uint64_t row,
                                    uint64_t *figures);
 
-/* A recorder with the kind, a, sizes, rows and warm segments of a sheet and no steps; the sheet's refusals. */
+/* A recorder with the kind, a, sizes, rows and warm segments of a sheet of forms 1 to 3 and no steps; the sheet's refusals, where form 4
+   is 4. */
 static inline uint64_t segtrace_start(const uint8_t *sheet, size_t sheet_length, segtrace_recorder *r)
 {
     return segtrace_recorder_start(sheet, sheet_length, r->head, r->counts, r->sizes, r->holds, r->h, r->d, r->last, r->sums);

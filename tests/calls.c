@@ -54,6 +54,7 @@ static void without_pointers(void)
     expect("all_figures", segtrace_all_figures(NULL, 0, NULL, 0, &written), 2);
     expect("listing", segtrace_listing(NULL, 0, NULL, 0, &written), 2);
     expect("optimal_schedule", segtrace_optimal_schedule(NULL, 0, 0, NULL, 0, &written), 2);
+    expect("modified_schedule", segtrace_modified_schedule(NULL, 0, 0, NULL, 0, &written), 2);
     expect("price", segtrace_price(NULL, 0, 0, NULL, 0, price), 2);
     expect("margin", segtrace_margin(NULL, 0, 0, 1, &margin), 2);
     expect("size", segtrace_size(NULL, 0, 0, &row), 2);
@@ -63,6 +64,7 @@ static void without_pointers(void)
     expect("listing, no place", segtrace_listing(one, one_length, NULL, 0, &written), 11);
     expect("page, no place", segtrace_page(one, one_length, NULL, 0, &written), 11);
     expect("optimal_schedule, no place", segtrace_optimal_schedule(one, one_length, 0, NULL, 0, &written), 11);
+    expect("modified_schedule of form 1", segtrace_modified_schedule(one, one_length, 0, NULL, 0, &written), 4);
     expect("price, no schedule", segtrace_price(one, one_length, 0, NULL, 0, price), 8);
     expect("written", written, 7);
     expect("looked", looked, 7);
@@ -91,8 +93,44 @@ static void warm_recorder(void)
     expect("volume", figures[SEGTRACE_VOLUME], 1);
 }
 
-/* The largest sheet of a form: every number has as many digits as it may have, in form 3 every segment is warm, and the references go round
-   the segments from 100 on. */
+/* Segment 1, w = 4, is modified at steps 1 and 4 and held between: one load and one store. With the touch at step 4 not marked it is
+   dropped. Refused with 4 in form 3, with 7 and with 11. */
+static void modified(void)
+{
+    static char text[] = "form=4\nkind=space\na=1\nsegs=2\nsize=1\nsize=3\nrows=1\nrow=1/1\nwarm=0\nsteps=4\nrefs=2\n"
+                         "ref=1@1w\nref=1@4w\n";
+    static uint8_t place[4 * 32 + 1];
+    const uint8_t *bytes = (const uint8_t *)text;
+    size_t length = sizeof text - 1;
+    uint64_t price[SEGTRACE_PRICE], written = 7;
+    int t;
+    memset(place, 7, sizeof place);
+    expect("modified_schedule, row 1", segtrace_modified_schedule(bytes, length, 1, place, sizeof place, &written), 7);
+    expect("modified_schedule, no place", segtrace_modified_schedule(bytes, length, 0, NULL, 0, &written), 11);
+    expect("modified_schedule, short", segtrace_modified_schedule(bytes, length, 0, place, 4 * 32 - 1, &written), 11);
+    expect("optimal_schedule of form 4", segtrace_optimal_schedule(bytes, length, 0, place, sizeof place, &written), 4);
+    expect("written", written, 7);
+    expect("the place", place[0], 7);
+    expect("modified_schedule", segtrace_modified_schedule(bytes, length, 0, place, sizeof place, &written), 0);
+    expect("its length", written, 4 * 32);
+    for (t = 0; t < 4; t++)
+        expect("its step", place[32 * t], 2);
+    expect("the byte beyond it", place[4 * 32], 7);
+    expect("price", segtrace_price(bytes, length, 0, place, 4 * 32, price), 0);
+    expect("memory", price[SEGTRACE_PRICE_MEMORY], 12);
+    expect("load", price[SEGTRACE_PRICE_LOAD], 8);
+    expect("total", price[SEGTRACE_PRICE_TOTAL], 20);
+    text[5] = '3';
+    expect("a letter in form 3", segtrace_check(bytes, length), 3);
+    expect("modified_schedule of form 3", segtrace_modified_schedule(bytes, length, 0, place, sizeof place, &written), 4);
+    text[5] = '4';
+    text[length - 2] = '\n';
+    expect("modified_schedule", segtrace_modified_schedule(bytes, length - 1, 0, place, sizeof place, &written), 0);
+    expect("its step 2", place[32], 0);
+}
+
+/* The largest sheet of a form: every number has as many digits as it may have, from form 3 on every segment is warm, in form 4 every touch
+   modifies, and the references go round the segments from 100 on. */
 static void make_sheet(int form, size_t length)
 {
     char *at = (char *)sheet;
@@ -116,6 +154,8 @@ static void make_sheet(int form, size_t length)
     for (i = 0; i < 2048; i++) {
         segments[i] = (uint16_t)(100 + i * 7 % 156);
         at += form > 1 ? sprintf(at, "ref=%d@%d", segments[i], i + 1) : sprintf(at, "ref=%d", segments[i]);
+        if (form > 3)
+            *at++ = 'w';
         *at++ = '\n';
     }
     sheet_length = length;
@@ -160,7 +200,7 @@ static void joins(void)
     expect("its length", written, sizeof joint - 1);
     expect("its bytes", memcmp(again, joint, sizeof joint - 1) != 0, 0);
     expect("join", segtrace_join(sheet, first, other, second, again, sizeof again, &length), 0);
-    expect("bytes of the largest joint sheet", length, SEGTRACE_SHEET_BYTES);
+    expect("bytes of the largest joint sheet", length, SEGTRACE_SHEET_BYTES_FORM_3);
     expect("check of it", segtrace_check(again, length), 0);
     first = make_part(sheet, 0, 0);
     expect("join to 256 segments", segtrace_join(again, length, sheet, first, other, sizeof other, &written), 22);
@@ -245,9 +285,11 @@ static void operating_points(void)
     expect("the one point", memcmp(points, wanted, sizeof wanted) != 0, 0);
 }
 
-/* Every call on the sheet. */
-static void calls_on_sheet(void)
+/* Every call on the sheet: those that are not made for its form give 4. */
+static void calls_on_sheet(int form)
 {
+    uint64_t (*best)(const uint8_t *, size_t, uint64_t, uint8_t *, size_t, uint64_t *) = segtrace_optimal_schedule;
+    uint64_t (*other)(const uint8_t *, size_t, uint64_t, uint8_t *, size_t, uint64_t *) = segtrace_modified_schedule;
     uint64_t figures[SEGTRACE_FIGURES], price[SEGTRACE_PRICE], written, row, cents;
     int64_t margin;
     static segtrace_recorder r;
@@ -257,42 +299,54 @@ static void calls_on_sheet(void)
     expect("all_figures", segtrace_all_figures(sheet, sheet_length, all, sizeof all / sizeof *all, &written), 0);
     expect("listing", segtrace_listing(sheet, sheet_length, listing, sizeof listing, &written), 0);
     expect("page", segtrace_page(sheet, sheet_length, page, sizeof page, &written), 0);
-    expect("optimal_schedule", segtrace_optimal_schedule(sheet, sheet_length, 63, schedule, sizeof schedule, &written), 0);
+    if (form > 3) {
+        best = segtrace_modified_schedule;
+        other = segtrace_optimal_schedule;
+    }
+    expect("the schedule of its form", best(sheet, sheet_length, 63, schedule, sizeof schedule, &written), 0);
+    expect("the other schedule", other(sheet, sheet_length, 63, schedule, sizeof schedule, &written), 4);
     expect("price", segtrace_price(sheet, sheet_length, 63, schedule, sizeof schedule, price), 0);
     expect("margin", segtrace_margin(sheet, sheet_length, 63, 2048, &margin), 0);
     expect("size", segtrace_size(sheet, sheet_length, UINT64_MAX, &row), 0);
     expect("bill", segtrace_bill(sheet, sheet_length, 63, 9999, 9999, 99999, &cents), 0);
-    expect("start", segtrace_start(sheet, sheet_length, &r), 0);
-    expect("touch", segtrace_touch(&r, 0), 0);
-    expect("idle", segtrace_idle(&r), 0);
-    expect("touch_all", segtrace_touch_all(&r, segments, 2046), 0);
-    expect("idle of a full recorder", segtrace_idle(&r), 13);
-    expect("figures_now", segtrace_figures_now(&r, 63, figures), 0);
+    expect("start", segtrace_start(sheet, sheet_length, &r), form > 3 ? 4 : 0);
+    if (form < 4) {
+        expect("touch", segtrace_touch(&r, 0), 0);
+        expect("idle", segtrace_idle(&r), 0);
+        expect("touch_all", segtrace_touch_all(&r, segments, 2046), 0);
+        expect("idle of a full recorder", segtrace_idle(&r), 13);
+        expect("figures_now", segtrace_figures_now(&r, 63, figures), 0);
+    }
     imports();
     curves();
     operating_points();
 }
 
-/* Every call on the largest sheet of form 1, then on the same sheet in form 2, which is its largest too; and back; then on that of form 3,
-   which is not converted. */
+/* Every call on the largest sheet of form 1, then on the same sheet in form 2, which is its largest too; and back; then on those of form 3
+   and form 4, which are not converted. */
 static void *every_call(void *unused)
 {
     uint64_t written;
     make_sheet(1, SEGTRACE_SHEET_BYTES_FORM_1);
-    calls_on_sheet();
+    calls_on_sheet(1);
     expect("to_form_1 of form 1", segtrace_to_form_1(sheet, sheet_length, again, sizeof again, &written), 4);
     expect("to_form_2", segtrace_to_form_2(sheet, sheet_length, again, sizeof again, &written), 0);
     make_sheet(2, SEGTRACE_SHEET_BYTES_FORM_2);
     expect("bytes of the largest sheet of form 2", written, SEGTRACE_SHEET_BYTES_FORM_2);
     expect("the largest sheet of form 2", memcmp(sheet, again, written) != 0, 0);
-    calls_on_sheet();
+    calls_on_sheet(2);
     expect("to_form_2 of form 2", segtrace_to_form_2(sheet, sheet_length, again, sizeof again, &written), 4);
     expect("to_form_1", segtrace_to_form_1(sheet, sheet_length, again, sizeof again, &written), 0);
     expect("bytes of the largest sheet of form 1", written, SEGTRACE_SHEET_BYTES_FORM_1);
-    make_sheet(3, SEGTRACE_SHEET_BYTES);
-    calls_on_sheet();
+    make_sheet(3, SEGTRACE_SHEET_BYTES_FORM_3);
+    calls_on_sheet(3);
     expect("to_form_2 of form 3", segtrace_to_form_2(sheet, sheet_length, again, sizeof again, &written), 4);
     expect("to_form_1 of form 3", segtrace_to_form_1(sheet, sheet_length, again, sizeof again, &written), 4);
+    make_sheet(4, SEGTRACE_SHEET_BYTES);
+    calls_on_sheet(4);
+    expect("to_form_2 of form 4", segtrace_to_form_2(sheet, sheet_length, again, sizeof again, &written), 4);
+    expect("to_form_1 of form 4", segtrace_to_form_1(sheet, sheet_length, again, sizeof again, &written), 4);
+    expect("join of form 4", segtrace_join(sheet, sheet_length, sheet, sheet_length, again, sizeof again, &written), 4);
     joins();
     return unused;
 }
@@ -322,6 +376,7 @@ int main(void)
     size_t used;
     without_pointers();
     warm_recorder();
+    modified();
     used = stack_of(every_call) - stack_of(no_call);
     if (used > SEGTRACE_STACK_BYTES) {
         fprintf(stderr, "FAILED: the calls use %zu bytes of stack and not at most %d\n", used, SEGTRACE_STACK_BYTES);

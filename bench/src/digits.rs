@@ -22,11 +22,30 @@ pub fn leading_run(bytes: u64) -> Run {
     let digits = (bytes ^ 0x3030_3030_3030_3030).wrapping_shl(64 - shift);
     let all_digits = (digits | digits.wrapping_add(0x0606_0606_0606_0606)) & 0xf0f0_f0f0_f0f0_f0f0 == 0;
     let leading_zero = (bytes & 0xff == 0x30) & (length > 1);
-    // Neighbouring digits, then pairs, then fours are joined.
+    let value = joined(digits);
+    Run { value, length, after: (bytes >> shift) as u8, fine: inside & all_digits & !leading_zero }
+}
+
+/// The same where any byte may follow the digits.
+#[inline(always)]
+pub fn leading_digits(bytes: u64) -> Run {
+    // A byte that is no digit has a bit of its upper half set, with 6 added or without; up to the first of them no sum carries.
+    let digits = bytes ^ 0x3030_3030_3030_3030;
+    let others = (digits | digits.wrapping_add(0x0606_0606_0606_0606)) & 0xf0f0_f0f0_f0f0_f0f0;
+    let length = (others.trailing_zeros() / 8) as usize;
+    let inside = length.wrapping_sub(1) < 7;
+    let shift = 8 * (length as u32 & 7);
+    let leading_zero = (bytes & 0xff == 0x30) & (length > 1);
+    let value = joined(digits.wrapping_shl(64 - shift));
+    Run { value, length, after: (bytes >> shift) as u8, fine: inside & !leading_zero }
+}
+
+/// The number of eight digits, one a byte, the first in the lowest place: neighbouring digits, then pairs, then fours are joined.
+#[inline(always)]
+fn joined(digits: u64) -> u64 {
     let pairs = digits.wrapping_mul(10).wrapping_add(digits >> 8) & 0x00ff_00ff_00ff_00ff;
     let fours = pairs.wrapping_mul(100).wrapping_add(pairs >> 16) & 0x0000_ffff_0000_ffff;
-    let value = fours.wrapping_mul(10_000).wrapping_add(fours >> 32) & 0xffff_ffff;
-    Run { value, length, after: (bytes >> shift) as u8, fine: inside & all_digits & !leading_zero }
+    fours.wrapping_mul(10_000).wrapping_add(fours >> 32) & 0xffff_ffff
 }
 
 /// A number of 1 to 4 digits that a line feed ends, at the head of 8 bytes, and how many digits it has.

@@ -140,6 +140,22 @@ fn pair(prng: &mut Prng) -> [Vec<u8>; 2] {
     })
 }
 
+/// The sheets of an input in form 4 with a touch in every step and no warm segment; so many of 16 touches modify.
+pub fn marked(input: &Input, often: u64) -> Vec<Vec<u8>> {
+    let mut prng = Prng(often);
+    let text = |sheet: Vec<u8>| {
+        let text = String::from_utf8(sheet).expect("text");
+        let (head, touches) = text.split_once("refs=").expect("references");
+        let steps = input.refs;
+        let mut text = format!("form=4\n{head}warm=0\nsteps={steps}\nrefs={steps}\n");
+        for (step, line) in (1..).zip(touches.lines().skip(1)) {
+            text += &format!("{line}@{step}{}\n", if prng.below(16) < often { "w" } else { "" });
+        }
+        text.into_bytes()
+    };
+    input.sheets().into_iter().map(text).collect()
+}
+
 /// Din traces of 2,048 lines and 256 pages of 2 to the power k bytes, 8 digits each.
 pub fn traces(count: usize, k: u64) -> Vec<Vec<u8>> {
     let trace = |number: usize| {

@@ -7,6 +7,7 @@ mod digits;
 pub mod figures;
 pub mod frames;
 pub mod listing;
+pub mod modified;
 pub mod page;
 pub mod points;
 pub mod recorder;
@@ -40,4 +41,5 @@ pub enum Refusal {
     RecorderFull = 13,
     NoSuchReference = 14,
     FirstTouch = 15,
+    StepNotAbove = 16,
 }

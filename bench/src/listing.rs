@@ -4,8 +4,8 @@ use crate::figures::{Figures, Pass, Scale};
 use crate::sheet::{Sheet, Writer};
 use crate::Refusal;
 
-/// Above the longest listing: 27 bytes, and 180 for each of 64 rows, and 8 that the number writer may overwrite.
-const ROOM: usize = 12_288;
+/// Above the longest listing, of form 4: 38 bytes, and 205 for each of 64 rows, and 8 that the number writer may overwrite.
+pub(crate) const ROOM: usize = 13_312;
 
 /// Reads a sheet and writes its listing at the head of a lent place. Gives the length.
 pub fn listing(bytes: &[u8], out: &mut [u8]) -> Result<usize, Refusal> {
@@ -31,7 +31,7 @@ pub fn listing_of(sheet: &Sheet, out: &mut [u8]) -> Result<usize, Refusal> {
     Ok(written.len())
 }
 
-fn put_row(writer: &mut Writer<ROOM>, figures: &Figures) {
+pub(crate) fn put_row(writer: &mut Writer<ROOM>, figures: &Figures) {
     writer.item(b"\nh=", figures.h);
     writer.item(b"\nd=", figures.d);
     writer.item(b"\nmisses=", figures.misses);

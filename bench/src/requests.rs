@@ -2,6 +2,7 @@
 
 use crate::inputs::{self, Input};
 use crate::times;
+use plain::modified::{self, Marked};
 use plain::points::Run;
 use plain::{frames, Kind, Sheet};
 use std::hint::black_box;
@@ -16,6 +17,7 @@ pub fn print(budget: Duration) {
     import(budget);
     pages(budget);
     points(budget);
+    modified(budget);
 }
 
 fn line(
@@ -34,10 +36,10 @@ fn line(
 /// Pairs of sheets that together are as large as a sheet may be. At most twice the time of reading both is asked for.
 fn join(budget: Duration) {
     let pairs = inputs::pairs();
-    let mut out = vec![0; segtrace::SHEET_BYTES];
+    let mut out = vec![0; segtrace::SHEET_BYTES_FORM_3];
     for [first, second] in &pairs {
         let length = segtrace::join_into(first, second, &mut out).expect("a joint sheet");
-        assert_eq!(length, segtrace::SHEET_BYTES, "the largest joint sheet");
+        assert_eq!(length, segtrace::SHEET_BYTES_FORM_3, "the largest joint sheet");
     }
     line(
         budget,
@@ -156,4 +158,73 @@ fn points(budget: Duration) {
         let by_plain = |number| _ = black_box(from_bytes(number, &mut ours));
         line(budget, title, "plain Rust, sort_unstable_by", sheets.len(), by_plain, by_library);
     }
+}
+
+/// Sheets of form 4 with 256 segments, 64 rows and 2,048 steps, of which half or none of the touches modify: reading, the listing, the
+/// schedule of row 32 and its price, beside plain Rust of the same way.
+fn modified(budget: Duration) {
+    const ROW: u64 = 32;
+    for (marks, often) in [("half marked", 8), ("no marks", 0)] {
+        for input in &Input::all()[..3] {
+            let sheets = inputs::marked(input, often);
+            let beside = format!("plain Rust, {}", format!("{:?}", input.pattern).to_lowercase());
+            let schedules = same_answers(&sheets, ROW);
+            let count = sheets.len();
+            let mut marked = Marked::empty();
+            let (mut text, mut other_text) = (vec![0; segtrace::LISTING_BYTES], vec![0; segtrace::LISTING_BYTES]);
+            let (mut place, mut other_place) = (vec![0; segtrace::SCHEDULE_BYTES], vec![0; segtrace::SCHEDULE_BYTES]);
+            let of_form_4 = |operation: &str| format!("{operation}, form 4, {marks}");
+            let read = |number: usize| segtrace::check(black_box(&sheets[number])).expect("a sheet");
+            let by_plain = |number: usize| marked.read(black_box(&sheets[number])).expect("a sheet");
+            line(budget, &of_form_4("reading"), &beside, count, by_plain, read);
+            let by_plain = |number: usize| {
+                modified::listing(black_box(&sheets[number]), black_box(&mut text)).expect("room");
+            };
+            let listing = |number: usize| {
+                segtrace::listing(black_box(&sheets[number]), black_box(&mut other_text)).expect("room");
+            };
+            line(budget, &of_form_4("listing"), &beside, count, by_plain, listing);
+            let by_plain = |number: usize| {
+                marked.read(black_box(&sheets[number])).expect("a sheet");
+                modified::modified_schedule(&marked, ROW, black_box(&mut place)).expect("room");
+            };
+            let schedule = |number: usize| {
+                let bytes = black_box(&sheets[number]);
+                segtrace::modified_schedule(bytes, ROW, black_box(&mut other_place)).expect("room");
+            };
+            line(budget, &of_form_4("schedule"), &beside, count, by_plain, schedule);
+            let by_plain = |number: usize| {
+                marked.read(black_box(&sheets[number])).expect("a sheet");
+                black_box(modified::marked_price(&marked, ROW, black_box(&schedules[number])).expect("permitted"));
+            };
+            let price = |number: usize| {
+                let bytes = black_box(&sheets[number]);
+                black_box(segtrace::price(bytes, ROW, black_box(&schedules[number])).expect("permitted"));
+            };
+            line(budget, &of_form_4("price of it"), &beside, count, by_plain, price);
+        }
+    }
+}
+
+/// The schedules of a row. Stops where plain Rust and the library give different answers of what is measured.
+fn same_answers(sheets: &[Vec<u8>], row: u64) -> Vec<Vec<u8>> {
+    let mut marked = Marked::empty();
+    let schedule_of = |bytes: &Vec<u8>| {
+        let (mut ours, mut theirs) = (vec![0; segtrace::LISTING_BYTES], vec![0; segtrace::LISTING_BYTES]);
+        let length = modified::listing(bytes, &mut ours).expect("room");
+        assert!(segtrace::listing(bytes, &mut theirs) == Ok(length) && ours == theirs, "the listings differ");
+        marked.read(bytes).expect("a sheet");
+        let (mut ours, mut theirs) = (vec![0; segtrace::SCHEDULE_BYTES], vec![0; segtrace::SCHEDULE_BYTES]);
+        let length = modified::modified_schedule(&marked, row, &mut ours).expect("room");
+        assert!(segtrace::modified_schedule(bytes, row, &mut theirs) == Ok(length), "the lengths differ");
+        assert!(ours == theirs, "the schedules differ");
+        let price = modified::marked_price(&marked, row, &ours[..length]).expect("permitted");
+        let other = segtrace::price(bytes, row, &ours[..length]).expect("permitted");
+        assert!(
+            [price.memory, price.load, price.total] == [other.memory, other.load, other.total],
+            "the prices differ"
+        );
+        ours[..length].to_vec()
+    };
+    sheets.iter().map(schedule_of).collect()
 }

@@ -32,10 +32,16 @@ pub fn optimal_schedule(sheet: &Sheet, row: u64, out: &mut [u8]) -> Result<usize
     let (h, d) = sheet.row(row)?;
     let length = STEP * sheet.refs;
     let out = out.get_mut(..length).ok_or(Refusal::PlaceTooShort)?;
-    let held_on = held_on(sheet, h, d);
+    write_held(sheet, &held_on(sheet, h, d), out);
+    Ok(length)
+}
+
+/// Writes the schedule that holds the touched segment of each step until its next touch where all bits are set for the step.
+#[inline(always)]
+pub(crate) fn write_held(sheet: &Sheet, held_on: &[u64; Sheet::REFS], out: &mut [u8]) {
     let mut held: Held = [0; 4];
     let (places, _) = out.as_chunks_mut::<STEP>();
-    for ((place, &segment), &on) in places.iter_mut().zip(sheet.references()).zip(&held_on) {
+    for ((place, &segment), &on) in places.iter_mut().zip(sheet.references()).zip(held_on) {
         let alone = &ALONE[segment as usize & 255];
         for word in 0..4 {
             held[word] |= alone[word];
@@ -43,7 +49,6 @@ pub fn optimal_schedule(sheet: &Sheet, row: u64, out: &mut [u8]) -> Result<usize
             held[word] &= !(alone[word] & !on);
         }
     }
-    Ok(length)
 }
 
 /// For each step all bits set where the touched segment is held until its next touch, else none.

@@ -85,27 +85,8 @@ impl Sheet {
         if bytes.len() > Sheet::BYTES {
             return Err(Refusal::SheetTooLong);
         }
-        let (kind, mut at) = value(bytes, 0, b"kind=")?;
-        self.kind = match kind {
-            b"time" => Kind::Time,
-            b"space" => Kind::Space,
-            _ => return Err(Refusal::ValueMalformed),
-        };
-        self.a = take_number(bytes, &mut at, b"a=", 0, Sheet::A)?;
-        self.segs = take_number(bytes, &mut at, b"segs=", 1, Sheet::SEGS as u64)? as usize;
-        for place in &mut self.size_list[..self.segs] {
-            *place = take_number(bytes, &mut at, b"size=", 1, Sheet::SIZE)? as u16;
-        }
-        self.rows = take_number(bytes, &mut at, b"rows=", 1, Sheet::ROWS as u64)? as usize;
-        let mut before: Option<(u64, u64)> = None;
-        for place in &mut self.row_list[..self.rows] {
-            let (h, d) = take_row(bytes, &mut at)?;
-            if before.is_some_and(|(last_h, last_d)| h * last_d <= last_h * d) {
-                return Err(Refusal::ThresholdNotAbove);
-            }
-            before = Some((h, d));
-            *place = (h as u16, d as u16);
-        }
+        let mut at = 0;
+        self.read_head(bytes, &mut at)?;
         self.refs = take_number(bytes, &mut at, b"refs=", 0, Sheet::REFS as u64)? as usize;
         let highest = self.segs as u64 - 1;
         for place in &mut self.ref_list[..self.refs] {
@@ -113,6 +94,34 @@ impl Sheet {
         }
         if at < bytes.len() {
             return Err(Refusal::BytesAfterEnd);
+        }
+        Ok(())
+    }
+
+    /// The lines from kind= to the rows, from a place on. The place goes to the next line.
+    #[inline(always)]
+    pub(crate) fn read_head(&mut self, bytes: &[u8], at: &mut usize) -> Result<(), Refusal> {
+        let (kind, next) = value(bytes, *at, b"kind=")?;
+        *at = next;
+        self.kind = match kind {
+            b"time" => Kind::Time,
+            b"space" => Kind::Space,
+            _ => return Err(Refusal::ValueMalformed),
+        };
+        self.a = take_number(bytes, at, b"a=", 0, Sheet::A)?;
+        self.segs = take_number(bytes, at, b"segs=", 1, Sheet::SEGS as u64)? as usize;
+        for place in &mut self.size_list[..self.segs] {
+            *place = take_number(bytes, at, b"size=", 1, Sheet::SIZE)? as u16;
+        }
+        self.rows = take_number(bytes, at, b"rows=", 1, Sheet::ROWS as u64)? as usize;
+        let mut before: Option<(u64, u64)> = None;
+        for place in &mut self.row_list[..self.rows] {
+            let (h, d) = take_row(bytes, at)?;
+            if before.is_some_and(|(last_h, last_d)| h * last_d <= last_h * d) {
+                return Err(Refusal::ThresholdNotAbove);
+            }
+            before = Some((h, d));
+            *place = (h as u16, d as u16);
         }
         Ok(())
     }
@@ -148,14 +157,14 @@ impl Sheet {
 
 /// The 8 bytes from a place on, if there are so many.
 #[inline(always)]
-fn eight(bytes: &[u8], at: usize) -> Option<u64> {
+pub(crate) fn eight(bytes: &[u8], at: usize) -> Option<u64> {
     let eight = bytes.get(at..)?.first_chunk::<8>()?;
     Some(u64::from_le_bytes(*eight))
 }
 
 /// The number on the line at a place, within its range. The place goes to the next line.
 #[inline(always)]
-fn take_number<const N: usize>(
+pub(crate) fn take_number<const N: usize>(
     bytes: &[u8],
     at: &mut usize,
     key: &[u8; N],
@@ -183,7 +192,7 @@ fn any_number(bytes: &[u8], at: usize, key: &[u8], low: u64, high: u64) -> Resul
 }
 
 /// The value of the line at a place, all between its key and its line feed, and the next line's place.
-fn value<'a>(bytes: &'a [u8], at: usize, key: &[u8]) -> Result<(&'a [u8], usize), Refusal> {
+pub(crate) fn value<'a>(bytes: &'a [u8], at: usize, key: &[u8]) -> Result<(&'a [u8], usize), Refusal> {
     let rest = &bytes[at..];
     let end = rest.iter().position(|&byte| byte == b'\n').ok_or(Refusal::LineMalformed)?;
     let value = rest[..end].strip_prefix(key).ok_or(Refusal::LineMalformed)?;
@@ -222,7 +231,7 @@ fn any_row(bytes: &[u8], at: usize) -> Result<(u64, u64, usize), Refusal> {
     Ok((in_range(h, 0, Sheet::PRICE)?, in_range(d, 1, Sheet::PRICE)?, next))
 }
 
-fn in_range(value: u32, low: u64, high: u64) -> Result<u64, Refusal> {
+pub(crate) fn in_range(value: u32, low: u64, high: u64) -> Result<u64, Refusal> {
     if (low..=high).contains(&(value as u64)) {
         Ok(value as u64)
     } else {

@@ -97,6 +97,16 @@ extern "C" {
         written: *mut u64,
     ) -> u64;
 
+    /// The schedule of the least total with stores counted, of a row of a sheet of form 4.
+    pub fn segtrace_modified_schedule(
+        sheet: *const u8,
+        sheet_length: usize,
+        row: u64,
+        out: *mut u8,
+        out_length: usize,
+        written: *mut u64,
+    ) -> u64;
+
     /// Memory, load and total of a schedule.
     pub fn segtrace_price(
         sheet: *const u8,

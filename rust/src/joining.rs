@@ -1,6 +1,6 @@
 //! Two aligners in one memory.
 
-use crate::{c, Refusal, SHEET_BYTES};
+use crate::{c, Refusal, SHEET_BYTES_FORM_3};
 
 /// Two sheets of form 2 or 3 with the same kind, a and row lines as one sheet of form 3 on the same clock; the second's segments are
 /// numbered after the first's. The first sheet's refusals (any other form is 4), then the second's, 20, 21, 22.
@@ -13,7 +13,7 @@ use crate::{c, Refusal, SHEET_BYTES};
 /// assert_eq!(segtrace::join(first, first), Err(segtrace::Refusal::BothTouch));
 /// ```
 pub fn join(first: &[u8], second: &[u8]) -> Result<Vec<u8>, Refusal> {
-    let mut out = vec![0; SHEET_BYTES];
+    let mut out = vec![0; SHEET_BYTES_FORM_3];
     let length = join_into(first, second, &mut out)?;
     out.truncate(length);
     Ok(out)

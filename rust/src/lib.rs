@@ -33,13 +33,15 @@ pub use refusal::Refusal;
 pub use windowing::{windows, windows_into};
 
 /// The most bytes of a sheet, of any form.
-pub const SHEET_BYTES: usize = 31_366;
+pub const SHEET_BYTES: usize = 33_414;
 /// The most bytes of a sheet of form 1.
 pub const SHEET_BYTES_FORM_1: usize = 20_012;
 /// The most bytes of a sheet of form 2.
 pub const SHEET_BYTES_FORM_2: usize = 29_163;
-/// The most bytes of a listing.
-pub const LISTING_BYTES: usize = 11_558;
+/// The most bytes of a sheet of form 3.
+pub const SHEET_BYTES_FORM_3: usize = 31_366;
+/// The most bytes of a listing, of any form.
+pub const LISTING_BYTES: usize = 13_158;
 /// The most bytes of a page for the binder: two pages.
 pub const PAGE_BYTES: usize = 8_760;
 /// The most bytes of a schedule.
@@ -113,7 +115,7 @@ impl Figures {
 pub struct Price {
     /// Q and what the held untouched segments cost.
     pub memory: u64,
-    /// The swap costs of the touches that load.
+    /// The swap costs of the touches that load and, in form 4, of the stays that are stored.
     pub load: u64,
     /// d times the memory and h times the load.
     pub total: u64,
@@ -189,7 +191,7 @@ pub fn all_figures(sheet: &[u8], out: &mut [Figures]) -> Result<usize, Refusal> 
     Ok(written as usize / Figures::COUNT)
 }
 
-/// The listing, at the front of `out`. Gives its length: the sheet's refusals, 11.
+/// The listing, in form 4 with modtotal after each mean, at the front of `out`. Gives its length: the sheet's refusals, 11.
 pub fn listing(sheet: &[u8], out: &mut [u8]) -> Result<usize, Refusal> {
     let mut written = 0;
     Refusal::answer(unsafe {
@@ -208,7 +210,8 @@ pub fn page(sheet: &[u8], out: &mut [u8]) -> Result<usize, Refusal> {
     Ok(written as usize)
 }
 
-/// The optimal schedule of a row, 32 bytes a step, at the front of `out`. Gives its length: the sheet's refusals, 7, 11.
+/// The optimal schedule of a row of a sheet of forms 1 to 3, 32 bytes a step, at the front of `out`. Gives its length: the sheet's
+/// refusals (form 4 is 4), 7, 11.
 pub fn optimal_schedule(sheet: &[u8], row: u64, out: &mut [u8]) -> Result<usize, Refusal> {
     let mut written = 0;
     Refusal::answer(unsafe {
@@ -217,7 +220,28 @@ pub fn optimal_schedule(sheet: &[u8], row: u64, out: &mut [u8]) -> Result<usize,
     Ok(written as usize)
 }
 
-/// What a schedule costs at a row: the sheet's refusals, 7, 8, then 9 or 10 of the earliest faulty step.
+/// The schedule of the least total with stores counted, of a row of a sheet of form 4, 32 bytes a step, at the front of `out`. Its total
+/// is modtotal of the listing; of several it is the one with the least load. Gives its length: the sheet's refusals (any other form is 4),
+/// 7, 11.
+///
+/// ```
+/// let sheet = b"form=4\nkind=space\na=1\nsegs=1\nsize=3\nrows=1\nrow=1/1\nwarm=0\nsteps=4\nrefs=2\nref=0@1w\nref=0@4w\n";
+/// let mut schedule = [0; 4 * 32];
+/// assert_eq!(segtrace::modified_schedule(sheet, 0, &mut schedule), Ok(4 * 32));
+/// // Held from touch to touch, segment 0 is loaded and stored once; dropped, it would be loaded and stored twice.
+/// assert!(schedule.iter().step_by(32).all(|&first| first == 1));
+/// let price = segtrace::price(sheet, 0, &schedule).unwrap();
+/// assert_eq!((price.memory, price.load, price.total), (12, 8, 20));
+/// ```
+pub fn modified_schedule(sheet: &[u8], row: u64, out: &mut [u8]) -> Result<usize, Refusal> {
+    let mut written = 0;
+    Refusal::answer(unsafe {
+        c::segtrace_modified_schedule(sheet.as_ptr(), sheet.len(), row, out.as_mut_ptr(), out.len(), &mut written)
+    })?;
+    Ok(written as usize)
+}
+
+/// What a schedule costs at a row, in form 4 with stores counted: the sheet's refusals, 7, 8, then 9 or 10 of the earliest faulty step.
 pub fn price(sheet: &[u8], row: u64, schedule: &[u8]) -> Result<Price, Refusal> {
     let mut price = [0; 3];
     Refusal::answer(unsafe {

@@ -41,7 +41,8 @@ impl Recorder {
         sums: [0; 390],
     };
 
-    /// A recorder with the kind, a, sizes, rows and warm segments of a sheet and no steps: the sheet's refusals.
+    /// A recorder with the kind, a, sizes, rows and warm segments of a sheet of forms 1 to 3 and no steps: the sheet's refusals (form 4 is
+    /// 4).
     pub fn start(sheet: &[u8]) -> Result<Recorder, Refusal> {
         let mut recorder = Recorder::EMPTY;
         let Recorder { head, counts, sizes, holds, h, d, last, sums } = &mut recorder;

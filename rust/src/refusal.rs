@@ -6,13 +6,13 @@ use std::fmt;
 #[derive(Clone, Copy, Debug, PartialEq, Eq, Hash)]
 #[repr(u64)]
 pub enum Refusal {
-    /// The sheet is longer than 20,012 bytes, in form 2 than 29,163, in form 3 than 31,366.
+    /// The sheet is longer than 20,012 bytes, in form 2 than 29,163, in form 3 than 31,366, in form 4 than 33,414.
     SheetTooLong = 1,
     /// A line is missing, lacks its line feed, or does not begin with its key and "=".
     LineMalformed,
-    /// A value is not a kind word, a number, or for a row two numbers around "/".
+    /// A value is not a kind word, a number, for a row two numbers around "/", or for a touch two around "@", in form 4 with the letter w.
     ValueMalformed,
-    /// A number lies outside its range.
+    /// A number lies outside its range, or a call is not made for the sheet's form.
     OutOfRange,
     /// A row's threshold does not exceed the one before.
     ThresholdNotAbove,

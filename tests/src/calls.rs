@@ -7,6 +7,7 @@ use crate::frames;
 use crate::import;
 use crate::join;
 use crate::mistakes;
+use crate::modified;
 use crate::points;
 use crate::windows;
 use crate::wrong::{self, Call};
@@ -15,10 +16,13 @@ use std::slice::from_mut;
 
 pub fn check(sheet: &[u8]) -> u64 {
     let real = |_: &mut [u8]| unsafe { c::segtrace_check(sheet.as_ptr(), sheet.len()) };
-    mistakes::verdict(sheet, wrong::list(Call::Check, &mut [], real))
+    modified::verdict(sheet, mistakes::verdict(sheet, wrong::list(Call::Check, &mut [], real)))
 }
 
 pub fn rewrite(sheet: &[u8], out: &mut [u8], written: &mut u64) -> u64 {
+    if let Some(answer) = modified::mistaken_sheet(sheet) {
+        return wrong::put(answer, out, written);
+    }
     wrong::lent(Call::Rewrite, out, written, |out, written| unsafe {
         c::segtrace_rewrite(sheet.as_ptr(), sheet.len(), out.as_mut_ptr(), out.len(), written)
     })
@@ -115,6 +119,9 @@ pub fn all_figures(sheet: &[u8], out: &mut [u64], written: &mut u64) -> u64 {
 }
 
 pub fn listing(sheet: &[u8], out: &mut [u8], written: &mut u64) -> u64 {
+    if let Some(answer) = modified::mistaken_listing(sheet) {
+        return wrong::put(answer, out, written);
+    }
     wrong::lent(Call::Listing, out, written, |out, written| unsafe {
         c::segtrace_listing(sheet.as_ptr(), sheet.len(), out.as_mut_ptr(), out.len(), written)
     })
@@ -127,6 +134,9 @@ pub fn page(sheet: &[u8], out: &mut [u8], written: &mut u64) -> u64 {
 }
 
 pub fn optimal_schedule(sheet: &[u8], row: u64, out: &mut [u8], written: &mut u64) -> u64 {
+    if let Some(answer) = modified::mistaken_schedule(Call::OptimalSchedule, sheet, row) {
+        return wrong::put(answer, out, written);
+    }
     let returned = wrong::lent(Call::OptimalSchedule, out, written, |out, written| unsafe {
         c::segtrace_optimal_schedule(sheet.as_ptr(), sheet.len(), row, out.as_mut_ptr(), out.len(), written)
     });
@@ -136,12 +146,24 @@ pub fn optimal_schedule(sheet: &[u8], row: u64, out: &mut [u8], written: &mut u6
     returned
 }
 
+pub fn modified_schedule(sheet: &[u8], row: u64, out: &mut [u8], written: &mut u64) -> u64 {
+    if let Some(answer) = modified::mistaken_schedule(Call::ModifiedSchedule, sheet, row) {
+        return wrong::put(answer, out, written);
+    }
+    wrong::lent(Call::ModifiedSchedule, out, written, |out, written| unsafe {
+        c::segtrace_modified_schedule(sheet.as_ptr(), sheet.len(), row, out.as_mut_ptr(), out.len(), written)
+    })
+}
+
 pub fn price(sheet: &[u8], row: u64, schedule: &[u8], price: &mut [u64; 3]) -> u64 {
     let real = |schedule: &[u8], price: &mut [u64]| unsafe {
         let (bytes, length) = (schedule.as_ptr(), schedule.len());
         c::segtrace_price(sheet.as_ptr(), sheet.len(), row, bytes, length, price.as_mut_ptr())
     };
     let returned = wrong::list(Call::Price, price, |price| real(schedule, price));
+    if returned == 0 {
+        modified::mistaken_price(sheet, row, schedule, price);
+    }
     let other = if returned == 10 { mistakes::other_schedule(sheet, schedule) } else { None };
     other.map_or(returned, |other| real(&other, price))
 }

@@ -3,6 +3,7 @@
 use crate::calls;
 use crate::enumerate;
 use crate::generate::{self, Prng};
+use crate::modified;
 use crate::place::{Item, Place};
 use crate::reference::{self, Figures, Intervals, Price, Row, Sheet, LOAD, OPTMEM, OPTTOTAL, STEP};
 use crate::tally::Tally;
@@ -23,6 +24,7 @@ pub struct Case<'a> {
 impl Case<'_> {
     pub fn run(&mut self) -> Outcome {
         let given = self.bytes.to_vec();
+        self.on(self.bytes);
         match reference::read(self.bytes) {
             Ok(sheet) => self.accepted(&sheet)?,
             Err(number) => self.refused(number)?,
@@ -30,11 +32,17 @@ impl Case<'_> {
         ensure(self.bytes == given, || "the sheet handed in was changed".to_string())
     }
 
+    /// The calls that follow are on these bytes.
+    pub fn on(&mut self, bytes: &[u8]) {
+        self.tally.form_4 = bytes.starts_with(b"form=4\n");
+    }
+
     // ---- A sheet that is refused ----
 
-    /// Every call gives the sheet's own number, whatever else is wrong.
+    /// Every call gives the sheet's own number, whatever else is wrong; a call that is not made for every form may give 4 before it.
     fn refused(&mut self, number: u64) -> Outcome {
         let bytes = self.bytes;
+        let [older, newest] = [(1, 3), (4, 4)].map(|(low, high)| reference::read_forms(bytes, low, high).map(drop));
         let (row, reference, ceiling) = (self.odd_number(), self.odd_number(), self.prng.next());
         let schedule = self.some_bytes();
         self.verdict(number)?;
@@ -43,8 +51,11 @@ impl Case<'_> {
         self.call::<u64>("all_figures", Err(number), |out, written| calls::all_figures(bytes, out, written))?;
         self.call::<u8>("listing", Err(number), |out, written| calls::listing(bytes, out, written))?;
         self.call::<u8>("page", Err(number), |out, written| calls::page(bytes, out, written))?;
-        self.call::<u8>("optimal_schedule", Err(number), |out, written| {
+        self.call::<u8>("optimal_schedule", older.map(|_| &[][..]), |out, written| {
             calls::optimal_schedule(bytes, row, out, written)
+        })?;
+        self.call::<u8>("modified_schedule", newest.map(|_| &[][..]), |out, written| {
+            calls::modified_schedule(bytes, row, out, written)
         })?;
         self.list_call::<u64, 3>("price", Err(number), |out| calls::price(bytes, row, &schedule, out))?;
         self.list_call::<i64, 1>("margin", Err(number), |[out]| calls::margin(bytes, row, reference, out))?;
@@ -57,7 +68,8 @@ impl Case<'_> {
         self.frames()?;
         self.windows()?;
         self.points()?;
-        self.start_refused(number)?;
+        self.on(bytes);
+        self.start_refused(older)?;
         self.wrapper_refused(number, row, reference, ceiling, &schedule)
     }
 
@@ -84,12 +96,13 @@ impl Case<'_> {
         let all: Vec<Figures> = sheet.rows.iter().map(|&row| reference::figures(sheet, &intervals, row)).collect();
         self.verdict(0)?;
         self.call("rewrite", Ok(bytes), |out, written| calls::rewrite(bytes, out, written))?;
-        let listing = reference::listing(sheet, &all);
+        let modtotals = modified::modtotals(sheet);
+        let listing = reference::listing(sheet, &all, &modtotals);
         self.call("listing", Ok(&listing), |out, written| calls::listing(bytes, out, written))?;
         self.call("page", Ok(&reference::page(sheet, &all)), |out, written| calls::page(bytes, out, written))?;
         self.call("all_figures", Ok(all.as_flattened()), |out, written| calls::all_figures(bytes, out, written))?;
         self.figures(sheet, &all)?;
-        self.schedules(sheet, &all)?;
+        self.schedules(sheet, &all, &modtotals)?;
         self.margins(sheet)?;
         self.sizing(&all)?;
         self.bills(sheet, &all)?;
@@ -100,11 +113,15 @@ impl Case<'_> {
         self.frames()?;
         self.windows()?;
         self.points()?;
+        self.on(bytes);
+        if sheet.form > 3 {
+            self.modified(sheet)?;
+        }
         if sheet.sizes.len() <= enumerate::MOST_SEGS && sheet.steps.len() <= enumerate::MOST_STEPS {
             self.demand_three(sheet)?;
         }
         self.recorder(sheet)?;
-        self.wrapper_accepted(sheet, &all)
+        self.wrapper_accepted(sheet, &all, &listing)
     }
 
     /// `check` on the sheet.
@@ -145,22 +162,26 @@ impl Case<'_> {
 
     // ---- Schedules ----
 
-    fn schedules(&mut self, sheet: &Sheet, all: &[Figures]) -> Outcome {
+    fn schedules(&mut self, sheet: &Sheet, all: &[Figures], modtotals: &[u64]) -> Outcome {
         let bytes = self.bytes;
         let row = self.no_row(sheet);
-        self.call::<u8>("optimal_schedule", Err(7), |out, written| calls::optimal_schedule(bytes, row, out, written))?;
+        self.schedule(sheet, row, Err(7))?;
         let few = if sheet.steps.len() > 100 { 1 } else { 3 };
         for row in self.some_rows(sheet, few) {
-            let optimal = reference::optimal_schedule(sheet, sheet.rows[row]);
-            let price = self.price(sheet, &optimal, row)?;
-            ensure(price == Ok([all[row][OPTMEM], all[row][LOAD], all[row][OPTTOTAL]]), || {
-                "the reference prices its optimal schedule otherwise than its figures say".to_string()
+            let (best, wanted) = modified::best(sheet, row, &all[row]);
+            ensure(sheet.form < 4 || wanted[2] == modtotals[row], || "the reference has two modtotals".to_string())?;
+            let price = self.price(sheet, &best, row)?;
+            ensure(price == Ok(wanted), || {
+                "the reference prices the schedule that it writes otherwise than its figures say".to_string()
             })?;
-            self.call("optimal_schedule", Ok(&optimal), |out, written| {
-                calls::optimal_schedule(bytes, row as u64, out, written)
-            })?;
-            let damaged = generate::damaged_schedule(&mut self.prng, sheet, &optimal);
+            self.schedule(sheet, row as u64, Ok(&best))?;
+            let damaged = generate::damaged_schedule(&mut self.prng, sheet, &best);
             self.price(sheet, &damaged, row).map(drop)?;
+            // In form 4 the schedule of document 01 costs at least as much.
+            let kept = self.price(sheet, &reference::optimal_schedule(sheet, sheet.rows[row]), row)?;
+            ensure(kept.is_ok_and(|[memory, _, total]| memory == all[row][OPTMEM] && total >= wanted[2]), || {
+                format!("the reference prices the schedule of the keep rule at {kept:?}")
+            })?;
         }
         for _ in 0..few {
             let row = self.some_row(sheet);
@@ -168,7 +189,8 @@ impl Case<'_> {
             let [_, load, total] = self
                 .price(sheet, &permitted, row)?
                 .map_err(|number| format!("the reference refuses a permitted schedule with {number}"))?;
-            ensure((total, load) >= (all[row][OPTTOTAL], all[row][LOAD]), || {
+            let (_, [_, least_load, least]) = modified::best(sheet, row, &all[row]);
+            ensure((total, load) >= (least, least_load), || {
                 format!("the reference finds a permitted schedule of total {total} and load {load} below the optimum")
             })?;
             let damaged = generate::damaged_schedule(&mut self.prng, sheet, &permitted);
@@ -177,6 +199,14 @@ impl Case<'_> {
             self.list_call::<u64, 3>("price", Err(7), |out| calls::price(bytes, no_row, &damaged, out))?;
         }
         Ok(())
+    }
+
+    /// The schedule call that is made for the sheet's form, and the other one, which gives 4.
+    fn schedule(&mut self, sheet: &Sheet, row: u64, want: Result<&[u8], u64>) -> Outcome {
+        let bytes = self.bytes;
+        let (older, newest) = if sheet.form > 3 { (Err(4), want) } else { (want, Err(4)) };
+        self.call("optimal_schedule", older, |out, written| calls::optimal_schedule(bytes, row, out, written))?;
+        self.call("modified_schedule", newest, |out, written| calls::modified_schedule(bytes, row, out, written))
     }
 
     /// Prices a schedule, permitted or not, at a row. Gives the price or the number that the reference finds.
@@ -193,6 +223,10 @@ impl Case<'_> {
     fn demand_three(&mut self, sheet: &Sheet) -> Outcome {
         let permitted = enumerate::permitted_schedules(sheet);
         for (number, &row) in sheet.rows.iter().enumerate() {
+            if sheet.form > 3 {
+                self.demand_three_modified(&permitted, number, row)?;
+                continue;
+            }
             let mut figures = [0; 11];
             let mut schedule = vec![0; STEP * sheet.steps.len()];
             let mut written = 0;

@@ -97,6 +97,7 @@ impl Case<'_> {
 
     /// Both calls on a run of bytes.
     fn curve(&mut self, bytes: &[u8]) -> Outcome {
+        self.on(bytes);
         let want = lru(bytes);
         let shown = |message| format!("{message}; the sheet of sizes 1:\n{}", bytes.escape_ascii());
         let answer = want.as_deref().map_err(|&number| number);
@@ -150,7 +151,12 @@ fn falls(bytes: &[u8], list: &[u64]) -> Outcome {
 /// The sheet with every size 1 and no warm segment, in any form that it can have.
 pub fn pages_of(prng: &mut Prng, sheet: &Sheet) -> Sheet {
     let lowest = if sheet.steps.contains(&None) { 2 } else { 1 };
-    Sheet { form: prng.between(lowest, 3), sizes: vec![1; sheet.sizes.len()], warm: Vec::new(), ..sheet.clone() }
+    Sheet {
+        form: prng.between(lowest, reference::NEWEST_FORM),
+        sizes: vec![1; sheet.sizes.len()],
+        warm: Vec::new(),
+        ..sheet.clone()
+    }
 }
 
 /// A sheet of sizes 1 with one size that is another, or with warm segments, or both.
@@ -163,7 +169,7 @@ pub fn nearly(prng: &mut Prng, sheet: &Sheet, mut pages: Sheet) -> Sheet {
     }
     if which != 1 {
         let one = prng.below(pages.sizes.len());
-        pages.form = 3;
+        pages.form = prng.between(3, reference::NEWEST_FORM);
         pages.warm = if sheet.warm.is_empty() { vec![one] } else { sheet.warm.clone() };
     }
     pages
@@ -171,13 +177,13 @@ pub fn nearly(prng: &mut Prng, sheet: &Sheet, mut pages: Sheet) -> Sheet {
 
 // ---- Examples ----
 
-/// The sheet of sizes 1 that a string of references makes, of any form; in forms 2 and 3 with idle steps between.
+/// The sheet of sizes 1 that a string of references makes, of any form; from form 2 on with idle steps between.
 pub fn string(form: u64, segs: usize, touches: &[usize]) -> Vec<u8> {
     let idle = |place: usize| if form > 1 { vec![None; place % 3] } else { Vec::new() };
     let steps = (0..).zip(touches).flat_map(|(place, &segment)| [idle(place), vec![Some(segment)]].concat()).collect();
     let rows = vec![Row { h: 1, d: 1 }];
     let (kind, warm) = (Kind::Space, Vec::new());
-    reference::write(&Sheet { form, kind, a: 3, sizes: vec![1; segs], rows, warm, steps })
+    reference::write(&Sheet { form, kind, a: 3, sizes: vec![1; segs], rows, warm, steps, marks: Vec::new() })
 }
 
 /// The reference string of document 002.
@@ -210,7 +216,7 @@ fn curves() -> Vec<(usize, &'static [usize], &'static [u64], u64)> {
 pub fn examples() -> Vec<(Vec<u8>, Check)> {
     let mut list: Vec<(Vec<u8>, Check)> = Vec::new();
     for (segs, touches, want, looked) in curves() {
-        for form in 1..=3 {
+        for form in 1..=reference::NEWEST_FORM {
             let want = Ok((want.to_vec(), looked));
             list.push((string(form, segs, touches), Box::new(move |bytes| gives(bytes, &want))));
         }

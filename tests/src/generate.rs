@@ -168,12 +168,13 @@ pub fn sheet(prng: &mut Prng, shape: Shape) -> Sheet {
     let lowest = if longest_lines { 100 } else { 0 };
     let mut steps: Vec<Option<usize>> =
         references(prng, pattern, lowest, segs, ref_count).into_iter().map(Some).collect();
-    let form = prng.pick(&[1, 2, 3, 3]);
+    let form = prng.pick(&[1, 2, 3, 3, 4, 4, 4]);
     if form > 1 && !longest_lines {
         put_in_idle_steps(prng, &mut steps, most_refs as usize);
     }
     let warm = if form > 2 { warm_segments(prng, segs, &steps, longest_lines) } else { Vec::new() };
-    let mut sheet = Sheet { form, kind, a, sizes, rows: Vec::new(), warm, steps };
+    let marks = if form > 3 { marks(prng, &steps, longest_lines) } else { Vec::new() };
+    let mut sheet = Sheet { form, kind, a, sizes, rows: Vec::new(), warm, steps, marks };
     let style = if longest_lines { RowStyle::FiveDigits } else { prng.pick(&RowStyle::ALL) };
     sheet.rows = rows(prng, &sheet, style, row_count);
     sheet
@@ -222,6 +223,21 @@ fn warm_segments(prng: &mut Prng, segs: usize, steps: &[Option<usize>], all: boo
         _ => prng.below(6) < often,
     };
     (0..segs).filter(|&segment| chosen(segment)).collect()
+}
+
+/// Which touches modify: none, all, one, those of one segment, or any.
+fn marks(prng: &mut Prng, steps: &[Option<usize>], all: bool) -> Vec<bool> {
+    let style = if all { 1 } else { prng.below(10) };
+    let one = prng.below(steps.len().max(1));
+    let often = prng.pick(&[1, 2, 4, 8, 12]);
+    let mut chosen = |step: usize| match style {
+        0 => false,
+        1 | 2 => true,
+        3 => step == one,
+        4 => steps[step] == steps[one],
+        _ => prng.below(16) < often,
+    };
+    (0..steps.len()).map(|step| steps[step].is_some() && chosen(step)).collect()
 }
 
 /// How the thresholds of the rows are chosen.
@@ -289,15 +305,27 @@ fn threshold(prng: &mut Prng, sheet: &Sheet, style: RowStyle, centre: Row) -> Ro
     }
 }
 
-/// R and w of a random reuse, as h and d.
+/// R and w of a random reuse, as h and d. In form 4 at times R of all reuses up to a touch that modifies from the one before it that does,
+/// and as many w and one more: where none of them is kept, holding the segment costs there what loads and a store do.
 fn reuse_ratio(prng: &mut Prng, sheet: &Sheet) -> Option<Row> {
     let references = sheet.references();
     if references.is_empty() {
         return None;
     }
     let (step, segment) = prng.pick(&references);
-    let last = sheet.last_touch(segment, step)?;
-    Some(Row { h: sheet.retention(segment, (step - last - 1) as u64), d: sheet.swap_cost(segment) })
+    let mut last = sheet.last_touch(segment, step)?;
+    let mut row = Row { h: sheet.retention(segment, (step - last - 1) as u64), d: sheet.swap_cost(segment) };
+    if sheet.modifies(step) && !prng.one_in(3) {
+        let mut reuses = 1;
+        while last > 0 && !sheet.modifies(last) {
+            let before = sheet.last_touch(segment, last)?;
+            row.h += sheet.retention(segment, (last - before - 1) as u64);
+            reuses += 1;
+            last = before;
+        }
+        row.d *= reuses + 1;
+    }
+    Some(row)
 }
 
 /// The ratio R/w of a random reuse as a threshold, where it fits one, or a threshold beside it.
@@ -389,7 +417,7 @@ fn damage(prng: &mut Prng, sheet: &Sheet, mut bytes: Vec<u8>) -> Vec<u8> {
     }
     let byte = if prng.one_in(2) { prng.pick(ODD_BYTES) } else { prng.next() as u8 };
     let place = prng.below(bytes.len());
-    match prng.below(24) {
+    match prng.below(27) {
         0 => bytes[place] = byte,
         1 => bytes.insert(place, byte),
         2 => {
@@ -407,6 +435,7 @@ fn damage(prng: &mut Prng, sheet: &Sheet, mut bytes: Vec<u8>) -> Vec<u8> {
         12 => bytes = strange(prng),
         13 | 14 => bytes = with_form_line(prng, bytes),
         15 | 16 => bytes = with_holds_moved(prng, sheet, bytes),
+        17..=19 => bytes = with_odd_letter(prng, bytes),
         _ => bytes = with_odd_value(prng, sheet, bytes),
     }
     bytes
@@ -481,10 +510,14 @@ fn with_form_line(prng: &mut Prng, bytes: Vec<u8>) -> Vec<u8> {
         "form=3\n",
         "form=3\n",
         "form=4\n",
+        "form=4\n",
+        "form=5\n",
         "form=02\n",
         "form=03\n",
+        "form=04\n",
         "form=2",
         "form=3",
+        "form=4",
         "form=\n",
         "form=",
         "form\n",
@@ -493,6 +526,7 @@ fn with_form_line(prng: &mut Prng, bytes: Vec<u8>) -> Vec<u8> {
         "form=two\n",
         "form=18446744073709551618\n",
         "form=18446744073709551619\n",
+        "form=18446744073709551620\n",
     ]);
     let named = bytes.starts_with(b"form=") && prng.one_in(2);
     let from = if named { bytes.iter().position(|&byte| byte == b'\n').map_or(0, |end| end + 1) } else { 0 };
@@ -577,6 +611,31 @@ fn with_holds_moved(prng: &mut Prng, sheet: &Sheet, bytes: Vec<u8>) -> Vec<u8> {
         5 => put(line, segs + prng.below(3) as u128),
         _ => lines.swap(before, line),
     }
+    lines.concat()
+}
+
+/// A letter or another byte put in after the step of a touch or elsewhere on its line, exchanged for its letter, or taken away; at times
+/// with a step that is not above the one before.
+fn with_odd_letter(prng: &mut Prng, bytes: Vec<u8>) -> Vec<u8> {
+    let mut lines = lines(&bytes);
+    let Some(line) = line_with(prng, &lines, "ref") else { return bytes };
+    let text = String::from_utf8_lossy(&lines[line]).trim_end().to_string();
+    let plain = text.strip_suffix('w').unwrap_or(&text);
+    let (segment, step) = plain.split_once('@').unwrap_or((plain, ""));
+    let changed = match prng.below(12) {
+        0 | 1 => format!("{plain}w"),
+        2 => plain.to_string(),
+        3 => format!("{plain}W"),
+        4 => format!("{plain}ww"),
+        5 => format!("{segment}@w"),
+        6 => format!("{segment}w@{step}"),
+        7 => format!("{segment}@w{step}"),
+        8 => format!("{plain}{}", prng.pick(&[" w", "w ", "w\r", "w1", "x", "v"])),
+        9 => format!("{segment}@0{step}w"),
+        10 => format!("{segment}@{}w", prng.pick(&["0", "1", "2049", "65536", "18446744073709551617"])),
+        _ => format!("{segment}@{}w", prng.between(0, 6)),
+    };
+    lines[line] = format!("{changed}\n").into_bytes();
     lines.concat()
 }
 
@@ -717,9 +776,10 @@ fn odd_row(prng: &mut Prng, h: u128, d: u128) -> String {
 fn odd_touch(prng: &mut Prng, sheet: &Sheet, line: &[u8]) -> String {
     let value = std::str::from_utf8(line).ok().and_then(|line| line.trim_end().strip_prefix("ref="));
     let parts = value.and_then(|value| value.split_once('@'));
-    let number = |text: &str| text.parse::<u128>().unwrap_or(1);
+    let number = |text: &str| text.strip_suffix('w').unwrap_or(text).parse::<u128>().unwrap_or(1);
     let (segment, step) = parts.map_or((0, 1), |(segment, step)| (number(segment), number(step)));
     let (last_segment, steps) = (sheet.sizes.len() as u128 - 1, sheet.steps.len() as u128);
+    let letter = if sheet.form > 3 && prng.one_in(2) { "w" } else { "" };
     match prng.below(20) {
         0 => format!("{segment}"),
         1 => format!("{segment}@"),
@@ -729,16 +789,17 @@ fn odd_touch(prng: &mut Prng, sheet: &Sheet, line: &[u8]) -> String {
         5 => format!("{segment}@{step}@{step}"),
         6 => format!("{segment}@{step}w"),
         7 => format!("{segment}/{step}"),
-        8 => format!("{segment}@0"),
-        9 => format!("{segment}@{}", steps + 1),
-        10 => format!("{segment}@{}", step.saturating_sub(prng.between(1, 3) as u128)),
-        11 => format!("{segment}@{}", step + prng.between(1, 3) as u128),
-        12 => format!("{}@0", last_segment + 1),
+        8 => format!("{segment}@0{letter}"),
+        9 => format!("{segment}@{}{letter}", steps + 1),
+        10 => format!("{segment}@{}{letter}", step.saturating_sub(prng.between(1, 3) as u128)),
+        11 => format!("{segment}@{}{letter}", step + prng.between(1, 3) as u128),
+        12 => format!("{}@0{letter}", last_segment + 1),
         13 | 14 => {
-            format!("{}@{}", odd_number(prng, segment, 0, last_segment), odd_number(prng, step, 1, steps.max(1)))
+            let odd = odd_number(prng, segment, 0, last_segment);
+            format!("{odd}@{}{letter}", odd_number(prng, step, 1, steps.max(1)))
         }
-        15 | 16 => format!("{}@{step}", odd_number(prng, segment, 0, last_segment)),
-        _ => format!("{segment}@{}", odd_number(prng, step, 1, steps.max(1))),
+        15 | 16 => format!("{}@{step}{letter}", odd_number(prng, segment, 0, last_segment)),
+        _ => format!("{segment}@{}{letter}", odd_number(prng, step, 1, steps.max(1))),
     }
 }
 

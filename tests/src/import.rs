@@ -56,7 +56,8 @@ fn address(line: &[u8]) -> Option<u64> {
 fn imported(rows: Vec<Row>, segments: &[usize]) -> Sheet {
     let segs = segments.iter().map(|segment| segment + 1).max().unwrap_or(1);
     let steps = segments.iter().copied().map(Some).collect();
-    Sheet { form: 1, kind: Kind::Time, a: 0, sizes: vec![1; segs], rows, warm: Vec::new(), steps }
+    let (warm, marks) = (Vec::new(), Vec::new());
+    Sheet { form: 1, kind: Kind::Time, a: 0, sizes: vec![1; segs], rows, warm, steps, marks }
 }
 
 // ---- Traces ----
@@ -78,6 +79,7 @@ impl Case<'_> {
 
     fn import(&mut self, trace: &[u8], k: u64) -> Outcome {
         let bytes = self.bytes;
+        self.on(bytes);
         let given = trace.to_vec();
         let want = import_din(trace, k, bytes);
         let shown = |message| format!("{message}; k is {k}, the trace:\n{}", trace.escape_ascii());
@@ -236,6 +238,8 @@ pub fn examples() -> Vec<(Vec<u8>, Check)> {
     // The sheet may be of any form; its warm segments and steps play no part.
     add(include_bytes!("../../examples/idle.sheet"), trace, 12, Ok(sheet.to_vec()));
     add(include_bytes!("../../examples/warm.sheet"), trace, 12, Ok(sheet.to_vec()));
+    let form_4 = String::from_utf8_lossy(include_bytes!("../../examples/warm.sheet")).replace("form=3", "form=4");
+    add(form_4.replace("@4", "@4w").as_bytes(), trace, 12, Ok(sheet.to_vec()));
     for (trace, k, segments) in traces() {
         let segs = segments.iter().max().map_or(1, |most| most + 1);
         let sizes = "size=1\n".repeat(segs);

@@ -91,6 +91,7 @@ impl Case<'_> {
 
     /// Joins two runs of bytes, whatever they are.
     fn join(&mut self, first: &[u8], second: &[u8]) -> Outcome {
+        self.on(first);
         let given = [first.to_vec(), second.to_vec()];
         let want = join(first, second);
         let shown = |message| format!("{message}; joined:\n{}and:\n{}", first.escape_ascii(), second.escape_ascii());
@@ -199,9 +200,9 @@ fn keep_segments(sheet: &mut Sheet, count: usize) {
     sheet.steps.iter_mut().for_each(|touched| *touched = touched.filter(|&segment| segment < count));
 }
 
-/// One reason against joining: another kind, a or row, a step that both touch, too many segments, or form 1.
+/// One reason against joining: another kind, a or row, a step that both touch, too many segments, or form 1 or 4.
 fn fault(prng: &mut Prng, first: &Sheet, second: &mut Sheet) {
-    match prng.below(10) {
+    match prng.below(11) {
         0 => second.kind = if first.kind == Kind::Time { Kind::Space } else { Kind::Time },
         1 => second.a = if first.a == 255 { 254 } else { first.a + 1 },
         2 | 3 => other_rows(prng, &mut second.rows),
@@ -218,6 +219,7 @@ fn fault(prng: &mut Prng, first: &Sheet, second: &mut Sheet) {
             let count = (most + prng.pick(&[0, 1, 1, 2, 200])).clamp(1, 256);
             second.sizes.resize(count.max(second.sizes.len()), 1 + prng.between(0, 4_094));
         }
+        9 => second.form = 4,
         _ if second.steps.iter().all(Option::is_some) => {
             second.form = 1;
             second.warm.clear();
@@ -406,6 +408,7 @@ fn largest_pair() -> (Vec<u8>, Vec<u8>, Vec<u8>) {
         rows: rows.clone(),
         warm: (0..segs).collect(),
         steps: (0..2_048).map(touched).collect(),
+        marks: Vec::new(),
     };
     let first = sheet(128, &|step| (step % 2 == 0).then_some(100 + step / 2 % 28));
     let second = sheet(128, &|step| (step % 2 == 1).then_some(step / 2 % 128));

@@ -11,6 +11,7 @@ mod generate;
 mod import;
 mod join;
 mod mistakes;
+mod modified;
 mod place;
 mod points;
 mod recorder;

@@ -83,6 +83,7 @@ impl Case<'_> {
 
     /// The call on a run of bytes.
     fn point_list(&mut self, bytes: &[u8]) -> Outcome {
+        self.on(bytes);
         let want = points(bytes);
         let shown = |message| format!("{message}; the sheet:\n{}", bytes.escape_ascii());
         let answer = want.as_deref().map_err(|&number| number);
@@ -269,7 +270,8 @@ fn most_points() -> Vec<u8> {
         steps.push(Some(segment));
     }
     let rows = vec![Row { h: 1, d: 1 }];
-    reference::write(&Sheet { form: 3, kind: Kind::Time, a: 1, warm: (0..sizes.len()).collect(), sizes, rows, steps })
+    let (warm, marks) = ((0..sizes.len()).collect(), Vec::new());
+    reference::write(&Sheet { form: 3, kind: Kind::Time, a: 1, sizes, rows, warm, steps, marks })
 }
 
 /// 2,048 entries, and no place for fewer.

@@ -218,8 +218,9 @@ impl Recorder for Parts {
 }
 
 impl Case<'_> {
-    /// A start on bytes that are no sheet is refused with the sheet's number, and every part stays.
-    pub fn start_refused(&mut self, number: u64) -> Outcome {
+    /// A start on bytes that are no sheet that it takes is refused with the sheet's number, and every part stays.
+    pub fn start_refused(&mut self, verdict: Result<(), u64>) -> Outcome {
+        let number = verdict.err().ok_or("the reference accepts a sheet of forms 1 to 3 that it refuses")?;
         let old = random_parts(&mut self.prng);
         let mut parts = old.clone();
         let got = calls::start(self.bytes, &mut parts);
@@ -228,8 +229,12 @@ impl Case<'_> {
         ensure(parts == old, || "recorder: a refused start changed a part".to_string())
     }
 
-    /// Every way to use a recorder of the sheet.
+    /// Every way to use a recorder of the sheet. A recorder is not made for form 4.
     pub fn recorder(&mut self, sheet: &Sheet) -> Outcome {
+        if sheet.form > 3 {
+            self.start_refused(Err(4))?;
+            return self.by_hand();
+        }
         self.step_by_step::<Watched>(sheet)?;
         self.in_bulk::<Watched>(sheet)?;
         if sheet.steps.len() <= 300 && self.prng.one_in(4) {

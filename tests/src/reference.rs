@@ -6,6 +6,7 @@ pub fn longest(form: u64) -> usize {
     match form {
         2 => 29_163,
         3 => 31_366,
+        4 => 33_414,
         _ => 20_012,
     }
 }
@@ -13,7 +14,7 @@ pub fn longest(form: u64) -> usize {
 /// The most steps of a sheet or a recorder.
 pub const MOST_STEPS: usize = 2_048;
 /// The newest form of a sheet.
-pub const NEWEST_FORM: u64 = 3;
+pub const NEWEST_FORM: u64 = 4;
 /// Bytes of a schedule for one step.
 pub const STEP: usize = 32;
 
@@ -43,10 +44,12 @@ pub struct Sheet {
     pub a: u64,
     pub sizes: Vec<u64>,
     pub rows: Vec<Row>,
-    /// The warm segments, those in memory before step 1, ascending. Form 3 names them; the others have none.
+    /// The warm segments, those in memory before step 1, ascending. Named from form 3 on; the others have none.
     pub warm: Vec<usize>,
     /// For each step the segment that it touches, if any. Form 1 has a touch in every step.
     pub steps: Vec<Option<usize>>,
+    /// In form 4 for each step whether its touch modifies the segment. In the others nothing that stands here has a meaning.
+    pub marks: Vec<bool>,
 }
 
 // ---- Reading and writing ----
@@ -92,14 +95,19 @@ pub fn read_forms(bytes: &[u8], lowest: u64, highest: u64) -> Result<Sheet, u64>
         rows.push(row);
     }
     let warm = if form < 3 { Vec::new() } else { take_warm(&mut rest, segs)? };
-    let steps = if form == 1 { take_references(&mut rest, segs)? } else { take_touches(&mut rest, segs)? };
+    let touches = if form == 1 { take_references(&mut rest, segs)? } else { take_touches(&mut rest, segs, form > 3)? };
     if !rest.is_empty() {
         return Err(6);
     }
-    Ok(Sheet { form, kind, a, sizes, rows, warm, steps })
+    let (steps, marks) = touches.into_iter().unzip();
+    let marks = if form > 3 { marks } else { Vec::new() };
+    Ok(Sheet { form, kind, a, sizes, rows, warm, steps, marks })
 }
 
-/// warm= and hold= of form 3: segments in ascending order.
+/// What a step touches, if anything, and whether the touch modifies it.
+type Step = (Option<usize>, bool);
+
+/// warm= and hold= of form 3 on: segments in ascending order.
 fn take_warm(rest: &mut &[u8], segs: u64) -> Result<Vec<usize>, u64> {
     let count = take_number(rest, b"warm=", 0, segs)?;
     let mut warm: Vec<usize> = Vec::new();
@@ -114,27 +122,29 @@ fn take_warm(rest: &mut &[u8], segs: u64) -> Result<Vec<usize>, u64> {
 }
 
 /// refs= and ref= of form 1: a touch in every step.
-fn take_references(rest: &mut &[u8], segs: u64) -> Result<Vec<Option<usize>>, u64> {
+fn take_references(rest: &mut &[u8], segs: u64) -> Result<Vec<Step>, u64> {
     let count = take_number(rest, b"refs=", 0, MOST_STEPS as u64)?;
-    (0..count).map(|_| Ok(Some(take_number(rest, b"ref=", 0, segs - 1)? as usize))).collect()
+    (0..count).map(|_| Ok((Some(take_number(rest, b"ref=", 0, segs - 1)? as usize), false))).collect()
 }
 
-/// steps=, refs= and ref= of form 2 on: segment and step, in ascending steps.
-fn take_touches(rest: &mut &[u8], segs: u64) -> Result<Vec<Option<usize>>, u64> {
+/// steps=, refs= and ref= of form 2 on: segment and step, in ascending steps, and in a form with letters a w right after the step of a
+/// touch that modifies.
+fn take_touches(rest: &mut &[u8], segs: u64, letters: bool) -> Result<Vec<Step>, u64> {
     let count = take_number(rest, b"steps=", 0, MOST_STEPS as u64)?;
     let refs = take_number(rest, b"refs=", 0, count)?;
-    let mut steps = vec![None; count as usize];
+    let mut steps = vec![(None, false); count as usize];
     let mut last = 0;
     for _ in 0..refs {
         let value = take_value(rest, b"ref=")?;
         let parts: Vec<&[u8]> = value.split(|&byte| byte == b'@').collect();
         let &[segment, step] = &parts[..] else { return Err(3) };
-        let (segment, step) = (number_value(segment)?, number_value(step)?);
+        let before_letter = step.strip_suffix(b"w").filter(|_| letters);
+        let (segment, step) = (number_value(segment)?, number_value(before_letter.unwrap_or(step))?);
         let segment = in_range(segment, 0, segs - 1)?;
         if step <= last || step > count {
             return Err(16);
         }
-        steps[step as usize - 1] = Some(segment as usize);
+        steps[step as usize - 1] = (Some(segment as usize), before_letter.is_some());
         last = step;
     }
     Ok(steps)
@@ -213,7 +223,7 @@ pub fn write(sheet: &Sheet) -> Vec<u8> {
     for (step, segment) in sheet.references() {
         text += &match sheet.form {
             1 => format!("ref={segment}\n"),
-            _ => format!("ref={segment}@{step}\n"),
+            _ => format!("ref={segment}@{step}{}\n", if sheet.modifies(step) { "w" } else { "" }),
         };
     }
     text.into_bytes()
@@ -282,6 +292,11 @@ impl Sheet {
     /// The segment touched in a step, counted from 1, if any.
     pub fn touched(&self, step: usize) -> Option<usize> {
         self.steps[step - 1]
+    }
+
+    /// Whether a step, counted from 1, has a touch that modifies its segment: in form 4 alone.
+    pub fn modifies(&self, step: usize) -> bool {
+        self.form > 3 && self.touched(step).is_some() && self.marks.get(step - 1) == Some(&true)
     }
 
     pub fn is_warm(&self, segment: usize) -> bool {
@@ -369,16 +384,19 @@ pub fn figures(sheet: &Sheet, intervals: &Intervals, row: Row) -> Figures {
     [h, d, misses, volume, load, optmem, opttotal, optocc, wsmem, wsocc, mean]
 }
 
-/// The listing of a sheet from the figures of its rows.
-pub fn listing(sheet: &Sheet, all: &[Figures]) -> Vec<u8> {
+/// The listing of a sheet from the figures of its rows and, in form 4, their modtotals.
+pub fn listing(sheet: &Sheet, all: &[Figures], modtotals: &[u64]) -> Vec<u8> {
     let mut text = format!("refs={}\n", sheet.references().len());
     if sheet.form > 1 {
         text += &format!("steps={}\n", sheet.steps.len());
     }
     text += &format!("segs={}\nrows={}\n", sheet.sizes.len(), sheet.rows.len());
-    for figures in all {
+    for (row, figures) in all.iter().enumerate() {
         for (name, value) in NAMES.iter().zip(figures) {
             text += &format!("{name}={value}\n");
+        }
+        if sheet.form > 3 {
+            text += &format!("modtotal={}\n", modtotals[row]);
         }
     }
     text.into_bytes()
@@ -475,7 +493,8 @@ pub fn optimal_schedule(sheet: &Sheet, row: Row) -> Vec<u8> {
 /// Memory, load and total.
 pub type Price = [u64; 3];
 
-/// Checks a schedule step by step and prices it. 8: its length. 9 or 10: its earliest faulty step.
+/// Checks a schedule step by step and prices it, stores counted: a stay with a touch that modifies adds the swap cost where it ends, or
+/// where the record ends. 8: its length. 9 or 10: its earliest faulty step.
 pub fn price(sheet: &Sheet, row: Row, schedule: &[u8]) -> Result<Price, u64> {
     if schedule.len() != STEP * sheet.steps.len() {
         return Err(8);
@@ -483,7 +502,10 @@ pub fn price(sheet: &Sheet, row: Row, schedule: &[u8]) -> Result<Price, u64> {
     // Held at step 0, free.
     let mut before: Held = std::array::from_fn(|segment| sheet.is_warm(segment));
     let (mut memory, mut load) = (0, 0);
-    for (&touched, step_bytes) in sheet.steps.iter().zip(schedule.chunks(STEP)) {
+    // The segments whose stay has had such a touch.
+    let mut modified: Held = [false; 256];
+    for (step, step_bytes) in (1..).zip(schedule.chunks(STEP)) {
+        let touched = sheet.touched(step);
         let held = held_in(step_bytes);
         if touched.is_some_and(|touched| !held[touched]) {
             return Err(9);
@@ -495,13 +517,23 @@ pub fn price(sheet: &Sheet, row: Row, schedule: &[u8]) -> Result<Price, u64> {
         for segment in others() {
             memory += sheet.holding_cost(segment);
         }
+        load += stores(sheet, &mut modified, |segment| !held[segment]);
         if let Some(touched) = touched {
             memory += sheet.reference_cost(touched);
             if !before[touched] {
                 load += sheet.swap_cost(touched);
             }
+            modified[touched] |= sheet.modifies(step);
         }
         before = held;
     }
+    load += stores(sheet, &mut modified, |_| true);
     Ok([memory, load, row.d * memory + row.h * load])
+}
+
+/// The swap costs of the modified segments whose stay ends. They are not modified any more.
+fn stores(sheet: &Sheet, modified: &mut Held, ends: impl Fn(usize) -> bool) -> u64 {
+    let ended: Vec<usize> = (0..256).filter(|&segment| modified[segment] && ends(segment)).collect();
+    ended.iter().for_each(|&segment| modified[segment] = false);
+    ended.iter().map(|&segment| sheet.swap_cost(segment)).sum()
 }

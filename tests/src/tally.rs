@@ -7,6 +7,10 @@ pub struct Tally {
     refused: [u64; NUMBERS],
     sheets: [u64; NUMBERS],
     reached: [bool; NUMBERS],
+    /// The calls of each number on bytes that begin with form=4.
+    of_form_4: [u64; NUMBERS],
+    /// Whether the calls are on such bytes now.
+    pub form_4: bool,
 }
 
 /// One more than the largest number of a refusal.
@@ -15,6 +19,8 @@ const NUMBERS: usize = 29;
 impl Tally {
     /// The numbers that every whole run must reach.
     const REQUIRED: std::ops::Range<usize> = 1..NUMBERS;
+    /// Those that no call gives for a sheet of form 4: of the recorder, the converter back, and joining.
+    const NOT_FORM_4: [usize; 5] = [13, 17, 20, 21, 22];
 
     /// Notes a compared call of this sheet and the number that it returned.
     pub fn note(&mut self, number: u64) {
@@ -22,6 +28,7 @@ impl Tally {
         if (1..NUMBERS as u64).contains(&number) {
             self.refused[number as usize] += 1;
             self.reached[number as usize] = true;
+            self.of_form_4[number as usize] += u64::from(self.form_4);
         }
     }
 
@@ -44,6 +51,7 @@ impl Tally {
         for number in 0..NUMBERS {
             self.refused[number] += other.refused[number];
             self.sheets[number] += other.sheets[number];
+            self.of_form_4[number] += other.of_form_4[number];
         }
     }
 
@@ -51,18 +59,22 @@ impl Tally {
         self.calls
     }
 
-    /// A line for each number with its calls and its sheets.
+    /// A line for each number with its calls, its sheets and its calls of form 4.
     pub fn lines(&self) -> String {
         let lines: Vec<String> = Self::REQUIRED
             .map(|number| {
-                format!("  {number:>2}: {:>10} calls, {:>9} sheets", self.refused[number], self.sheets[number])
+                let (calls, sheets, of_form_4) = (self.refused[number], self.sheets[number], self.of_form_4[number]);
+                format!("  {number:>2}: {calls:>10} calls, {sheets:>9} sheets, {of_form_4:>9} calls of form 4")
             })
             .collect();
         lines.join("\n")
     }
 
-    /// The required numbers that no sheet reached.
+    /// The required numbers that no sheet reached, or no sheet of form 4.
     pub fn missing(&self) -> Vec<usize> {
-        Self::REQUIRED.filter(|&number| self.sheets[number] == 0).collect()
+        let unreached = |number: &usize| {
+            self.sheets[*number] == 0 || self.of_form_4[*number] == 0 && !Self::NOT_FORM_4.contains(number)
+        };
+        Self::REQUIRED.filter(unreached).collect()
     }
 }

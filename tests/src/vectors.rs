@@ -6,6 +6,7 @@ use crate::frames;
 use crate::generate::Prng;
 use crate::import;
 use crate::join;
+use crate::modified;
 use crate::points;
 use crate::reference::{self, Figures, Kind, Row, Sheet};
 use crate::tally::Tally;
@@ -62,6 +63,7 @@ fn examples() -> Vec<(Vec<u8>, Check)> {
     list.extend(frames::examples());
     list.extend(windows::examples());
     list.extend(points::examples());
+    list.extend(modified::examples());
     for (text, number) in verdicts() {
         list.push((text, Box::new(move |bytes| verdict(bytes, number))));
     }
@@ -71,7 +73,8 @@ fn examples() -> Vec<(Vec<u8>, Check)> {
 /// A sheet of form 1.
 fn sheet_of(kind: Kind, a: u64, sizes: Vec<u64>, rows: Vec<Row>, refs: Vec<usize>) -> Vec<u8> {
     let steps = refs.into_iter().map(Some).collect();
-    reference::write(&Sheet { form: 1, kind, a, sizes, rows, warm: Vec::new(), steps })
+    let (warm, marks) = (Vec::new(), Vec::new());
+    reference::write(&Sheet { form: 1, kind, a, sizes, rows, warm, steps, marks })
 }
 
 /// The sheet of the listing in document 01, with steps 3 and 8 without a touch.
@@ -396,6 +399,11 @@ fn verdicts() -> Vec<(Vec<u8>, u64)> {
     };
     let longest_second = longest_second_sheet();
     let longest_third = longest_third_sheet();
+    let longest_fourth = longest_fourth_sheet();
+    let fourth = |touches: &str| {
+        let head = format!("form=4\nkind=time\na=0\nsegs=2\nsize=1\nsize=1\n{row}warm=0\n");
+        format!("{head}steps=20\nrefs={}\n{touches}", touches.matches('\n').count()).into_bytes()
+    };
     let longest = longest_sheet();
     let one_more = [&longest[..], b"\n"].concat();
     vec![
@@ -440,15 +448,16 @@ fn verdicts() -> Vec<(Vec<u8>, u64)> {
         (second("2", "2", "ref=0@1\nref=0@2\n\n"), 6),
         (b"form=1\nkind=time\n".to_vec(), 4),
         (b"form=3\nkind=time\n".to_vec(), 2),
-        (b"form=4\nkind=time\n".to_vec(), 4),
+        (b"form=4\nkind=time\n".to_vec(), 2),
+        (b"form=5\nkind=time\n".to_vec(), 4),
         (b"form=0".to_vec(), 2),
         (b"form=02\n".to_vec(), 3),
         (b"form".to_vec(), 2),
         (b"Form=2\n".to_vec(), 2),
         (longest_second.clone(), 0),
         ([&longest_second[..], b"\n"].concat(), 1),
-        ([b"form=4\n", &[b'x'; 20_005][..]].concat(), 4),
-        ([b"form=4\n", &[b'x'; 20_006][..]].concat(), 1),
+        ([b"form=5\n", &[b'x'; 20_005][..]].concat(), 4),
+        ([b"form=5\n", &[b'x'; 20_006][..]].concat(), 1),
         ([b"form=2", &[b'x'; 20_007][..]].concat(), 1),
         (third(2, "0", ""), 0),
         (third(2, "1", "hold=1\n"), 0),
@@ -476,6 +485,47 @@ fn verdicts() -> Vec<(Vec<u8>, u64)> {
         ([b"form=3\n", &[b'x'; 31_359][..]].concat(), 2),
         ([b"form=3\n", &[b'x'; 31_360][..]].concat(), 1),
         ([b"form=3", &[b'x'; 20_007][..]].concat(), 1),
+        // The letter right after the step, in form 4 alone.
+        (fourth("ref=0@1w\nref=1@20\n"), 0),
+        (fourth("ref=0@1\nref=1@20w\n"), 0),
+        (fourth("ref=0@10w\n"), 0),
+        (fourth("ref=0@1W\n"), 3),
+        (fourth("ref=0@1ww\n"), 3),
+        (fourth("ref=0@w\n"), 3),
+        (fourth("ref=0@1 w\n"), 3),
+        (fourth("ref=0@1w \n"), 3),
+        (fourth("ref=0@1w\r\n"), 3),
+        (fourth("ref=0@1w1\n"), 3),
+        (fourth("ref=0@w1\n"), 3),
+        (fourth("ref=0w@1\n"), 3),
+        (fourth("ref=w0@1\n"), 3),
+        (fourth("ref=0@01w\n"), 3),
+        (fourth("ref=0@1@1w\n"), 3),
+        (fourth("ref=0@1w@1\n"), 3),
+        (fourth("ref=0w\n"), 3),
+        (fourth("ref=w\n"), 3),
+        (fourth("ref=0@1x\n"), 3),
+        (third(2, "0", "").iter().chain(b"ref=0@1w\n").copied().collect(), 6),
+        (b"form=3\nkind=time\na=0\nsegs=1\nsize=1\nrows=1\nrow=1/2\nwarm=0\nsteps=1\nrefs=1\nref=0@1w\n".to_vec(), 3),
+        (b"kind=time\na=0\nsegs=1\nsize=1\nrows=1\nrow=1/2\nrefs=1\nref=0w\n".to_vec(), 3),
+        // 3, then 4, then 16, with the letter or without; top down.
+        (fourth("ref=2@0w\n"), 4),
+        (fourth("ref=2@0ww\n"), 3),
+        (fourth("ref=0@0w\n"), 16),
+        (fourth("ref=0@21w\n"), 16),
+        (fourth("ref=0@21\n"), 16),
+        (fourth("ref=0@18446744073709551617w\n"), 16),
+        (fourth("ref=0@5w\nref=0@5w\n"), 16),
+        (fourth("ref=0@5w\nref=0@4w\nref=x\n"), 16),
+        (fourth("ref=0@5W\nref=0@4w\n"), 3),
+        (fourth("ref=0@5w\nref=0@6w\n").strip_suffix(b"\n").unwrap_or_default().to_vec(), 2),
+        ([&fourth("ref=0@5w\n")[..], b"w"].concat(), 6),
+        (longest_fourth.clone(), 0),
+        ([&longest_fourth[..], b"\n"].concat(), 1),
+        (longest_fourth[..longest_fourth.len() - 1].to_vec(), 2),
+        ([b"form=4\n", &[b'x'; 33_407][..]].concat(), 2),
+        ([b"form=4\n", &[b'x'; 33_408][..]].concat(), 1),
+        ([b"form=4", &[b'x'; 20_007][..]].concat(), 1),
         // The lines of form 3 in form 2.
         (b"form=2\nkind=time\na=0\nsegs=1\nsize=1\nrows=1\nrow=1/2\nwarm=0\nsteps=0\nrefs=0\n".to_vec(), 2),
     ]
@@ -498,8 +548,14 @@ fn longest_third_sheet() -> Vec<u8> {
     longest_of_form(3, (0..256).collect())
 }
 
+/// A sheet of form 4 of exactly 33,414 bytes: every touch modifies.
+fn longest_fourth_sheet() -> Vec<u8> {
+    longest_of_form(4, (0..256).collect())
+}
+
 fn longest_of_form(form: u64, warm: Vec<usize>) -> Vec<u8> {
     let rows = (0..64).map(|row| Row { h: 60_000 + row, d: 10_000 }).collect();
     let steps = (0..2_048).map(|step| Some(100 + step % 156)).collect();
-    reference::write(&Sheet { form, kind: Kind::Space, a: 255, sizes: vec![4_095; 256], rows, warm, steps })
+    let marks = vec![true; 2_048];
+    reference::write(&Sheet { form, kind: Kind::Space, a: 255, sizes: vec![4_095; 256], rows, warm, steps, marks })
 }

@@ -62,6 +62,7 @@ impl Case<'_> {
 
     /// The call on a run of bytes.
     fn window_list(&mut self, bytes: &[u8]) -> Outcome {
+        self.on(bytes);
         let want = windows(bytes);
         let shown = |message| format!("{message}; the sheet of sizes 1:\n{}", bytes.escape_ascii());
         let answer = want.as_deref().map_err(|&number| number);

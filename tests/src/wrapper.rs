@@ -2,6 +2,7 @@
 
 use crate::compare::{ensure, Case, Outcome};
 use crate::generate;
+use crate::modified;
 use crate::reference::{self, Figures, Sheet, STEP};
 use segtrace::Refusal;
 use std::fmt::Debug;
@@ -43,17 +44,19 @@ impl Case<'_> {
         self.safe("all_figures", segtrace::all_figures(bytes, &mut records), Err(number))?;
         self.safe("listing", segtrace::listing(bytes, &mut out), Err(number))?;
         self.safe("page", segtrace::page(bytes, &mut out), Err(number))?;
-        self.safe("optimal_schedule", segtrace::optimal_schedule(bytes, row, &mut out), Err(number))?;
+        let [older, newest] = [(1, 3), (4, 4)].map(|(low, high)| reference::read_forms(bytes, low, high).map(|_| 0));
+        self.safe("optimal_schedule", segtrace::optimal_schedule(bytes, row, &mut out), older)?;
+        self.safe("modified_schedule", segtrace::modified_schedule(bytes, row, &mut out), newest)?;
         self.safe("price", segtrace::price(bytes, row, schedule), Err(number))?;
         self.safe("margin", segtrace::margin(bytes, row, reference), Err(number))?;
         self.safe("size", segtrace::size(bytes, ceiling), Err(number))?;
         self.safe("bill", segtrace::bill(bytes, row, segtrace::Tariff::default()), Err(number))?;
-        self.safe("Recorder::start", segtrace::Recorder::start(bytes).map(|_| ()), Err(number))?;
+        self.safe("Recorder::start", segtrace::Recorder::start(bytes).map(|_| 0), older)?;
         ensure(out == [7; 40] && records == [OLD; 3], || "wrapper: a refused call changed its place".to_string())
     }
 
     /// Every safe function once, or a few times, on an accepted sheet.
-    pub fn wrapper_accepted(&mut self, sheet: &Sheet, all: &[Figures]) -> Outcome {
+    pub fn wrapper_accepted(&mut self, sheet: &Sheet, all: &[Figures], listing: &[u8]) -> Outcome {
         if !self.prng.one_in(4) {
             return Ok(());
         }
@@ -70,16 +73,24 @@ impl Case<'_> {
                 self.safe("to_form_1", got, reference::to_form_1(bytes).map(|text| text.len()))?;
             }
         }
-        self.text("listing", &reference::listing(sheet, all), |out| segtrace::listing(bytes, out))?;
+        self.text("listing", listing, |out| segtrace::listing(bytes, out))?;
         self.text("page", &reference::page(sheet, all), |out| segtrace::page(bytes, out))?;
         self.records(all)?;
         let (row, no_row) = (self.some_row(sheet), self.no_row(sheet));
         let number = row as u64;
         self.safe("figures", segtrace::figures(bytes, number).map(|figures| figures.items()), Ok(all[row]))?;
         self.safe("figures", segtrace::figures(bytes, no_row).map(|figures| figures.items()), Err(7))?;
-        let optimal = reference::optimal_schedule(sheet, sheet.rows[row]);
-        self.text("optimal_schedule", &optimal, |out| segtrace::optimal_schedule(bytes, number, out))?;
-        for schedule in [&optimal[..], &optimal[..optimal.len().saturating_sub(STEP)], &vec![0; optimal.len()]] {
+        let (best, _) = modified::best(sheet, row, &all[row]);
+        if sheet.form > 3 {
+            self.text("modified_schedule", &best, |out| segtrace::modified_schedule(bytes, number, out))?;
+            self.safe("modified_schedule", segtrace::modified_schedule(bytes, no_row, &mut []), Err(7))?;
+            self.safe("optimal_schedule", segtrace::optimal_schedule(bytes, number, &mut []), Err(4))?;
+            self.safe("Recorder::start", segtrace::Recorder::start(bytes).map(drop), Err(4))?;
+        } else {
+            self.text("optimal_schedule", &best, |out| segtrace::optimal_schedule(bytes, number, out))?;
+            self.safe("modified_schedule", segtrace::modified_schedule(bytes, number, &mut []), Err(4))?;
+        }
+        for schedule in [&best[..], &best[..best.len().saturating_sub(STEP)], &vec![0; best.len()]] {
             let got = segtrace::price(bytes, number, schedule).map(|price| [price.memory, price.load, price.total]);
             self.safe("price", got, reference::price(sheet, sheet.rows[row], schedule))?;
         }

@@ -4,11 +4,13 @@ use crate::frames;
 use crate::import;
 use crate::join;
 use crate::mistakes;
+use crate::modified;
 use crate::place::Item;
 use crate::points;
 use crate::windows;
 use segtrace::Recorder;
 use std::sync::atomic::{AtomicUsize, Ordering};
+use std::sync::OnceLock;
 
 #[derive(Clone, Copy, Debug, PartialEq, Eq)]
 pub enum Call {
@@ -27,6 +29,7 @@ pub enum Call {
     Listing,
     Page,
     OptimalSchedule,
+    ModifiedSchedule,
     Price,
     Margin,
     Size,
@@ -104,7 +107,7 @@ pub enum Way {
 }
 
 /// Wrong ways of every call with a lent place, and of every call with a list of fixed length.
-const PLACE_CALLS: [Call; 13] = [
+const PLACE_CALLS: [Call; 14] = [
     Call::Rewrite,
     Call::ToForm2,
     Call::ToForm1,
@@ -118,6 +121,7 @@ const PLACE_CALLS: [Call; 13] = [
     Call::Listing,
     Call::Page,
     Call::OptimalSchedule,
+    Call::ModifiedSchedule,
 ];
 const PLACE_WAYS: [Way; 9] = [
     Way::OtherNumber,
@@ -195,12 +199,16 @@ const OTHERS: [(Call, Way); 57] = [
 ];
 
 /// Every wrong answer that is put in.
-pub fn all() -> Vec<(Call, Way)> {
+pub fn all() -> &'static [(Call, Way)] {
+    static ALL: OnceLock<Vec<(Call, Way)>> = OnceLock::new();
+    ALL.get_or_init(listed)
+}
+
+fn listed() -> Vec<(Call, Way)> {
     let of_places = PLACE_CALLS.into_iter().flat_map(|call| PLACE_WAYS.map(|way| (call, way)));
     let of_lists = LIST_CALLS.into_iter().flat_map(|call| LIST_WAYS.map(|way| (call, way)));
-    let named =
-        join::WRONG.into_iter().chain(import::WRONG).chain(frames::WRONG).chain(windows::WRONG).chain(points::WRONG);
-    of_places.chain(of_lists).chain(OTHERS).chain(named).collect()
+    let named = [&join::WRONG[..], &import::WRONG, &frames::WRONG, &windows::WRONG, &points::WRONG, &modified::WRONG];
+    of_places.chain(of_lists).chain(OTHERS).chain(named.concat()).collect()
 }
 
 /// The place in the list of the wrong answer that is put in.

@@ -1,37 +1,67 @@
--- Demand 3 holds of every run of bytes that reads as an accepted sheet, and of every row of it. Assumes nothing.
+-- Demand 3 holds of every run of bytes that reads as an accepted sheet of form 1, 2 or 3, and of every row of it. What holds of form 4 is in
+-- Modified.antt. Assumes nothing.
 use Prim.Native.Nat.{ℕ, _*_, _≤_, _<_}
-use mathlib.Core.Path.{_≡_, sym, ap, _∙_}
+use mathlib.Core.Path.{_≡_, refl, sym, ap, _∙_}
+use mathlib.Core.Bool.{false}
 use mathlib.Core.List.{List, _++_}
 use native.Mathlib.Omega.{arith}
 use lib.ListN.{length, drop}
 use lib.Seq.{take-append-seam}
 use borrow.Author.Tests.{lt-ltb}
+use Rattle.model.specs.Costs.{totalCost}
 use Rattle.model.specs.Demand.{rowTotal, rowSchedule}
 use Rattle.model.specs.Places.{PlaceLeft}
 use Rattle.model.specs.Rows.{rowFigures}
-use Rattle.model.specs.Schedules.{Permitted, scheduleMemory, scheduleLoad}
-use Rattle.model.specs.Sheets.{newestForm, SheetValue, traceOf, rowAt}
+use Rattle.model.specs.Schedules.{Permitted, scheduleMemory, scheduleLoad, scheduleTotal}
+use Rattle.model.specs.Sheets.{SheetValue, Valid, traceOf, marksOf, rowAt}
 use Rattle.model.specs.declared.Verdict.the-variants.{Accepted}
 use Rattle.model.proofs.Demand.{demand-3}
-use Rattle.sheet.specs.Reading.{accepted, readSheet}
-use Rattle.sheet.proofs.Accepted.{accepted-valid}
+use Rattle.sheet.specs.Reading.{accepted, readForms, readSheet}
+use Rattle.sheet.proofs.Accepted.{accepted-valid, accepted-form}
+use Rattle.sheet.proofs.RoundTrip.{every-form}
 use Rattle.figures.specs.Rows.{figuresOf, figuresAt}
-use Rattle.pricing.proofs.Verdicts.{accepted-answer, permitted-accepted}
+use Rattle.pricing.proofs.Verdicts.{permitted-accepted}
 use Rattle.plans.proofs.PlanResults.{schedule-length, schedule-placed, price-at}
+use Rattle.plans.proofs.Prices.{accepted-at}
+use Rattle.stores.specs.Rows.{sheetLoad, sheetTotal}
+use Rattle.stores.specs.Stores.{markedTotal}
+use Rattle.stores.proofs.Unmarked.{unmarked-load}
 use Rattle.analyser.specs.Answers.{figuresAnswer, scheduleResult, pricing}
 use Rattle.analyser.specs.Demand.{priceOf, leftSchedule, HasOptimum, Demand3FromBytes}
 
+-- of a sheet of any form
 module _ (s : List ℕ) (v : SheetValue) (reads : readSheet s ≡ accepted v) (r : ℕ) (row : r < length (v .head .rows)) where
   -- the figures call answers the row's figures
   pub figures-are : figuresAnswer s r ≡ record { verdict = Accepted; figures = figuresAt v r }
   unfolding figuresAnswer figuresOf
   figures-are = rw (reads, lt-ltb r (length (v .head .rows)) row)
 
+  -- the pricing call prices a permitted schedule, the stores of the sheet's marks counted
+  pub stores-priced : (p : List ℕ) → Permitted (traceOf v) p
+      → pricing s r p ≡ priceOf (scheduleMemory (traceOf v) p) (sheetLoad v p) (sheetTotal v r p)
+  unfolding pricing
+  stores-priced p ok = rw reads (price-at v r p row ∙ accepted-at v r p (permitted-accepted (traceOf v) p ok))
+
+module _ (s : List ℕ) (v : SheetValue) (reads : readForms 1 3 s ≡ accepted v) (r : ℕ) (row : r < length (v .head .rows)) where
+  any : readSheet s ≡ accepted v
+  any = every-form 1 3 (omega arith) s v reads
+
+  valid : Valid v
+  valid = accepted-valid 1 3 (omega arith) s v reads
+
+  -- without marks there are no stores
+  load-is : (p : List ℕ) → sheetLoad v p ≡ scheduleLoad (traceOf v) p
+  load-is p =
+      unmarked-load (traceOf v) (marksOf (v .marks)) (λ t lt. rw (valid .unmarked (accepted-form 1 3 (omega arith) s v reads .1)) refl) p
+
+  total-is : (p : List ℕ) → sheetTotal v r p ≡ rowTotal v r p
+  unfolding markedTotal scheduleTotal
+  total-is p = ap (λ l. totalCost (rowAt v r .h) (rowAt v r .d) (scheduleMemory (traceOf v) p) l) (load-is p)
+
   -- the pricing call prices a permitted schedule
   priced-at : (p : List ℕ) → Permitted (traceOf v) p
       → pricing s r p ≡ priceOf (scheduleMemory (traceOf v) p) (scheduleLoad (traceOf v) p) (rowTotal v r p)
-  unfolding pricing
-  priced-at p ok = rw reads (price-at v r p row ∙ accepted-answer (traceOf v) (rowAt v r .h) (rowAt v r .d) p (permitted-accepted (traceOf v) p ok))
+  priced-at p ok = rw (← load-is p, ← total-is p) (stores-priced s v any r row p ok)
 
   -- what the schedule call answers and leaves
   placed-at : (place : List ℕ) → 32 * length (v .refs) ≤ length place
@@ -48,7 +78,7 @@ module _ (s : List ℕ) (v : SheetValue) (reads : readSheet s ≡ accepted v) (r
   -- which has the optimum
   optimum-of : HasOptimum s v r (rowSchedule v r)
   optimum-of =
-      let d = demand-3 v (accepted-valid 1 newestForm (omega arith) s v reads .run .segs-within) r row in
+      let d = demand-3 v (valid .run .segs-within) r row in
       record {
         permitted = d .permitted;
         total = d .total;
@@ -60,12 +90,13 @@ module _ (s : List ℕ) (v : SheetValue) (reads : readSheet s ≡ accepted v) (r
   pub demand-3-from-bytes : Demand3FromBytes s v r
   unfolding rowFigures
   demand-3-from-bytes =
-      let d = demand-3 v (accepted-valid 1 newestForm (omega arith) s v reads .run .segs-within) r row in
+      let d = demand-3 v (valid .run .segs-within) r row in
+      let f = figures-are s v any r row in
       record {
-        figures-accepted = ap (λ a. a .verdict) figures-are;
-        reported-optimum = ap (λ a. a .figures .opttotal) figures-are;
-        reported-load = ap (λ a. a .figures .load .0) figures-are;
-        reported-memory = ap (λ a. a .figures .optmem .0) figures-are;
+        figures-accepted = ap (λ a. a .verdict) f;
+        reported-optimum = ap (λ a. a .figures .opttotal) f;
+        reported-load = ap (λ a. a .figures .load .0) f;
+        reported-memory = ap (λ a. a .figures .optmem .0) f;
         lower = d .lower;
         least = d .least;
         schedule-accepted = λ place fits. sym (placed-at place fits .answer-is);

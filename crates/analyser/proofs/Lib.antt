@@ -7,6 +7,7 @@ pub mod Joined
 pub mod LookedAt
 pub mod LruFromBytes
 pub mod MarginSigns
+pub mod Modified
 pub mod PointsFromBytes
 pub mod Printing
 pub mod RoundTrips

@@ -15,7 +15,7 @@ use Rattle.report.specs.Listing.{listingOf, refusedText}
 use Rattle.page.specs.Page.{pagesOf}
 use Rattle.pricing.specs.Checking.{noPrice}
 use Rattle.pricing.specs.declared.PriceAnswer.{PriceAnswer}
-use Rattle.plans.specs.Plans.{scheduleFor, priceFor}
+use Rattle.plans.specs.Plans.{scheduleFor, modifiedFor, priceFor}
 use Rattle.margin.specs.Margins.{noMargin, marginFor}
 use Rattle.margin.specs.declared.MarginAnswer.{MarginAnswer}
 use Rattle.rows.specs.Sizing.{noSize, sizing}
@@ -52,11 +52,17 @@ printedText s = onSheet (readSheet s) refusedText listingOf
 unfoldable pub pageResult : List ℕ → Result
 pageResult s = onSheet (readSheet s) refuses (λ v. gives (pagesOf v))
 
--- the optimal schedule of row r of the sheet that the bytes stand for: the sheet's refusals, 7, then 11 by the place
+-- the optimal schedule of row r of the sheet that the bytes stand for: the sheet's refusals, where form 4 is 4 (request F-13), 7, then 11 by
+-- the place
 unfoldable pub scheduleResult : List ℕ → ℕ → Result
-scheduleResult s r = onSheet (readSheet s) refuses (λ v. scheduleFor v r)
+scheduleResult s r = onSheet (readForms 1 3 s) refuses (λ v. scheduleFor v r)
 
--- the price of a schedule p at row r of the sheet that the bytes stand for: the sheet's refusals, 7, 8, 9, 10
+-- the schedule of the least total with stores counted of row r of the sheet of form 4 that the bytes stand for: the sheet's refusals, where
+-- any other form is 4, 7, then 11 by the place (request F-13)
+unfoldable pub modifiedResult : List ℕ → ℕ → Result
+modifiedResult s r = onSheet (readForms 4 4 s) refuses (λ v. modifiedFor v r)
+
+-- the price of a schedule p at row r of the sheet that the bytes stand for, in form 4 with stores counted: the sheet's refusals, 7, 8, 9, 10
 unfoldable pub pricing : List ℕ → ℕ → List ℕ → PriceAnswer
 pricing s r p = onSheet (readSheet s) noPrice (λ v. priceFor v r p)
 

@@ -3,6 +3,7 @@ pub mod Curving
 pub mod Demand
 pub mod Importing
 pub mod Joining
+pub mod Modified
 pub mod Operating
 pub mod Recording
 pub mod RoundTrip

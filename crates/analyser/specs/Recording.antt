@@ -10,7 +10,7 @@ use Rattle.model.specs.Traces.{refsOf}
 use Rattle.model.specs.declared.Refusal.{Refusal}
 use Rattle.model.specs.declared.Verdict.{Verdict}
 use Rattle.model.specs.declared.Verdict.the-variants.{Accepted, Refused}
-use Rattle.sheet.specs.Reading.{accepted, rejected, readSheet}
+use Rattle.sheet.specs.Reading.{accepted, rejected, readForms}
 use Rattle.figures.specs.Buckets.{bucketCount}
 use Rattle.figures.specs.Rows.{figuresOf}
 use Rattle.figures.specs.Buckets.{noBucket}
@@ -24,9 +24,9 @@ use Rattle.sheet.specs.Accepting.{onSheet}
 abbrev pub noRecorder : Refusal → TouchAnswer
 noRecorder r = record { verdict = Refused r; recorder = emptyRecorder }
 
--- the recorder of the sheet's kind, a, sizes and rows with no steps
+-- the recorder of the sheet's kind, a, sizes and rows with no steps; a sheet of form 4 is 4 (request F-13)
 unfoldable pub startAnswer : List ℕ → TouchAnswer
-startAnswer s = onSheet (readSheet s) noRecorder (λ v. record { verdict = Accepted; recorder = recorderOf (started v) })
+startAnswer s = onSheet (readForms 1 3 s) noRecorder (λ v. record { verdict = Accepted; recorder = recorderOf (started v) })
 
 -- what a call takes of the entries xs: all, or where it is refused none
 abbrev pub takenOf : Verdict → List ℕ → List ℕ
@@ -46,7 +46,7 @@ pub data Handed (s : List ℕ) : (taken : List ℕ) → (R : Recorder) → Type 
 
 -- the sheet that ends at the steps taken: of form 2 on, since they may be idle
 abbrev pub recordedOf : SheetValue → List ℕ → SheetValue
-recordedOf v taken = record { form = max 2 (v .form); head = v .head; refs = taken }
+recordedOf v taken = record { form = max 2 (v .form); head = v .head; refs = taken; marks = [] }
 
 -- the recorder without segments and rows after n idle steps
 abbrev pub emptyAfter : ℕ → Recorder
@@ -63,13 +63,13 @@ emptyAfter n =
 -- what holds of such a recorder
 pub record Recorded (s taken : List ℕ) (R : Recorder) : Type 0 where
   -- it stands for a valid sheet, the head of the one that was read with the steps taken; where the start was refused it has no segments
-  pub valid : (v : SheetValue) → readSheet s ≡ accepted v → Valid (recordedOf v taken)
-  pub stands : (v : SheetValue) → readSheet s ≡ accepted v → R ≡ recorderOf (recordedOf v taken)
-  pub empty : (why : Refusal) → readSheet s ≡ rejected why → R ≡ emptyAfter (length taken)
+  pub valid : (v : SheetValue) → readForms 1 3 s ≡ accepted v → Valid (recordedOf v taken)
+  pub stands : (v : SheetValue) → readForms 1 3 s ≡ accepted v → R ≡ recorderOf (recordedOf v taken)
+  pub empty : (why : Refusal) → readForms 1 3 s ≡ rejected why → R ≡ emptyAfter (length taken)
   -- it counts the steps taken, and the counts of its buckets add up to the references among them
   pub counts-steps : R .steps ≡ length taken
-  pub counts-add-up : (v : SheetValue) → readSheet s ≡ accepted v
+  pub counts-add-up : (v : SheetValue) → readForms 1 3 s ≡ accepted v
       → sum bucketCount (λ k. getD (R .buckets) k noBucket .count) ≡ refsOf (traceOf (recordedOf v taken))
   -- its figures are those of that sheet
-  pub figures : (v : SheetValue) → readSheet s ≡ accepted v → (row : ℕ) (r : FiguresAnswer) → Figured R row r
+  pub figures : (v : SheetValue) → readForms 1 3 s ≡ accepted v → (row : ℕ) (r : FiguresAnswer) → Figured R row r
       → r ≡ figuresOf (recordedOf v taken) row

@@ -6,6 +6,7 @@ pub mod converting;
 pub mod curving;
 pub mod importing;
 pub mod margins;
+pub mod modifying;
 pub mod operating;
 pub mod pairing;
 pub mod recording;
@@ -92,11 +93,11 @@ pub fn page(bytes: &[u8], out: &mut [u8]) -> PlaceAnswer
     }
 }
 
-// The optimal schedule of a row into a lent place, then its old contents: refused with the sheet's refusals, 7, 11.
+// The optimal schedule of a row into a lent place, then its old contents: refused with the sheet's refusals, where form 4 is 4, 7, 11.
 pub fn optimal_schedule(bytes: &[u8], row: usize, out: &mut [u8]) -> PlaceAnswer
     ensures { λ r. ⌜ PlaceLeft (scheduleResult (now (bytes .entry)) row) (now (out .entry)) (now (out .exit)) r ⌝ }
 {
-    let answer = reading::read(bytes);
+    let answer = reading::read_forms(bytes, 1, 3);
     let verdict = answer.verdict;
     let s = answer.sheet;
     match verdict {
@@ -105,7 +106,7 @@ pub fn optimal_schedule(bytes: &[u8], row: usize, out: &mut [u8]) -> PlaceAnswer
     }
 }
 
-// The price of a schedule at a row: refused with the sheet's refusals, 7, 8, 9, 10.
+// The price of a schedule at a row, in form 4 with stores counted: refused with the sheet's refusals, 7, 8, 9, 10.
 pub fn price(bytes: &[u8], row: usize, schedule: &[u8]) -> PriceAnswer
     ensures { λ r. ⌜ r ≡ pricing (now (bytes .entry)) row (now (schedule .entry)) ⌝ }
 {

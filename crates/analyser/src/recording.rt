@@ -19,11 +19,12 @@ fn no_recorder(why: Refusal) -> TouchAnswer
     }
 }
 
-// A recorder from a sheet's kind, a, sizes and rows, with no steps; refused with the sheet's refusals, and then with no segments and no rows.
+// A recorder from a sheet's kind, a, sizes and rows, with no steps; refused with the sheet's refusals, where form 4 is 4, and then with no
+// segments and no rows.
 pub fn start(bytes: &[u8]) -> TouchAnswer
     ensures { λ r. ⌜ r ≡ startAnswer (now (bytes .entry)) ⌝ }
 {
-    let answer = reading::read(bytes);
+    let answer = reading::read_forms(bytes, 1, 3);
     let verdict = answer.verdict;
     let s = answer.sheet;
     match verdict {

@@ -21,6 +21,7 @@ use Rattle.model.specs.Figures.{
   volume,
   load,
   optmem,
+  opttotal,
   optocc,
   smaller,
   wsmem,
@@ -28,7 +29,7 @@ use Rattle.model.specs.Figures.{
   wsocc,
   mean,
 }
-use Rattle.model.specs.Sheets.{RunWithin, largestA, mostSegs, largestSize, mostSteps}
+use Rattle.model.specs.Sheets.{RunWithin, largestA, mostSegs, largestSize, largestPrice, mostSteps}
 use Rattle.model.specs.declared.Kind.{Kind}
 use Rattle.model.specs.declared.Kind.the-variants.{Time, Space}
 use Rattle.model.proofs.Bounds.{product-within}
@@ -211,4 +212,18 @@ module _ (T : Trace) (c : RunWithin T) (h d : ℕ) where
         arith,
         sum-within (segs T) largestSize (sizeOf T) (c .size-within),
         product-within (segs T) largestSize mostSegs largestSize (c .segs-within) (omega arith),
+      )
+
+  -- at prices within the limits
+  pub opttotal-within : h ≤ largestPrice → d ≤ largestPrice
+      → opttotal T h d
+      ≤ largestPrice * (mostSteps * (mostSegs * largestSize)) + largestPrice * (mostSteps + largestA * (mostSteps * largestSize))
+  unfolding opttotal
+  opttotal-within high-h high-d =
+      let sizes : 1 * allSizes T ≤ mostSegs * largestSize = omega (arith, sizes-within) in
+      let held = product-within (steps T) (1 * allSizes T) mostSteps (mostSegs * largestSize) (c .steps-within) sizes in
+      omega (
+        arith,
+        product-within d (optmem T h d) largestPrice (mostSteps * (mostSegs * largestSize)) high-d (omega (arith, optmem-within)),
+        product-within h (load T h d) largestPrice (mostSteps + largestA * (mostSteps * largestSize)) high-h load-within,
       )

@@ -5,8 +5,8 @@ use mathlib.Core.Bool.{Bool, true, false, false≢true}
 use mathlib.Core.List.{List}
 use native.Mathlib.Omega.{arith}
 use lib.ListN.{replicate, length-replicate}
-use Rattle.model.specs.Sheets.{SheetValue, mostSegs}
-use Rattle.model.specs.Values.{zeros, padded, headOf, headValueOf, sheetOf, valueOf, emptySheet}
+use Rattle.model.specs.Sheets.{SheetValue, mostSegs, mostSteps}
+use Rattle.model.specs.Values.{zeros, blankMarks, padded, headOf, headValueOf, sheetOf, valueOf, emptySheet}
 use Rattle.model.specs.declared.Head.{Head}
 use Rattle.model.specs.declared.PriceRow.{PriceRow}
 use Rattle.model.specs.declared.Sheet.{Sheet}
@@ -31,7 +31,7 @@ whyOf : Refusal → Verdict → Refusal
 whyOf d Accepted = d
 whyOf d (Refused r) = r
 
--- the answer with a sheet of form 1, kind time, a = 0 and no warm segment
+-- the answer with a sheet of form 1, kind time, a = 0, no warm segment and no marks
 abbrev taken-with : ℕ → List ℕ → ℕ → List PriceRow → List ℕ → ℕ → List ℕ → SheetAnswer
 taken-with segs sizes rows prices holds steps seen =
     record {
@@ -43,6 +43,8 @@ taken-with segs sizes rows prices holds steps seen =
                 record { kind = Time; a = 0; segs = segs; sizes = sizes; rows = rows; prices = prices; warm = 0; holds = holds };
             steps = steps;
             touches = seen;
+            marked = 0;
+            marks = blankMarks mostSteps;
           };
     }
 

@@ -13,6 +13,7 @@ use Rattle.model.specs.Sheets.{idle, mostSegs, mostSteps}
 use Rattle.model.specs.Values.{zeros, idles, padded}
 use Rattle.model.specs.declared.Refusal.the-variants.{TraceMalformed, TraceTooLong}
 use Rattle.model.specs.declared.Verdict.the-variants.{Accepted}
+use Rattle.model.proofs.Values.{padded-next}
 use Rattle.scan.proofs.Tails.{tail, tail-is, tail-place}
 use Rattle.din.specs.Lines.{Lines, end, line, linesOf, addressOf}
 use Rattle.din.specs.Pages.{Touched, touches, refused, pageOf, placeIn, firsts}
@@ -21,7 +22,6 @@ use Rattle.din.specs.Held.{First, nothing, malformed, address, withAddre
 use Rattle.din.specs.Held.{tablePlaces, emptyPlaces, Found, numberAt, importedOf}
 use Rattle.din.specs.declared.Imported.{Imported}
 use Rattle.din.proofs.Firsts.{with-length, place-le, one-more-firsts, one-more-segments, segments-length}
-use Rattle.din.proofs.Padding.{padded-next}
 use Rattle.din.proofs.Table.{Table, table-start, found-number, table-next}
 
 -- ---- the lines by the first of them

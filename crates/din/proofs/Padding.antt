@@ -1,21 +1,12 @@
--- Values put one by one at the front of blanks. Assumes nothing.
-use Prim.Native.Nat.{ℕ, suc, _+_, _<_}
-use mathlib.Core.Path.{_≡_, refl, sym, ap, _∙_}
-use mathlib.Core.List.{List, [], _∷_, _++_}
+-- Sizes 1 put one by one at the front of zeros. Assumes nothing.
+use Prim.Native.Nat.{ℕ, _+_, _<_}
+use mathlib.Core.Path.{_≡_, sym, ap, _∙_}
+use mathlib.Core.List.{List}
 use native.Mathlib.Omega.{arith}
-use lib.ListN.{length, getD, drop, set, replicate, length-append, length-replicate, replicate-append-replicate}
-use lib.Seq.{drop-cons, set-at, append-snoc}
+use lib.ListN.{length, set, replicate, length-replicate, replicate-append-replicate}
 use Rattle.model.specs.Sheets.{mostSegs}
 use Rattle.model.specs.Values.{zeros, padded}
-
--- one value more at the front of blanks
-pub padded-next : (xs blank : List ℕ) (x : ℕ) → length xs < length blank
-    → set (padded xs blank) (length xs) x ≡ padded (xs ++ (x ∷ [])) blank
-unfolding padded
-padded-next xs blank x lt =
-    let long : length (xs ++ (x ∷ [])) ≡ suc (length xs) = omega (arith, length-append xs (x ∷ [])) in
-    rw (drop-cons blank (length xs) 0 lt, set-at xs (getD blank (length xs) 0) (drop (suc (length xs)) blank) x (length xs) refl)
-    (rw long (sym (append-snoc xs x (drop (suc (length xs)) blank))))
+use Rattle.model.proofs.Values.{padded-next}
 
 -- sizes 1 for i segments, at the front of zeros
 pub ones-start : (sizes : List ℕ) → sizes ≡ zeros mostSegs → sizes ≡ padded (replicate 0 1) (zeros mostSegs)

@@ -116,6 +116,9 @@ pages-valid ps rows w rows-within =
       whole = λ first t lt. segment t lt;
       warm = record { below = λ t lt. absurd (omega arith); ascending = λ t lt. absurd (omega arith) };
       cold = λ old. refl;
+      marked = λ late. absurd (omega arith);
+      modifying = λ t e. absurd (false≢true e);
+      unmarked = λ old. refl;
     }
   where
     -- every entry is a segment

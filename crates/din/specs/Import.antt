@@ -29,6 +29,7 @@ sheetOfPages ps rows =
       form = 1;
       head = record { kind = Time; a = 0; sizes = replicate (segmentCount ps) 1; rows = rows; warm = [] };
       refs = segmentsOf ps;
+      marks = [];
     }
 
 -- the sheet of what the lines come to

@@ -320,6 +320,8 @@ pub fn import(bytes: &[u8], k: u64, rows: Head) -> SheetAnswer
                     },
                     steps: found.steps,
                     touches: touches,
+                    marked: 0,
+                    marks: [false; Sheet::MAX_STEPS],
                 },
             }
         }

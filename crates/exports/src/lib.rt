@@ -3,6 +3,7 @@
 // What each returns and leaves is written in specs/; nothing is assumed.
 pub mod curving;
 pub mod importing;
+pub mod modifying;
 pub mod operating;
 pub mod pairing;
 pub mod recording;
@@ -138,7 +139,7 @@ pub extern "C" fn segtrace_page(sheet: &[u8], out: &mut [u8], written: &mut u64)
     tell(analyser::page(sheet, out), written)
 }
 
-// The optimal schedule of a row, and its length: the sheet's refusals, 7, 11.
+// The optimal schedule of a row, and its length: the sheet's refusals, where form 4 is 4, 7, 11.
 #[no_mangle]
 pub extern "C" fn segtrace_optimal_schedule(
     sheet: &[u8],
@@ -155,7 +156,7 @@ pub extern "C" fn segtrace_optimal_schedule(
     )
 }
 
-// Memory, load and total of a schedule at a row: the sheet's refusals, 7, 8, 9, 10.
+// Memory, load and total of a schedule at a row, in form 4 with stores counted: the sheet's refusals, 7, 8, 9, 10.
 #[no_mangle]
 pub extern "C" fn segtrace_price(
     sheet: &[u8],

@@ -2,7 +2,7 @@
 use Prim.Native.Nat.{ℕ, _<_}
 use mathlib.Core.Path.{_≡_, refl, sym, ap, _∙_}
 use mathlib.Core.Logic.{⊎-elim}
-use mathlib.Core.Bool.{Bool, true, false}
+use mathlib.Core.Bool.{Bool, true, false, false≢true}
 use mathlib.Core.List.{List, []}
 use native.Mathlib.Omega.{arith}
 use borrow.Author.Tests.{leb-true, leb-false}
@@ -10,12 +10,13 @@ use lib.Dec.{leb}
 use lib.ListN.{length}
 use Rattle.model.specs.Places.{gives, refuses}
 use Rattle.model.specs.Rows.{rowFigures}
-use Rattle.model.specs.Sheets.{SheetValue, Valid, traceOf, rowAt}
+use Rattle.model.specs.Sheets.{SheetValue, Valid, traceOf, rowAt, marksOf}
 use Rattle.model.specs.declared.Refusal.the-variants.{IdleStep}
 use Rattle.sheet.specs.Reading.{accepted, readForms}
 use Rattle.sheet.specs.Touches.{touchesOf}
 use Rattle.sheet.specs.Writing.{sheetText}
 use Rattle.sheet.proofs.Accepted.{accepted-readable, accepted-valid}
+use Rattle.sheet.proofs.PartTexts.{entriesIn}
 use Rattle.sheet.proofs.RoundTrip.{read-then-written, written-then-read}
 use Rattle.forms.specs.Forms.{inForm, hasIdle, toForm1, toForm2}
 use Rattle.forms.proofs.Idle.{none-idle, idle-none, touches-all, touches-fewer}
@@ -46,6 +47,9 @@ module _ (v : SheetValue) (c : Valid v) (w : v .head .warm ≡ []) where
         whole = λ e. absurd (omega (arith, e));
         warm = c .warm;
         cold = λ _. w;
+        marked = λ l. absurd (omega (arith, l));
+        modifying = λ t e. absurd (false≢true e);
+        unmarked = λ _. refl;
       }
 
   -- in form 1, where no step is idle
@@ -59,6 +63,9 @@ module _ (v : SheetValue) (c : Valid v) (w : v .head .warm ≡ []) where
         whole = λ e t l. ⊎-elim (λ m. m) (λ i. absurd (none-idle (v .refs) t (length (v .head .sizes)) n l i)) (c .run .entry-within t l);
         warm = c .warm;
         cold = λ _. w;
+        marked = λ l. absurd (omega (arith, l));
+        modifying = λ t e. absurd (false≢true e);
+        unmarked = λ _. refl;
       }
 
 -- a sheet of form 1 has no idle step
@@ -69,26 +76,28 @@ whole-in-1 v c e =
 -- ---- when 17 is given
 
 -- where there are fewer references than steps
-pub refused-fewer : (v : SheetValue) → length (touchesOf (v .refs)) < length (v .refs) → toForm1 v ≡ refuses IdleStep
+pub refused-fewer : (v : SheetValue) → length (touchesOf (entriesIn v)) < length (v .refs) → toForm1 v ≡ refuses IdleStep
 refused-fewer v l = go (hasIdle v) refl
   where
     go : (b : Bool) → hasIdle v ≡ b → toForm1 v ≡ refuses IdleStep
     go true e = rw e
-    go false e = absurd (omega (arith, l, touches-all (v .refs) 0 e))
+    go false e = absurd (omega (arith, l, touches-all (marksOf (v .marks)) (v .refs) 0 e))
 
 -- and not where there are as many
-pub given-all : (v : SheetValue) → length (touchesOf (v .refs)) ≡ length (v .refs) → toForm1 v ≡ gives (sheetText (inForm 1 v))
+pub given-all : (v : SheetValue) → length (touchesOf (entriesIn v)) ≡ length (v .refs) → toForm1 v ≡ gives (sheetText (inForm 1 v))
 given-all v l = go (hasIdle v) refl
   where
     go : (b : Bool) → hasIdle v ≡ b → toForm1 v ≡ gives (sheetText (inForm 1 v))
-    go true e = absurd (omega (arith, l, touches-fewer (v .refs) 0 e))
+    go true e = absurd (omega (arith, l, touches-fewer (marksOf (v .marks)) (v .refs) 0 e))
     go false e = rw e
 
 -- ---- there and back
 
--- in another form and back
-in-and-back : (k form : ℕ) (v : SheetValue) → v .form ≡ k → inForm k (inForm form v) ≡ v
-in-and-back k form v e = ap (λ n. inForm n v) (sym e)
+-- in another form and back, of a sheet without marks
+in-and-back : (k form : ℕ) (v : SheetValue) → v .form ≡ k → v .marks ≡ [] → inForm k (inForm form v) ≡ v
+in-and-back k form v e m =
+    ap (λ n. inForm n v) (sym e)
+    ∙ ap (λ (ms : List Bool). record { form = v .form; head = v .head; refs = v .refs; marks = ms }) (sym m)
 
 -- the form of a sheet that a call for one form alone accepts
 form-1 : (s : List ℕ) (v : SheetValue) → readForms 1 1 s ≡ accepted v → v .form ≡ 1
@@ -108,7 +117,7 @@ there-and-back s v e =
     let c = accepted-valid 1 1 (omega arith) s v e in
     let one = form-1 s v e in (
       written-then-read 2 2 (inForm 2 v) (omega arith) (omega arith) (valid-in-2 v c (c .cold (omega (arith, one)))),
-      rw (whole-in-1 v c one) (ap gives (ap sheetText (in-and-back 1 2 v one) ∙ read-then-written 1 1 s v e)),
+      rw (whole-in-1 v c one) (ap gives (ap sheetText (in-and-back 1 2 v one (c .unmarked (omega (arith, one)))) ∙ read-then-written 1 1 s v e)),
     )
 
 -- from form 2, where no step is idle: the same the other way round
@@ -118,5 +127,5 @@ back-and-there s v e n =
     let c = accepted-valid 2 2 (omega arith) s v e in
     let two = form-2 s v e in (
       written-then-read 1 1 (inForm 1 v) (omega arith) (omega arith) (valid-in-1 v c (c .cold (omega (arith, two))) n),
-      ap gives (ap sheetText (in-and-back 2 1 v two) ∙ read-then-written 2 2 s v e),
+      ap gives (ap sheetText (in-and-back 2 1 v two (c .unmarked (omega (arith, two)))) ∙ read-then-written 2 2 s v e),
     )

@@ -11,7 +11,7 @@ use lib.Dec.{eqb}
 use lib.ListN.{length, getD, drop, drop-of-length-le}
 use lib.Seq.{drop-cons}
 use Rattle.model.specs.Sheets.{idle}
-use Rattle.sheet.specs.Touches.{touchesFrom}
+use Rattle.sheet.specs.Touches.{Touch, touchesFrom}
 use Rattle.forms.specs.Forms.{someIdle}
 
 -- ---- one entry after another
@@ -55,32 +55,32 @@ idle-none (x ∷ xs) d f = rw (ne-eqb x idle (f 0 (omega arith))) (idle-none xs 
 
 -- ---- how many touches
 
--- where no entry is idle there are as many touches as steps
-pub touches-all : (xs : List ℕ) (before : ℕ) → someIdle xs ≡ false → length (touchesFrom before xs) ≡ length xs
+-- where no entry is idle there are as many touches as steps, whichever modify
+pub touches-all : (marks : ℕ → Bool) (xs : List ℕ) (before : ℕ) → someIdle xs ≡ false → length (touchesFrom marks before xs) ≡ length xs
 unfolding someIdle touchesFrom
-touches-all [] before e = refl
-touches-all (x ∷ xs) before e = go (eqb x idle) e (touches-all xs (suc before))
+touches-all marks [] before e = refl
+touches-all marks (x ∷ xs) before e = go (eqb x idle) _ e (touches-all marks xs (suc before))
   where
-    go : (b : Bool) → cond b true (someIdle xs) ≡ false → (someIdle xs ≡ false → length (touchesFrom (suc before) xs) ≡ length xs)
-        → length (cond b (touchesFrom (suc before) xs) (record { segment = x; step = suc before } ∷ touchesFrom (suc before) xs))
-        ≡ suc (length xs)
-    go true g f = absurd (false≢true (sym g))
-    go false g f = ap suc (f g)
+    go : (b : Bool) (t : Touch) → cond b true (someIdle xs) ≡ false
+        → (someIdle xs ≡ false → length (touchesFrom marks (suc before) xs) ≡ length xs)
+        → length (cond b (touchesFrom marks (suc before) xs) (t ∷ touchesFrom marks (suc before) xs)) ≡ suc (length xs)
+    go true t g f = absurd (false≢true (sym g))
+    go false t g f = ap suc (f g)
 
 -- at most as many, so fewer where one entry has none
-touches-most : (xs : List ℕ) (before : ℕ)
-    → (length (touchesFrom before xs) ≤ length xs) × (someIdle xs ≡ true → length (touchesFrom before xs) < length xs)
+touches-most : (marks : ℕ → Bool) (xs : List ℕ) (before : ℕ)
+    → (length (touchesFrom marks before xs) ≤ length xs) × (someIdle xs ≡ true → length (touchesFrom marks before xs) < length xs)
 unfolding someIdle touchesFrom
-touches-most [] before = (omega arith, λ e. absurd (false≢true e))
-touches-most (x ∷ xs) before = go (eqb x idle) (touches-most xs (suc before))
+touches-most marks [] before = (omega arith, λ e. absurd (false≢true e))
+touches-most marks (x ∷ xs) before = go (eqb x idle) _ (touches-most marks xs (suc before))
   where
-    go : (b : Bool)
-        → (length (touchesFrom (suc before) xs) ≤ length xs) × (someIdle xs ≡ true → length (touchesFrom (suc before) xs) < length xs)
-        → (let ts = touchesFrom (suc before) xs in
-        let n = length (cond b ts (record { segment = x; step = suc before } ∷ ts)) in
+    go : (b : Bool) (t : Touch)
+        → (let ts = touchesFrom marks (suc before) xs in (length ts ≤ length xs) × (someIdle xs ≡ true → length ts < length xs))
+        → (let ts = touchesFrom marks (suc before) xs in
+        let n = length (cond b ts (t ∷ ts)) in
         (n ≤ suc (length xs)) × (cond b true (someIdle xs) ≡ true → n < suc (length xs)))
-    go true f = (omega (arith, f .0), λ _. omega (arith, f .0))
-    go false f = (omega (arith, f .0), λ e. omega (arith, f .1 e))
+    go true t f = (omega (arith, f .0), λ _. omega (arith, f .0))
+    go false t f = (omega (arith, f .0), λ e. omega (arith, f .1 e))
 
-pub touches-fewer : (xs : List ℕ) (before : ℕ) → someIdle xs ≡ true → length (touchesFrom before xs) < length xs
-touches-fewer xs before e = touches-most xs before .1 e
+pub touches-fewer : (marks : ℕ → Bool) (xs : List ℕ) (before : ℕ) → someIdle xs ≡ true → length (touchesFrom marks before xs) < length xs
+touches-fewer marks xs before e = touches-most marks xs before .1 e

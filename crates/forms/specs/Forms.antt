@@ -8,9 +8,9 @@ use Rattle.model.specs.Sheets.{SheetValue, idle}
 use Rattle.model.specs.declared.Refusal.the-variants.{IdleStep}
 use Rattle.sheet.specs.Writing.{sheetText}
 
--- the same head and entries in another form
+-- the same head and entries in another form, 1 or 2: these have no marks
 abbrev pub inForm : ℕ → SheetValue → SheetValue
-inForm form v = record { form = form; head = v .head; refs = v .refs }
+inForm form v = record { form = form; head = v .head; refs = v .refs; marks = [] }
 
 -- some entry is that of a step without a touch
 unfoldable pub someIdle : List ℕ → Bool

@@ -24,7 +24,7 @@ fn has_idle(entries: &[u16]) -> bool
     false
 }
 
-// The sheet in another form.
+// The sheet in another form, without marks.
 fn in_form(s: Sheet, form: u8) -> Sheet
     ensures { λ r. ⌜ valueOf r ≡ inForm form (valueOf s) ⌝ }
 {
@@ -35,6 +35,8 @@ fn in_form(s: Sheet, form: u8) -> Sheet
         head,
         steps: s.steps,
         touches,
+        marked: 0,
+        marks: [false; Sheet::MAX_STEPS],
     }
 }
 

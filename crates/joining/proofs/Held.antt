@@ -10,7 +10,7 @@ use lib.ListN.{length, getD, take, length-append}
 use lib.Seq.{length-take-le}
 use Rattle.model.specs.Sheets.{idle, mostSegs, mostRows, mostSteps}
 use Rattle.model.specs.Standing.{Standing}
-use Rattle.model.specs.Values.{zeros, zeroRows, idles, padded, headOf, headValueOf, sheetOf, valueOf}
+use Rattle.model.specs.Values.{zeros, zeroRows, idles, blankMarks, padded, headOf, headValueOf, sheetOf, valueOf}
 use Rattle.model.specs.declared.Kind.{Kind}
 use Rattle.model.specs.declared.PriceRow.{PriceRow}
 use Rattle.model.specs.declared.Head.{Head}
@@ -86,16 +86,18 @@ module _ (first second : Sheet) (p : Standing first) (q : Standing second) where
   pub sheet-held : (head : Head) (steps : ℕ) (touches : List ℕ)
       → head ≡ headOf (jointHead (headValueOf (first .head)) (headValueOf (second .head))) → steps ≡ max (first .steps) (second .steps)
       → touches ≡ padded (entriesOf (first .head .segs) (take (first .steps) (first .touches)) (take (second .steps) (second .touches)) steps) (idles mostSteps)
-      → _≡_ {A = Sheet} (record { form = 3; head = head; steps = steps; touches = touches }) (sheetOf (joined (valueOf first) (valueOf second)))
-  unfolding sheetOf joined valueOf
+      → _≡_ {A = Sheet}
+      (record { form = 3; head = head; steps = steps; touches = touches; marked = 0; marks = blankMarks mostSteps })
+      (sheetOf (joined (valueOf first) (valueOf second)))
+  unfolding sheetOf joined valueOf padded
   sheet-held head steps touches e f g =
       sheet-parts head _ steps _ touches _ e (f ∙ sym steps-joint ∙ sym (joint-length (valueOf first) (valueOf second)))
       (g ∙ ap (λ refs. padded refs (idles mostSteps)) (entries-joint steps f))
     where
       sheet-parts : (head head' : Head) (steps steps' : ℕ) (touches touches' : List ℕ) → head ≡ head' → steps ≡ steps' → touches ≡ touches'
           → _≡_ {A = Sheet}
-          (record { form = 3; head = head; steps = steps; touches = touches })
-          (record { form = 3; head = head'; steps = steps'; touches = touches' })
+          (record { form = 3; head = head; steps = steps; touches = touches; marked = 0; marks = blankMarks mostSteps })
+          (record { form = 3; head = head'; steps = steps'; touches = touches'; marked = 0; marks = blankMarks mostSteps })
       sheet-parts head head' steps steps' touches touches' e f g = rw (e, f, g)
 
   -- the second's entries are below 256 or idle

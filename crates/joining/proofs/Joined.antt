@@ -138,6 +138,9 @@ module _ (v w : SheetValue) (first : Valid v) (second : Valid w) (joins : Joins 
         whole = λ e t lt. absurd (omega arith);
         warm = rw segs-joint (warm-both n m (v .head .warm) (w .head .warm) (first .warm) (second .warm));
         cold = λ le. absurd (omega arith);
+        marked = λ late. absurd (omega arith);
+        modifying = λ t e. absurd (true≢false (sym e));
+        unmarked = λ early. refl;
       }
 
   entry-joint : (t : ℕ) → entryOf (joined v w) t ≡ jointEntry n (entryOf v t) (entryOf w t)

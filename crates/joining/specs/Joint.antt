@@ -68,7 +68,7 @@ jointHead p q =
 
 -- the joint sheet, of form 3
 unfoldable pub joined : SheetValue → SheetValue → SheetValue
-joined v w = record { form = 3; head = jointHead (v .head) (w .head); refs = jointRefs v w }
+joined v w = record { form = 3; head = jointHead (v .head) (w .head); refs = jointRefs v w; marks = [] }
 
 -- the two sheets join: the same kind, a and row lines (else 20), no step in which both touch (else 21), at most 256 segments (else 22)
 pub record Joins (v w : SheetValue) : Type 0 where

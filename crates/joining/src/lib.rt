@@ -276,6 +276,8 @@ fn joint_sheet(first: Sheet, second: Sheet) -> Sheet
         head: head,
         steps: steps,
         touches: joint_touches(n, &xs[..x_end], &ys[..y_end], steps),
+        marked: 0,
+        marks: [false; Sheet::MAX_STEPS],
     }
 }
 

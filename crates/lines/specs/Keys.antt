@@ -1,4 +1,4 @@
--- The words of a sheet as bytes: each key with its "=", the two kinds, the line feed, "/" and "@". Assumes nothing.
+-- The words of a sheet as bytes: each key with its "=", the two kinds, the line feed, "/", "@" and the letter w. Assumes nothing.
 use Prim.Native.Nat.{ℕ}
 use mathlib.Core.List.{List, [], _∷_}
 use Rattle.model.specs.declared.Kind.{Kind}
@@ -12,6 +12,10 @@ slash = 47
 
 abbrev pub atSign : ℕ
 atSign = 64
+
+-- w, of a touch that modifies (request F-13)
+abbrev pub markLetter : ℕ
+markLetter = 119
 
 -- form=
 abbrev pub formKey : List ℕ

@@ -1,6 +1,6 @@
 -- What the counts and arrays of a standing sheet hold: its value's lists, rows, references and sizes. Assumes nothing.
 use Prim.Native.Nat.{ℕ, _≤_, _<_}
-use mathlib.Core.Path.{_≡_, refl, sym, _∙_}
+use mathlib.Core.Path.{_≡_, refl, sym, ap, _∙_}
 use mathlib.Core.Logic.{_⊎_, inl, inr, ⊎-elim}
 use native.Mathlib.Omega.{arith}
 use lib.ListN.{length, getD}
@@ -29,6 +29,21 @@ module _ (s : Sheet) (c : Standing s) where
   pub steps-counted : length (valueOf s .refs) ≡ s .steps
   unfolding valueOf
   steps-counted = length-take-le (s .steps) (s .touches) (omega arith)
+
+  pub form-is : valueOf s .form ≡ s .form
+  unfolding valueOf
+  form-is = refl
+
+  pub marks-counted : length (valueOf s .marks) ≡ s .marked
+  unfolding valueOf
+  marks-counted = length-take-le (s .marked) (s .marks) (omega arith)
+
+  -- a sheet of form 4 has a mark for each step, and one of another form none
+  pub marks-steps : 4 ≤ s .form → s .marked ≡ s .steps
+  marks-steps f = sym marks-counted ∙ (c .valid .marked (rw form-is f) ∙ steps-counted)
+
+  pub marks-none : s .form ≤ 3 → s .marked ≡ 0
+  marks-none f = sym marks-counted ∙ ap length (c .valid .unmarked (rw form-is f))
 
   pub kind-is : valueOf s .head .kind ≡ s .head .kind
   unfolding valueOf headValueOf

@@ -19,11 +19,13 @@ pub record HeadValue : Type 0 where
   pub rows : List PriceRow
   pub warm : List ℕ
 
--- a sheet's value: its form, its head and the entry of each step, a segment or `idle` (request F-3). Every step of a sheet of form 1 has a touch
+-- a sheet's value: its form, its head, the entry of each step, a segment or `idle` (request F-3), and in form 4 for each step whether its touch
+-- modifies the segment (request F-13). Every step of a sheet of form 1 has a touch
 pub record SheetValue : Type 0 where
   pub form : ℕ
   pub head : HeadValue
   pub refs : List ℕ
+  pub marks : List Bool
 
 -- the entry of a step without a touch
 abbrev pub idle : ℕ
@@ -31,11 +33,11 @@ idle = 65535
 
 -- the newest form of a sheet
 abbrev pub newestForm : ℕ
-newestForm = 3
+newestForm = 4
 
 -- the limits: the most bytes by the form, the largest a, the most segments, the largest size, the most rows, the largest price, the most steps
 abbrev pub formBytes : ℕ → ℕ
-formBytes form = cond (eqb form 2) 29163 (cond (eqb form 3) 31366 20012)
+formBytes form = cond (eqb form 2) 29163 (cond (eqb form 3) 31366 (cond (eqb form 4) 33414 20012))
 
 abbrev pub largestA : ℕ
 largestA = 255
@@ -73,6 +75,10 @@ headRun head refs = runOf (head .kind) (head .a) (head .sizes) (head .warm) refs
 abbrev pub traceOf : SheetValue → Trace
 traceOf s = headRun (s .head) (s .refs)
 
+-- the marks of a list with one for each step: the touch in the step at place t modifies; a step beyond the list has none
+abbrev pub marksOf : List Bool → ℕ → Bool
+marksOf marks t = getD marks t false
+
 -- row r of a list of rows, and of a sheet
 abbrev pub rowIn : List PriceRow → ℕ → PriceRow
 rowIn rows r = getD rows r (record { h = 0; d = 0 })
@@ -108,8 +114,8 @@ pub record WarmWithin (n : ℕ) (warm : List ℕ) : Type 0 where
   pub below : (k : ℕ) → k < length warm → getD warm k 0 < n
   pub ascending : (k : ℕ) → suc k < length warm → getD warm k 0 < getD warm (suc k) 0
 
--- a sheet's value within the limits: its form is known, its rows, its run, a sheet of form 1 has a touch in every step, and its warm
--- segments, of which forms 1 and 2 have none
+-- a sheet's value within the limits: its form is known, its rows, its run, a sheet of form 1 has a touch in every step, its warm segments, of
+-- which forms 1 and 2 have none, and its marks, one for each step, on touches alone, of which forms 1 to 3 have none
 pub record Valid (s : SheetValue) : Type 0 where
   pub some-form : 1 ≤ s .form
   pub form-within : s .form ≤ newestForm
@@ -118,6 +124,9 @@ pub record Valid (s : SheetValue) : Type 0 where
   pub whole : s .form ≡ 1 → (t : ℕ) → t < length (s .refs) → entry (traceOf s) t < length (s .head .sizes)
   pub warm : WarmWithin (length (s .head .sizes)) (s .head .warm)
   pub cold : s .form ≤ 2 → s .head .warm ≡ []
+  pub marked : 4 ≤ s .form → length (s .marks) ≡ length (s .refs)
+  pub modifying : (t : ℕ) → marksOf (s .marks) t ≡ true → entry (traceOf s) t < length (s .head .sizes)
+  pub unmarked : s .form ≤ 3 → s .marks ≡ []
 
 -- optmem and load of row r of a sheet
 abbrev pub rowOptmem : SheetValue → ℕ → ℕ

@@ -17,3 +17,5 @@ pub record Standing (s : Sheet) : Type 0 where
   pub prices-whole : length (s .head .prices) ≡ mostRows
   pub holds-whole : length (s .head .holds) ≡ mostSegs
   pub touches-whole : length (s .touches) ≡ mostSteps
+  pub marked-within : s .marked ≤ mostSteps
+  pub marks-whole : length (s .marks) ≡ mostSteps

@@ -1,8 +1,10 @@
 -- How a sheet's value is held by value, and its limits. Assumes nothing.
 use Prim.Native.Nat.{ℕ}
+use mathlib.Core.Bool.{Bool, false}
 use mathlib.Core.List.{List, _++_}
 use lib.ListN.{length, take, drop, replicate}
-use Rattle.model.specs.Sheets.{HeadValue, SheetValue, idle, newestForm, formBytes, largestA, mostSegs, largestSize, mostRows, largestPrice, mostSteps}
+use Rattle.model.specs.Sheets.{HeadValue, SheetValue, idle, newestForm, formBytes}
+use Rattle.model.specs.Sheets.{largestA, mostSegs, largestSize, mostRows, largestPrice, mostSteps}
 use Rattle.model.specs.declared.Kind.the-variants.{Time}
 use Rattle.model.specs.declared.PriceRow.{PriceRow}
 use Rattle.model.specs.declared.Head.{Head}
@@ -17,6 +19,7 @@ sheetLimits =
       bytes = formBytes 1;
       «bytes_2» = formBytes 2;
       «bytes_3» = formBytes 3;
+      «bytes_4» = formBytes 4;
       a = largestA;
       segs = mostSegs;
       size = largestSize;
@@ -26,7 +29,7 @@ sheetLimits =
       idle = idle;
     }
 
--- n zeros; n idle entries; n rows 0/0
+-- n zeros; n idle entries; n rows 0/0; n steps that modify nothing
 unfoldable pub zeros : ℕ → List ℕ
 zeros n = replicate n 0
 
@@ -35,6 +38,9 @@ idles n = replicate n idle
 
 unfoldable pub zeroRows : ℕ → List PriceRow
 zeroRows n = replicate n (record { h = 0; d = 0 })
+
+unfoldable pub blankMarks : ℕ → List Bool
+blankMarks n = replicate n false
 
 -- a list at the front of blank elements
 unfoldable pub padded : {A : Type 0} → List A → List A → List A
@@ -65,14 +71,27 @@ headValueOf h =
       warm = take (h .warm) (h .holds);
     }
 
--- the sheet with a value: its entries at the front of idle ones
+-- the sheet with a value: its entries at the front of idle ones, its marks at the front of steps that modify nothing
 unfoldable pub sheetOf : SheetValue → Sheet
 sheetOf v =
-    record { form = v .form; head = headOf (v .head); steps = length (v .refs); touches = padded (v .refs) (idles mostSteps) }
+    record {
+      form = v .form;
+      head = headOf (v .head);
+      steps = length (v .refs);
+      touches = padded (v .refs) (idles mostSteps);
+      marked = length (v .marks);
+      marks = padded (v .marks) (blankMarks mostSteps);
+    }
 
--- the value of a sheet: as many entries as it counts steps
+-- the value of a sheet: as many entries as it counts steps, and as many marks as it counts
 unfoldable pub valueOf : Sheet → SheetValue
-valueOf s = record { form = s .form; head = headValueOf (s .head); refs = take (s .steps) (s .touches) }
+valueOf s =
+    record {
+      form = s .form;
+      head = headValueOf (s .head);
+      refs = take (s .steps) (s .touches);
+      marks = take (s .marked) (s .marks);
+    }
 
 -- no segments, no rows, no warm segments
 unfoldable pub emptyHead : Head
@@ -88,6 +107,6 @@ emptyHead =
       holds = zeros mostSegs;
     }
 
--- form 0, which no sheet has, no segments, no rows, no steps
+-- form 0, which no sheet has, no segments, no rows, no steps, no marks
 unfoldable pub emptySheet : Sheet
-emptySheet = record { form = 0; head = emptyHead; steps = 0; touches = idles mostSteps }
+emptySheet = record { form = 0; head = emptyHead; steps = 0; touches = idles mostSteps; marked = 0; marks = blankMarks mostSteps }

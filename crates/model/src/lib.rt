@@ -43,13 +43,16 @@ pub struct Head {
     pub holds: [u16; Sheet::MAX_SEGS],
 }
 
-// A sheet by value: its form, its head and, for each of the first `steps` steps, the segment that it touches or `Sheet::IDLE`. In a sheet
-// that was read, what stands beyond them is `Sheet::IDLE`.
+// A sheet by value: its form, its head, for each of the first `steps` steps the segment that it touches or `Sheet::IDLE`, and for each of the
+// first `marked` steps whether the touch modifies it: of all steps in form 4, of none in the others. In a sheet that was read, what stands
+// beyond the counts is `Sheet::IDLE` and false.
 pub struct Sheet {
     pub form: u8,
     pub head: Head,
     pub steps: usize,
     pub touches: [u16; Sheet::MAX_STEPS],
+    pub marked: usize,
+    pub marks: [bool; Sheet::MAX_STEPS],
 }
 
 // The limits of a sheet, as `Sheet::limits` hands them out.
@@ -58,6 +61,7 @@ pub struct SheetLimits {
     pub bytes: usize,
     pub bytes_2: usize,
     pub bytes_3: usize,
+    pub bytes_4: usize,
     pub a: u32,
     pub segs: usize,
     pub size: u32,
@@ -69,13 +73,15 @@ pub struct SheetLimits {
 
 impl Sheet {
     // The newest form.
-    pub const NEWEST_FORM: u8 = 3;
-    // The most bytes of a sheet of form 1, of form 2 and of form 3.
+    pub const NEWEST_FORM: u8 = 4;
+    // The most bytes of a sheet of form 1, of form 2, of form 3 and of form 4.
     pub const MAX_BYTES: usize = 20_012;
 
     pub const MAX_BYTES_2: usize = 29_163;
 
     pub const MAX_BYTES_3: usize = 31_366;
+
+    pub const MAX_BYTES_4: usize = 33_414;
     // The largest weight of volume a.
     pub const MAX_A: u32 = 255;
     // The most segments.
@@ -100,6 +106,7 @@ impl Sheet {
             bytes: Sheet::MAX_BYTES,
             bytes_2: Sheet::MAX_BYTES_2,
             bytes_3: Sheet::MAX_BYTES_3,
+            bytes_4: Sheet::MAX_BYTES_4,
             a: Sheet::MAX_A,
             segs: Sheet::MAX_SEGS,
             size: Sheet::MAX_SIZE,
@@ -110,7 +117,7 @@ impl Sheet {
         }
     }
 
-    // The sheet that a refusal hands back: no form, no segments, no rows, no steps.
+    // The sheet that a refusal hands back: no form, no segments, no rows, no steps, no marks.
     pub fn empty() -> Sheet
         ensures { λ r. ⌜ r ≡ emptySheet ⌝ }
     {
@@ -119,6 +126,8 @@ impl Sheet {
             head: Head::empty(),
             steps: 0,
             touches: [Sheet::IDLE; Sheet::MAX_STEPS],
+            marked: 0,
+            marks: [false; Sheet::MAX_STEPS],
         }
     }
 }

@@ -14,9 +14,9 @@ use Rattle.model.specs.declared.PriceRow.{PriceRow}
 use Rattle.model.proofs.Sums.{sum-suc, sum-none}
 use Rattle.model.proofs.Touches.{entry-ref, touching-at, touching-idle}
 use Rattle.stores.specs.Stores.{storeCost, modAdded}
+use Rattle.stores.proofs.Within.{added-within}
 use Rattle.modpass.specs.declared.touching.Touched.{Touched}
 use Rattle.modpass.specs.inner.Touches.{noneSince, touchBy}
-use Rattle.modpass.proofs.Bounds.{added-within}
 use Rattle.modpass.proofs.Tables.{Tables, tables-start, tables-told, tables-touch, tables-idle}
 
 -- what a touch adds, and what those of the first n steps add
@@ -75,7 +75,8 @@ module _ (T : Trace) (marks : ℕ → Bool) (row : PriceRow) (ok : RunWithin T) 
     pub adding-small : (i : ℕ) (x : Touched) → i ≡ getD (T .refs) t 0 → i < segs T → (row .h < 2 ^ 16) × (row .d < 2 ^ 16)
         → x ≡ touchBy (T .kind) (T .a) row (sizeOf T i) (getD last i 0) (getD since i 0) t (marks t) → total + x .added < 2 ^ 64
     adding-small i x ei li prices ex =
-        omega (arith, adding-touch i x ei li ex .total-is, added-within T ok marks row prices (t + 1), ok .steps-within)
+        let most = added-within T ok marks (row .h) (row .d) (omega (arith, prices .0)) (t + 1) in
+        omega (arith, adding-touch i x ei li ex .total-is, most, ok .steps-within)
 
   pub adding-end : (last since : List ℕ) (total t : ℕ) → Adding T marks row last since total t → steps T ≤ t
       → total ≡ modAdded T marks (row .h) (row .d)

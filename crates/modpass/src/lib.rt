@@ -8,8 +8,8 @@ use touching::none_since;
 use touching::touch;
 ghost use mathlib.Core.Path.{_≡_};
 ghost use lib.ListN.{length};
-ghost use Rattle.model.specs.Sheets.{runOf, RunWithin};
-ghost use Rattle.stores.specs.Stores.{marksOf, modAdded};
+ghost use Rattle.model.specs.Sheets.{runOf, RunWithin, marksOf};
+ghost use Rattle.stores.specs.Stores.{modAdded};
 
 // What the modifying touches add to opttotal: modtotal less opttotal.
 pub fn stores(

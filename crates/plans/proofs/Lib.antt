@@ -1,1 +1,2 @@
 pub mod PlanResults
+pub mod Prices

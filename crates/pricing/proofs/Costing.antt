@@ -273,6 +273,14 @@ memory-held T p ok =
     sym (sum-add (steps T) touch kept)
     ∙ sum-eq (steps T) (λ t. touch t + kept t) (λ t. heldCost T p (suc t)) (λ t lt. step-held T p ok t lt)
 
+-- memory and load of a permitted schedule are within 40 bits
+pub schedule-within : (T : Trace) → RunWithin T → (p : List ℕ) → Permitted T p → (scheduleMemory T p < 2 ^ 40) × (scheduleLoad T p < 2 ^ 40)
+unfolding scheduleLoad loadThrough
+schedule-within T ok p allowed = (
+  rw (memory-held T p allowed) (memory-within T ok p (steps T) (ok .steps-within)),
+  load-within T ok p (steps T) (ok .steps-within),
+)
+
 -- the costs of all steps are the schedule's
 pub through-all : (T : Trace) (p : List ℕ) (h d n total : ℕ) (c : Costs) → length p ≡ 32 * steps T → Through T p n c → n ≡ steps T
     → total ≡ totalCost h d (c .memory) (c .load) → priced (c .memory) (c .load) total ≡ priceAnswer T h d p

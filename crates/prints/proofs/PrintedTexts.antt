@@ -1,30 +1,48 @@
 -- The listing and the pages of a sheet, from the figures of all its rows. Assumes nothing.
 use Prim.Native.Nat.{ℕ, _≤_, _<_}
-use mathlib.Core.Path.{_≡_, refl}
+use mathlib.Core.Path.{_≡_, sym, ap, _∙_}
+use mathlib.Core.Logic.{_⊎_, ⊎-elim}
+use mathlib.Core.Bool.{Bool, true, false}
 use mathlib.Core.List.{List}
 use native.Mathlib.Omega.{arith}
+use lib.Dec.{leb}
 use lib.ListN.{length, take, getD}
-use Rattle.model.specs.Rows.{zeroFigures}
-use Rattle.model.specs.Sheets.{SheetValue, Valid, traceOf, mostRows}
+use Rattle.model.specs.Figures.{opttotal}
+use Rattle.model.specs.Rows.{rowFigures, zeroFigures}
+use Rattle.model.specs.Sheets.{SheetValue, Valid, traceOf, marksOf, rowIn, mostRows}
 use Rattle.model.specs.Standing.{Standing}
 use Rattle.model.specs.Traces.{refsOf}
 use Rattle.model.specs.Values.{valueOf}
 use Rattle.model.specs.declared.Kind.{Kind}
 use Rattle.model.specs.declared.RowFigures.{RowFigures}
 use Rattle.model.specs.declared.Sheet.{Sheet}
-use Rattle.model.proofs.Standing.{segs-counted, rows-counted, steps-counted, kind-is, a-is}
-use Rattle.figures.specs.Rows.{allFigures}
+use Rattle.model.specs.Sums.{tabulate}
+use Rattle.model.proofs.Standing.{segs-counted, rows-counted, steps-counted, form-is, kind-is, a-is, row-of}
+use Rattle.model.proofs.Tables.{length-tabulate, getD-tabulate}
+use Rattle.figures.specs.Rows.{figuresAt, allFigures}
 use Rattle.page.specs.Page.{pages, pagesOf, Fits}
 use Rattle.page.proofs.Fitting.{every-field-fits}
-use Rattle.report.specs.Listing.{listing, listingOf}
+use Rattle.report.specs.Listing.{listing, listingBytes, listingOf}
+use Rattle.report.proofs.ListingMost.{listing-within}
+use Rattle.report.proofs.ListingParts.{listing-same}
 use Rattle.rows.proofs.RowFigures.{figures-at, figures-front}
+use Rattle.stores.specs.Rows.{rowModtotal}
+use Rattle.prints.specs.inner.Modtotals.{firstModtotals}
+use Rattle.prints.proofs.RowTotals.{modtotals-at}
 
--- the listing of a sheet from its form, its counts and the figures of all rows
-pub listing-is : (v : SheetValue) (form steps segs rows : ℕ) → v .form ≡ form → length (v .refs) ≡ steps → length (v .head .sizes) ≡ segs
-    → length (v .head .rows) ≡ rows → length (v .head .rows) ≤ mostRows
-    → listing form (refsOf (traceOf v)) steps segs (take rows (allFigures v)) ≡ listingOf v
+-- the listing of a sheet from its form, its counts, the figures of all rows and, where the form has them, their modtotals
+pub listing-is : (v : SheetValue) (form steps segs rows : ℕ) (totals : List ℕ) → v .form ≡ form → length (v .refs) ≡ steps
+    → length (v .head .sizes) ≡ segs → length (v .head .rows) ≡ rows → length (v .head .rows) ≤ mostRows
+    → (leb 4 form ≡ true → (r : ℕ) → r < rows → getD totals r 0 ≡ rowModtotal v r)
+    → listing form (refsOf (traceOf v)) steps segs (take rows (allFigures v)) totals ≡ listingOf v
 unfolding listingOf
-listing-is v form steps segs rows f a b c most = rw (← f, ← a, ← b, ← c, figures-front v most)
+listing-is v form steps segs rows totals f a b c most each =
+    let n = length (v .head .rows) in
+    rw (← f, ← a, ← b, ← c, figures-front v most)
+    (listing-same (v .form) (refsOf (traceOf v)) (length (v .refs)) (length (v .head .sizes)) (tabulate n (figuresAt v)) totals
+    (tabulate n (rowModtotal v))
+    (λ y r lt. let here : r < n = omega (arith, length-tabulate n (figuresAt v)) in
+    each (rw f at y) r (omega (arith, c)) ∙ sym (getD-tabulate n (rowModtotal v) r 0 here)))
 
 -- the page of a sheet from its kind, its a and the figures of all rows
 pub page-is : (v : SheetValue) {kind : Kind} {a : ℕ} (rows : ℕ) → v .head .kind ≡ kind → v .head .a ≡ a → length (v .head .rows) ≡ rows
@@ -41,16 +59,40 @@ page-fits v ok {rows} c e r lt =
 
 -- those of a standing sheet, from its counts
 module _ (s : Sheet) (c : Standing s) where
-  form-is : valueOf s .form ≡ s .form
-  unfolding valueOf
-  form-is = refl
+  -- opttotal of a row among the figures of all rows
+  pub opttotal-of : (all : List RowFigures) → all ≡ allFigures (valueOf s) → (r : ℕ) → r < s .head .rows
+      → getD all r zeroFigures .opttotal
+      ≡ opttotal (traceOf (valueOf s)) (rowIn (s .head .prices) r .h) (rowIn (s .head .prices) r .d)
+  unfolding rowFigures
+  opttotal-of all e r lt =
+      let here : r < length (valueOf s .head .rows) = omega (arith, rows-counted s c) in
+      let at = ap (λ fs. getD fs r zeroFigures) e ∙ figures-at (valueOf s) r zeroFigures here (c .valid .rows .rows-within) in
+      ap (λ f. f .opttotal) at ∙ rw (row-of s c r lt)
 
-  pub listing-of : listing (s .form) (refsOf (traceOf (valueOf s))) (s .steps) (s .head .segs)
-      (take (s .head .rows) (allFigures (valueOf s)))
+  -- the modtotals of all rows are those of the sheet's value, or the form has none
+  pub totals-of : (totals : List ℕ) (b : Bool) → b ≡ leb 4 (s .form)
+      → ((totals ≡ firstModtotals (traceOf (valueOf s)) (marksOf (valueOf s .marks)) (s .head .prices) (s .head .rows)) ⊎ (b ≡ false))
+      → leb 4 (s .form) ≡ true → (r : ℕ) → r < s .head .rows → getD totals r 0 ≡ rowModtotal (valueOf s) r
+  totals-of totals b e came y r lt =
+      ⊎-elim
+      (λ all. ap (λ ms. getD ms r 0) all
+      ∙ modtotals-at (traceOf (valueOf s)) (marksOf (valueOf s .marks)) (s .head .prices) (s .head .rows) r lt (c .rows-within)
+      ∙ rw (row-of s c r lt))
+      (λ none. let z : _≡_ {A = ℕ} 0 1 = cc in absurd (omega arith))
+      came
+
+  pub listing-of : (totals : List ℕ)
+      → (leb 4 (s .form) ≡ true → (r : ℕ) → r < s .head .rows → getD totals r 0 ≡ rowModtotal (valueOf s) r)
+      → listing (s .form) (refsOf (traceOf (valueOf s))) (s .steps) (s .head .segs) (take (s .head .rows) (allFigures (valueOf s))) totals
       ≡ listingOf (valueOf s)
-  listing-of =
-      listing-is (valueOf s) (s .form) (s .steps) (s .head .segs) (s .head .rows) form-is (steps-counted s c) (segs-counted s c)
-      (rows-counted s c) (c .valid .rows .rows-within)
+  listing-of totals each =
+      listing-is (valueOf s) (s .form) (s .steps) (s .head .segs) (s .head .rows) totals (form-is s c) (steps-counted s c)
+      (segs-counted s c) (rows-counted s c) (c .valid .rows .rows-within) each
+
+  -- and it is within the bytes of its form
+  pub listing-fits : length (listingOf (valueOf s)) ≤ listingBytes (s .form)
+  unfolding valueOf
+  listing-fits = listing-within (valueOf s) (c .valid)
 
   pub pages-of : pages (s .head .kind) (s .head .a) (take (s .head .rows) (allFigures (valueOf s))) ≡ pagesOf (valueOf s)
   pages-of = page-is (valueOf s) (s .head .rows) (kind-is s c) (a-is s c) (rows-counted s c) (c .valid .rows .rows-within)

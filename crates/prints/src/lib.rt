@@ -1,5 +1,7 @@
 // The listing and the page of an accepted sheet, written into a lent place.
 // What the texts are is written in crates `report` and `page`; nothing is assumed.
+pub mod modtotals;
+
 use model::PlaceAnswer;
 use model::Sheet;
 ghost use mathlib.Core.Path.{_≡_};
@@ -37,7 +39,20 @@ pub fn sheet_listing(s: Sheet, out: &mut [u8]) -> PlaceAnswer
 {
     let all = rows::all_figures(s);
     let refs = sheet_refs(s);
-    report::write(s.form, refs, s.steps, s.head.segs, all, s.head.rows, out)
+    let mut totals = modtotals::no_modtotals();
+    if report::has_modtotal(s.form) {
+        totals = modtotals::all_modtotals(s, all);
+    }
+    report::write(
+        s.form,
+        refs,
+        s.steps,
+        s.head.segs,
+        all,
+        totals,
+        s.head.rows,
+        out,
+    )
 }
 
 // The page or the two pages of an accepted sheet into a lent place, or 11.

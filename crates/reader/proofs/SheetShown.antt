@@ -3,7 +3,7 @@
 use Prim.Native.Nat.{ℕ, suc, _+_, _<_}
 use mathlib.Core.Path.{_≡_, refl, sym, ap, _∙_}
 use mathlib.Core.Bool.{Bool, true, false, cond}
-use mathlib.Core.List.{List, [], _∷_, _++_, map}
+use mathlib.Core.List.{List, [], _∷_, _++_, append-nil, map}
 use native.Mathlib.Omega.{arith}
 use borrow.Author.Tests.{le-leb, lt-leb, leb-true, leb-false}
 use lib.Dec.{leb}
@@ -13,16 +13,17 @@ use Rattle.model.specs.Sheets.{SheetValue}
 use Rattle.model.specs.declared.Kind.{Kind}
 use Rattle.model.specs.declared.Kind.the-variants.{Time, Space}
 use Rattle.model.specs.declared.PriceRow.{PriceRow}
-use Rattle.lines.specs.Keys.{lineFeed, slash, atSign, formKey, sizeKey, rowKey, holdKey, refKey, kindWord}
+use Rattle.lines.specs.Keys.{lineFeed, slash, atSign, markLetter, formKey, sizeKey, rowKey, holdKey, refKey, kindWord}
 use Rattle.sheet.specs.Lines.{splitAt}
-use Rattle.sheet.specs.Order.{sizesPart, pricesPart, warmPart, warmFor, tablesPart, headPart, refsPart, stepsPart, entriesPart}
+use Rattle.sheet.specs.Order.{sizesPart, pricesPart, warmPart, warmFor, tablesPart, headPart, refsPart, plainPart, stepsPart, entriesPart}
 use Rattle.sheet.specs.Order.{runPart, bodyPart, formLines, sheetPart, linesOf}
 use Rattle.sheet.specs.Parts.{Line}
 use Rattle.sheet.specs.Reading.{accepted, readForms}
-use Rattle.sheet.specs.Touches.{Touch, touchWord, touchesOf}
+use Rattle.sheet.specs.Touches.{Touch, Entries, stepWord, touchWord, touchesOf}
 use Rattle.sheet.specs.Values.{rowWord}
 use Rattle.sheet.specs.Writing.{sheetText}
 use Rattle.sheet.proofs.Parsing.{lacks, lacks-append}
+use Rattle.sheet.proofs.PartTexts.{entriesIn}
 use Rattle.sheet.proofs.RoundTrip.{read-then-written}
 use Rattle.sheet.proofs.Words.{written-lacks}
 use Rattle.reader.specs.Along.{Shown, shown, leftAfter, keyed, sheetShown}
@@ -40,9 +41,14 @@ plain-kind Space = refl
 plain-row : (q : PriceRow) → lacks lineFeed (rowWord q) ≡ true
 plain-row q = lacks-append lineFeed (written (q .h)) (slash ∷ written (q .d)) (plain-number (q .h)) (plain-number (q .d))
 
+plain-step : (modifies : Bool) (step : ℕ) → lacks lineFeed (stepWord modifies step) ≡ true
+plain-step true step = lacks-append lineFeed (written step) (markLetter ∷ []) (plain-number step) refl
+plain-step false step = plain-number step
+
 plain-touch : (x : Touch) → lacks lineFeed (touchWord x) ≡ true
 plain-touch x =
-    lacks-append lineFeed (written (x .segment)) (atSign ∷ written (x .step)) (plain-number (x .segment)) (plain-number (x .step))
+    lacks-append lineFeed (written (x .segment)) (atSign ∷ stepWord (x .modifies) (x .step)) (plain-number (x .segment))
+    (plain-step (x .modifies) (x .step))
 
 -- and no key has one, or another "="
 sizes-plain : (xs : List ℕ) → AllPlain (sizesPart .lines xs)
@@ -66,20 +72,21 @@ unfolding refsPart splitAt
 refs-plain segs xs =
     ((refl, refl, plain-number (length xs)), plain-map (λ x. (refKey, written x)) (λ x. (refl, refl, plain-number x)) xs)
 
-steps-plain : (segs : ℕ) (xs : List ℕ) → AllPlain (stepsPart segs .lines xs)
+steps-plain : (letters : Bool) (segs : ℕ) (e : Entries) → AllPlain (stepsPart letters segs .lines e)
 unfolding stepsPart splitAt
-steps-plain segs xs = (
-  (refl, refl, plain-number (length xs)),
+steps-plain letters segs e = (
+  (refl, refl, plain-number (length (e .refs))),
   (
-    (refl, refl, plain-number (length (touchesOf xs))),
-    plain-map (λ x. (refKey, touchWord x)) (λ x. (refl, refl, plain-touch x)) (touchesOf xs),
+    (refl, refl, plain-number (length (touchesOf e))),
+    plain-map (λ x. (refKey, touchWord x)) (λ x. (refl, refl, plain-touch x)) (touchesOf e),
   ),
 )
 
 -- by the form
-entries-plain : (later : Bool) (segs : ℕ) (xs : List ℕ) → AllPlain (entriesPart later segs .lines xs)
-entries-plain true segs xs = steps-plain segs xs
-entries-plain false segs xs = refs-plain segs xs
+entries-plain : (later letters : Bool) (segs : ℕ) (e : Entries) → AllPlain (entriesPart later letters segs .lines e)
+unfolding plainPart
+entries-plain true letters segs e = steps-plain letters segs e
+entries-plain false letters segs e = plain-append (refsPart segs .lines (e .refs)) [] (refs-plain segs (e .refs)) tt
 
 form-plain : (form : ℕ) → AllPlain (formLines form)
 unfolding splitAt
@@ -97,8 +104,8 @@ lines-plain v =
     let warm = plain-append (warmFor later segs .lines (v .head .warm)) [] (warm-plain later segs (v .head .warm)) tt in
     let tables = plain-append (sizesPart .lines (v .head .sizes)) _ (sizes-plain (v .head .sizes))
     (plain-append (pricesPart .lines (v .head .rows)) _ (prices-plain (v .head .rows)) warm) in
-    let entries = entriesPart (leb 2 (v .form)) segs .lines (v .refs) in
-    let run = plain-append entries [] (entries-plain (leb 2 (v .form)) segs (v .refs)) tt in
+    let entries = entriesPart (leb 2 (v .form)) (leb 4 (v .form)) segs .lines (entriesIn v) in
+    let run = plain-append entries [] (entries-plain (leb 2 (v .form)) (leb 4 (v .form)) segs (entriesIn v)) tt in
     plain-append (formLines (v .form)) _ (form-plain (v .form))
     (plain-append (headPart true later .lines (v .head)) _
     ((refl, refl, plain-kind (v .head .kind)), ((refl, refl, plain-number (v .head .a)), tables)) run)
@@ -118,13 +125,13 @@ accepted-shows lo hi s v e = let h = sheet-shows v in rw (← read-then-written 
 parts-count : (v : SheetValue) → length (sheetShown v)
     ≡ length (formLines (v .form)) + (2 + (length (sizesPart .lines (v .head .sizes)) + (length (pricesPart .lines (v .head .rows))
     + (length (warmFor (leb 3 (v .form)) (length (v .head .sizes)) .lines (v .head .warm))
-    + length (entriesPart (leb 2 (v .form)) (length (v .head .sizes)) .lines (v .refs))))))
+    + length (entriesPart (leb 2 (v .form)) (leb 4 (v .form)) (length (v .head .sizes)) .lines (entriesIn v))))))
 unfolding sheetPart bodyPart runPart headPart tablesPart
 parts-count v =
     length-map (linesOf v) (λ (l : Line). keyed (l .0) (l .1))
     ∙ all (formLines (v .form)) (sizesPart .lines (v .head .sizes)) (pricesPart .lines (v .head .rows))
     (warmFor (leb 3 (v .form)) (length (v .head .sizes)) .lines (v .head .warm))
-    (entriesPart (leb 2 (v .form)) (length (v .head .sizes)) .lines (v .refs)) _ _
+    (entriesPart (leb 2 (v .form)) (leb 4 (v .form)) (length (v .head .sizes)) .lines (entriesIn v)) _ _
   where
     all : (f s p w e : List Line) (k a : Line) → length (f ++ ((k ∷ a ∷ (s ++ (p ++ (w ++ [])))) ++ (e ++ [])))
         ≡ length f + (2 + (length s + (length p + (length w + length e))))
@@ -146,13 +153,14 @@ warm-count : (segs : ℕ) (xs : List ℕ) → length (warmPart segs .lines xs) �
 unfolding warmPart
 warm-count segs xs = counted-count (λ x. (holdKey, written x)) xs
 
-refs-count : (segs : ℕ) (xs : List ℕ) → length (refsPart segs .lines xs) ≡ 1 + length xs
-unfolding refsPart
-refs-count segs xs = counted-count (λ x. (refKey, written x)) xs
+refs-count : (segs : ℕ) (e : Entries) → length (plainPart segs .lines e) ≡ 1 + length (e .refs)
+unfolding plainPart refsPart
+refs-count segs e =
+    ap length (append-nil (refsPart segs .lines (e .refs))) ∙ counted-count (λ x. (refKey, written x)) (e .refs)
 
-steps-count : (segs : ℕ) (xs : List ℕ) → length (stepsPart segs .lines xs) ≡ 2 + length (touchesOf xs)
+steps-count : (letters : Bool) (segs : ℕ) (e : Entries) → length (stepsPart letters segs .lines e) ≡ 2 + length (touchesOf e)
 unfolding stepsPart
-steps-count segs xs = omega (arith, length-map {B = Line} (touchesOf xs) (λ x. (refKey, touchWord x)))
+steps-count letters segs e = omega (arith, length-map {B = Line} (touchesOf e) (λ x. (refKey, touchWord x)))
 
 -- beside those of the sizes and the rows, form 1 has 5 lines and one for each reference
 pub lines-count : (v : SheetValue) → leb 2 (v .form) ≡ false
@@ -160,19 +168,26 @@ pub lines-count : (v : SheetValue) → leb 2 (v .form) ≡ false
 lines-count v e =
     let f = lt-leb 3 (v .form) (omega (arith, leb-false 2 (v .form) e)) in
     parts-count v
-    ∙ rw (e, f, sizes-count (v .head .sizes), prices-count (v .head .rows), refs-count (length (v .head .sizes)) (v .refs)) (omega arith)
+    ∙ rw (e, f, sizes-count (v .head .sizes), prices-count (v .head .rows), refs-count (length (v .head .sizes)) (entriesIn v)) (omega arith)
 
 -- form 2 has 7 and one for each touch
 pub lines-count-2 : (v : SheetValue) → leb 2 (v .form) ≡ true → leb 3 (v .form) ≡ false
-    → length (sheetShown v) ≡ 7 + (length (v .head .sizes) + (length (v .head .rows) + length (touchesOf (v .refs))))
+    → length (sheetShown v) ≡ 7 + (length (v .head .sizes) + (length (v .head .rows) + length (touchesOf (entriesIn v))))
 lines-count-2 v e f =
     parts-count v
-    ∙ rw (e, f, sizes-count (v .head .sizes), prices-count (v .head .rows), steps-count (length (v .head .sizes)) (v .refs)) (omega arith)
+    ∙ rw (
+      e,
+      f,
+      sizes-count (v .head .sizes),
+      prices-count (v .head .rows),
+      steps-count (leb 4 (v .form)) (length (v .head .sizes)) (entriesIn v),
+    )
+    (omega arith)
 
--- and form 3 has 8, one for each warm segment and one for each touch
+-- and forms 3 and 4 have 8, one for each warm segment and one for each touch
 pub lines-count-3 : (v : SheetValue) → leb 3 (v .form) ≡ true
     → length (sheetShown v)
-    ≡ 8 + (length (v .head .sizes) + (length (v .head .rows) + (length (v .head .warm) + length (touchesOf (v .refs)))))
+    ≡ 8 + (length (v .head .sizes) + (length (v .head .rows) + (length (v .head .warm) + length (touchesOf (entriesIn v)))))
 lines-count-3 v f =
     let e = le-leb 2 (v .form) (omega (arith, leb-true 3 (v .form) f)) in
     let segs = length (v .head .sizes) in
@@ -183,7 +198,7 @@ lines-count-3 v f =
       sizes-count (v .head .sizes),
       prices-count (v .head .rows),
       warm-count segs (v .head .warm),
-      steps-count segs (v .refs),
+      steps-count (leb 4 (v .form)) segs (entriesIn v),
     )
     (omega arith)
 

@@ -1,9 +1,11 @@
 -- Laws of the parts of a sheet as they are read: what was read so far, then the next part. Assumes nothing.
-use Prim.Native.Nat.{ℕ, _+_, _-_, _≤_}
+use Prim.Native.Nat.{ℕ, _+_, _-_, _≤_, _<_}
 use mathlib.Core.Path.{_≡_, refl, sym, ap, _∙_}
-use mathlib.Core.Bool.{Bool, true, false}
+use mathlib.Core.Bool.{Bool, false}
 use mathlib.Core.List.{List, []}
 use native.Mathlib.Omega.{arith}
+use borrow.Author.Tests.{le-leb, lt-leb}
+use lib.Dec.{leb}
 use lib.ListN.{length, take, drop}
 use Rattle.lines.specs.Keys.{aKey, stepsKey, refsKey, refKey}
 use Rattle.model.specs.Sheets.{HeadValue, largestA, mostSegs, mostRows, mostSteps}
@@ -13,12 +15,13 @@ use Rattle.model.specs.declared.Kind.{Kind}
 use Rattle.model.specs.declared.PriceRow.{PriceRow}
 use Rattle.sheet.specs.Lines.{Parsed, read, andThen, numberLine}
 use Rattle.sheet.specs.Order.{numberPart, numbersPart, sizesPart, pricesPart, tablesPart, kindFor, headPart}
-use Rattle.sheet.specs.Order.{refsPart, stepsPart, entriesPart}
+use Rattle.sheet.specs.Order.{refsPart, plainPart, stepsPart, entriesPart}
 use Rattle.sheet.specs.Parts.{counted}
-use Rattle.sheet.specs.Touches.{entryLines}
+use Rattle.sheet.specs.Touches.{Entries, entryLines}
 use Rattle.sheet.proofs.SheetLines.{tables-segs, head-segs}
-use Rattle.scan.specs.AtPlace.{parsedLines, movedOn}
+use Rattle.scan.specs.AtPlace.{parsedLines, movedOn, Filled}
 use Rattle.reading.specs.inner.AtPlace.{withWarm, HeadFilled}
+use Rattle.reading.specs.inner.TouchesAtPlace.{entriesWith, markCount}
 use Rattle.scan.specs.declared.numbers.LinesRead.{LinesRead}
 use Rattle.scan.specs.declared.numbers.LinesRead.the-variants.{Done, Refused as NoLines}
 use Rattle.scan.proofs.Blanks.{filled-length, filled-start}
@@ -81,24 +84,31 @@ head-read taken later s i j kind a l q v =
     after-two (kindFor taken .reads s) (λ _. numberLine aKey 0 largestA) (λ k n. tablesPart later k n .reads) s i j kind a l q v
 
 -- the number of steps and that of references, then the touches
-pub steps-read : (segs : ℕ) (s : List ℕ) (i j steps n : ℕ) (l q : LinesRead) (xs : List ℕ)
+pub steps-read : (letters : Bool) (segs : ℕ) (s : List ℕ) (i j steps n : ℕ) (l q : LinesRead) (e : Entries)
     → numberLine stepsKey 0 mostSteps s ≡ read steps (drop i s) → numberLine refsKey 0 steps (tail s i) ≡ read n (drop j (tail s i))
-    → parsedLines (tail s (i + j)) l xs ≡ entryLines segs steps n (tail s (i + j)) → q ≡ movedOn (i + j) l
-    → parsedLines s q xs ≡ stepsPart segs .reads s
+    → parsedLines (tail s (i + j)) l e ≡ entryLines letters segs steps n (tail s (i + j)) → q ≡ movedOn (i + j) l
+    → parsedLines s q e ≡ stepsPart letters segs .reads s
 unfolding stepsPart
-steps-read segs s i j steps n l q xs =
-    after-two (numberLine stepsKey 0 mostSteps s) (λ m. numberLine refsKey 0 m) (λ m k. entryLines segs m k) s i j steps n l q xs
+steps-read letters segs s i j steps n l q e =
+    after-two (numberLine stepsKey 0 mostSteps s) (λ m. numberLine refsKey 0 m) (λ m k. entryLines letters segs m k) s i j steps n l q e
 
--- the entries of a later form
-pub entries-later : (later : Bool) (segs : ℕ) (s : List ℕ) (q : Parsed (List ℕ)) → later ≡ true → q ≡ stepsPart segs .reads s
-    → q ≡ entriesPart later segs .reads s
-entries-later later segs s q t e = rw t e
+-- the entries of form 2 on
+pub entries-later : (form segs : ℕ) (s : List ℕ) (q : Parsed Entries) → 2 ≤ form → q ≡ stepsPart (leb 4 form) segs .reads s
+    → q ≡ entriesPart (leb 2 form) (leb 4 form) segs .reads s
+entries-later form segs s q t e = rw (le-leb 2 form t) e
 
--- those of form 1
-pub entries-first : (later : Bool) (segs : ℕ) (s : List ℕ) (m : ℕ) (q : Parsed (List ℕ)) → later ≡ false → m ≡ mostSteps
-    → q ≡ counted (numberPart refsKey 0 m) (numbersPart refKey 0 (segs - 1)) .reads s → q ≡ entriesPart later segs .reads s
-unfolding refsPart
-entries-first later segs s m q t e d = rw t (sym (counted-most refsKey refKey 0 0 (segs - 1) m mostSteps s q e d))
+-- those of form 1, which has no marks
+pub entries-first : (form segs : ℕ) (s : List ℕ) (m : ℕ) (l : LinesRead) (xs : List ℕ) (ms : List Bool) → form < 2 → m ≡ mostSteps
+    → parsedLines s l xs ≡ counted (numberPart refsKey 0 m) (numbersPart refKey 0 (segs - 1)) .reads s
+    → parsedLines s l (entriesWith (leb 4 form) xs ms) ≡ entriesPart (leb 2 form) (leb 4 form) segs .reads s
+unfolding plainPart refsPart
+entries-first form segs s m l xs ms t e d =
+    let g : List ℕ → Entries = λ ys. record { refs = ys; marks = [] } in
+    let c = sym (counted-most refsKey refKey 0 0 (segs - 1) m mostSteps s (parsedLines s l xs) e d) in
+    rw (lt-leb 2 form t, lt-leb 4 form (omega arith)) (made g s l xs ∙ ap (λ p. andThen p (λ ys end. read (g ys) end)) c)
+
+pub marks-first : (form n : ℕ) (ms : List Bool) → form < 2 → Filled (markCount (leb 4 form) n) ms ms
+marks-first form n ms t = rw (lt-leb 4 form (omega arith)) (filled-start 0 ms ms (omega arith) refl)
 
 -- a head counts its sizes
 pub sizes-counted : (h : Head) → HeadFilled h → length (headValueOf h .sizes) ≡ h .segs
@@ -106,9 +116,10 @@ unfolding headValueOf
 sizes-counted h f = filled-length (h .segs) (h .sizes) (zeros mostSegs) (f .sizes)
 
 -- the entries of a sheet with a head
-pub entries-read : (later : Bool) (h : Head) (s : List ℕ) (q : Parsed (List ℕ)) → HeadFilled h → q ≡ entriesPart later (h .segs) .reads s
-    → entriesPart later (length (headValueOf h .sizes)) .reads s ≡ q
-entries-read later h s q f d = ap (λ n. entriesPart later n .reads s) (sizes-counted h f) ∙ sym d
+pub entries-read : (form : ℕ) (h : Head) (s : List ℕ) (q : Parsed Entries) → HeadFilled h
+    → q ≡ entriesPart (leb 2 form) (leb 4 form) (h .segs) .reads s
+    → entriesPart (leb 2 form) (leb 4 form) (length (headValueOf h .sizes)) .reads s ≡ q
+entries-read form h s q f d = ap (λ n. entriesPart (leb 2 form) (leb 4 form) n .reads s) (sizes-counted h f) ∙ sym d
 
 -- a head that was read has a segment
 pub some-segs : (taken later : Bool) (h : Head) (s rest : List ℕ) → HeadFilled h → headPart taken later .reads s ≡ read (headValueOf h) rest

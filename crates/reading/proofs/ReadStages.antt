@@ -2,7 +2,7 @@
 use Prim.Native.Nat.{ℕ, _≤_, _<_, max}
 use mathlib.Core.Path.{_≡_, refl, sym, ap, _∙_}
 use mathlib.Core.Bool.{Bool, true, false, cond}
-use mathlib.Core.List.{List}
+use mathlib.Core.List.{List, []}
 use native.Mathlib.Omega.{arith}
 use borrow.Author.Tests.{le-ltb}
 use lib.Dec.{eqb, ltb}
@@ -16,10 +16,11 @@ use Rattle.lines.specs.Keys.{formKey}
 use Rattle.sheet.specs.Lines.{Parsed, read, andThen, sameBytes, numberLine}
 use Rattle.sheet.specs.Order.{bodyPart, sheetPart}
 use Rattle.sheet.specs.Reading.{accepted, rejected, atEnd, sheetLines, namedForm, readForms}
-use Rattle.model.specs.Values.{zeros, idles, zeroRows, headOf, headValueOf, sheetOf}
+use Rattle.model.specs.Values.{zeros, idles, zeroRows, blankMarks, headOf, headValueOf, sheetOf}
 use Rattle.sheet.specs.Answers.{answerOf}
 use Rattle.scan.specs.AtPlace.{Filled}
 use Rattle.reading.specs.inner.AtPlace.{HeadFilled, formLine}
+use Rattle.reading.specs.inner.TouchesAtPlace.{markCount}
 use Rattle.sheet.specs.declared.SheetAnswer.{SheetAnswer}
 use Rattle.scan.proofs.Blanks.{filled-length, filled-padded}
 use Rattle.scan.proofs.NumberLines.{number-bounds}
@@ -46,21 +47,44 @@ head-held h f =
     )
 
 -- so is a sheet, and the answer with it
-pub finished : (form : ℕ) (h : Head) (steps : ℕ) (touches : List ℕ) → HeadFilled h → Filled steps touches (idles mostSteps)
-    → record { verdict = Accepted; sheet = record { form = form; head = h; steps = steps; touches = touches } }
-    ≡ answerOf (accepted (record { form = form; head = headValueOf h; refs = take steps touches }))
+pub finished : (form : ℕ) (h : Head) (letters : Bool) (steps marked : ℕ) (touches : List ℕ) (marks : List Bool) → HeadFilled h
+    → Filled steps touches (idles mostSteps) → marked ≡ markCount letters steps
+    → Filled (markCount letters steps) marks (blankMarks mostSteps)
+    → record {
+      verdict = Accepted;
+      sheet = record { form = form; head = h; steps = steps; touches = touches; marked = marked; marks = marks };
+    }
+    ≡ answerOf (accepted (record {
+      form = form;
+      head = headValueOf h;
+      refs = take steps touches;
+      marks = cond letters (take steps marks) [];
+    }))
 unfolding answerOf sheetOf
-finished form h steps touches f g =
-    rw (head-held h f, filled-length steps touches (idles mostSteps) g, filled-padded steps touches (idles mostSteps) g)
+finished form h letters steps marked touches marks f g e k =
+    rw (
+      e,
+      taken letters,
+      head-held h f,
+      filled-length steps touches (idles mostSteps) g,
+      filled-padded steps touches (idles mostSteps) g,
+      filled-length (markCount letters steps) marks (blankMarks mostSteps) k,
+      filled-padded (markCount letters steps) marks (blankMarks mostSteps) k,
+    )
+  where
+    taken : (b : Bool) → cond b (take steps marks) [] ≡ take (markCount b steps) marks
+    taken true = refl
+    taken false = refl
 
 -- no form has a smaller limit than form 1
 least-limit : (form : ℕ) → formBytes 1 ≤ formBytes form
-least-limit form = go (eqb form 2) (eqb form 3)
+least-limit form = go (eqb form 2) (eqb form 3) (eqb form 4)
   where
-    go : (b d : Bool) → 20012 ≤ cond b 29163 (cond d 31366 20012)
-    go true d = omega arith
-    go false true = omega arith
-    go false false = omega arith
+    go : (b d e : Bool) → 20012 ≤ cond b 29163 (cond d 31366 (cond e 33414 20012))
+    go true d e = omega arith
+    go false true e = omega arith
+    go false false true = omega arith
+    go false false false = omega arith
 
 pub within-least : (s : List ℕ) → length s ≤ formBytes 1 → false ≡ ltb (formBytes (namedForm s)) (length s)
 within-least s h = sym (le-ltb (formBytes (namedForm s)) (length s) (omega (arith, h, least-limit (namedForm s))))

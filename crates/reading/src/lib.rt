@@ -17,15 +17,16 @@ use scan::numbers::NumberAt;
 use sheet::SheetAnswer;
 ghost use mathlib.Core.Path.{_≡_};
 ghost use Prim.Native.Nat.{_-_, _≤_, _<_, max};
-ghost use lib.Dec.{ltb};
+ghost use lib.Dec.{leb, ltb};
 ghost use lib.ListN.{length, take};
 ghost use Rattle.model.specs.Sheets.{mostSegs, mostSteps, formBytes};
-ghost use Rattle.model.specs.Values.{idles, headValueOf};
+ghost use Rattle.model.specs.Values.{idles, blankMarks, headValueOf};
 ghost use Rattle.sheet.specs.Answers.{answerOf};
 ghost use Rattle.sheet.specs.Order.{entriesPart, runPart};
 ghost use Rattle.sheet.specs.Reading.{atEnd, namedForm, readForms, readSheet, rejected};
 ghost use Rattle.scan.specs.AtPlace.{parsedNumber, numberNext, parsedLines, linesNext, Filled};
 ghost use Rattle.reading.specs.inner.AtPlace.{HeadFilled, formLine};
+ghost use Rattle.reading.specs.inner.TouchesAtPlace.{entriesWith, markCount};
 
 // The answer where the bytes are refused.
 fn refused(why: Refusal) -> SheetAnswer
@@ -44,17 +45,37 @@ fn blank_touches() -> [u16; Sheet::MAX_STEPS]
     [Sheet::IDLE; Sheet::MAX_STEPS]
 }
 
-// The entries of a sheet of form 1, or of a later form, into the front of `out`; all of `out` is idle.
-fn entry_lines(s: &[u8], later: bool, segs: usize, out: &mut [u16]) -> CountedAt
+// 2,048 steps that modify nothing.
+fn blank_marks() -> [bool; Sheet::MAX_STEPS]
+    ensures { λ r. ⌜ r ≡ blankMarks mostSteps ⌝ }
+{
+    [false; Sheet::MAX_STEPS]
+}
+
+// How many marks a sheet of the form has that has so many steps: from form 4 on one for each.
+fn mark_count(form: u8, steps: usize) -> usize
+    ensures { λ r. ⌜ r ≡ markCount (leb 4 form) steps ⌝ }
+{
+    if 4 <= form {
+        return steps;
+    }
+    0
+}
+
+// The entries of a sheet of this form into the front of `out`, and from form 4 on its marks into that of `marks`; all of `out` is idle, and
+// all of `marks` false.
+fn entry_lines(s: &[u8], form: u8, segs: usize, out: &mut [u16], marks: &mut [bool]) -> CountedAt
     requires { ⌜ (1 ≤ segs) × (segs ≤ mostSegs) ⌝ }
-    requires { ⌜ now out ≡ idles mostSteps ⌝ }
-    ensures { λ r. ⌜ parsedLines (now (s .entry)) (r .lines) (take (r .count) (now (out .exit)))
-        ≡ entriesPart later segs .reads (now (s .entry)) ⌝ }
+    requires { ⌜ (now out ≡ idles mostSteps) × (now marks ≡ blankMarks mostSteps) ⌝ }
+    ensures { λ r. ⌜ parsedLines (now (s .entry)) (r .lines)
+        (entriesWith (leb 4 form) (take (r .count) (now (out .exit))) (take (r .count) (now (marks .exit))))
+        ≡ entriesPart (leb 2 form) (leb 4 form) segs .reads (now (s .entry)) ⌝ }
     ensures { λ r. ⌜ linesNext (r .lines) ≤ length (now (s .entry)) ⌝ }
     ensures { λ r. ⌜ Filled (r .count) (now (out .exit)) (now (out .entry)) ⌝ }
+    ensures { λ r. ⌜ Filled (markCount (leb 4 form) (r .count)) (now (marks .exit)) (now (marks .entry)) ⌝ }
 {
-    if later {
-        return touching::step_lines(s, segs, out);
+    if 2 <= form {
+        return touching::step_lines(s, 4 <= form, segs, out, marks);
     }
     let last = (segs - 1) as u32;
     numbers::counted_lines(s, b"refs=", 0, b"ref=", 0, last, out)
@@ -67,8 +88,9 @@ fn run_lines(s: &[u8], form: u8, head: Head) -> SheetAnswer
     ensures { λ r. ⌜ r ≡ answerOf (atEnd (runPart form (headValueOf head) .reads (now (s .entry)))) ⌝ }
 {
     let mut touches = blank_touches();
+    let mut marks = blank_marks();
     let most = touches.len();
-    let found = entry_lines(s, 2 <= form, head.segs, &mut touches[..most]);
+    let found = entry_lines(s, form, head.segs, &mut touches[..most], &mut marks[..most]);
     let lines = found.lines;
     let steps = found.count;
     match lines {
@@ -84,6 +106,8 @@ fn run_lines(s: &[u8], form: u8, head: Head) -> SheetAnswer
                     head: head,
                     steps: steps,
                     touches: touches,
+                    marked: mark_count(form, steps),
+                    marks: marks,
                 },
             }
         }
@@ -109,6 +133,9 @@ fn form_bytes(form: u32) -> usize
     }
     if form == 3 {
         return Sheet::MAX_BYTES_3;
+    }
+    if form == 4 {
+        return Sheet::MAX_BYTES_4;
     }
     Sheet::MAX_BYTES
 }

@@ -10,7 +10,7 @@ use lib.Dec.{ltb}
 use lib.ListN.{length, getD, drop, length-append}
 use lib.Seq.{drop-cons}
 use borrow.Author.Tests.{lt-ltb, le-ltb, ltb-true}
-use Rattle.model.specs.Sheets.{SheetValue, Valid, mostSegs, mostSteps}
+use Rattle.model.specs.Sheets.{SheetValue, RunWithin, Valid, traceOf, mostSegs, mostSteps}
 use Rattle.model.specs.Values.{headOf}
 use Rattle.model.specs.declared.Refusal.the-variants.{OutOfRange, RecorderFull}
 use Rattle.model.specs.declared.Verdict.{Verdict}
@@ -20,7 +20,7 @@ use Rattle.recorder.specs.Recorders.{TouchedAll, oneByOne}
 use Rattle.recorder.specs.declared.Recorder.{Recorder}
 use Rattle.recorder.specs.declared.TouchAnswer.{TouchAnswer}
 use Rattle.recorder.proofs.Answers.{refused-accepted}
-use Rattle.recorder.proofs.Standing.{appended-valid}
+use Rattle.recorder.proofs.Standing.{appended-run, appended-valid}
 
 -- the verdict on the references after one, by the verdict on that one
 rest-verdict : ℕ → ℕ → List ℕ → Verdict → Verdict
@@ -136,12 +136,10 @@ takable-accepted segs count (x ∷ xs) s =
     ∙ takable-accepted segs (suc count) xs
     (record { segments = λ t lt. s .segments (suc t) (omega arith); room = λ t lt. omega (arith, s .room (suc t) (omega arith)) })
 
--- a sheet's value with no reference more
-pub appended-none : (v : SheetValue) → appended v [] ≡ v
-appended-none v = rw (append-nil (v .refs)) refl
-
-pub none-appended : (v : SheetValue) (xs : List ℕ) → length xs ≡ 0 → v ≡ appended v xs
-none-appended v [] none = sym (appended-none v)
+-- the recorder that stands for a sheet stands for it with no reference more
+pub none-appended : (v : SheetValue) (xs : List ℕ) → length xs ≡ 0 → recorderOf v ≡ recorderOf (appended v xs)
+unfolding recorderOf
+none-appended v [] none = rw (append-nil (v .refs)) refl
 none-appended v (x ∷ xs) none = absurd (omega arith)
 
 -- references that can be taken are within the number that a sheet has
@@ -190,7 +188,7 @@ one-by-one-step v x xs rest (Refused why) = record { verdict-is = refl; all-take
 one-by-one : (v : SheetValue) (xs : List ℕ)
     → OneByOne v xs (oneByOne v xs) (refsVerdict (min (length (v .head .sizes)) mostSegs) (length (v .refs)) xs)
 unfolding oneByOne rest-touched refsVerdict rest-verdict recorderOf headOf
-one-by-one v [] = record { verdict-is = refl; all-taken = λ a. ap recorderOf (sym (appended-none v)) }
+one-by-one v [] = record { verdict-is = refl; all-taken = λ a. none-appended v [] refl }
 one-by-one v (x ∷ xs) =
     let one : length (v .refs ++ (x ∷ [])) ≡ suc (length (v .refs)) = omega (arith, length-append (v .refs) (x ∷ [])) in
     one-by-one-step v x xs (rw one at (one-by-one (taken v x) xs)) (touchVerdict (recorderOf v) x)
@@ -209,12 +207,19 @@ touched-one-by-one R xs r t v valid e =
           rw (same, next) refl,
     )
 
--- references that a recorder that stands for a sheet accepts leave the sheet within the limits
-pub all-valid : (R : Recorder) (xs : List ℕ) → touchAllVerdict R xs ≡ Accepted → (v : SheetValue) → Valid v → R ≡ recorderOf v
-    → Valid (appended v xs)
-all-valid R xs a v valid e =
-    let can = takable-of R xs a v valid e in
-    appended-valid v valid xs (can .segments) (takable-few (length (v .head .sizes)) (length (v .refs)) xs can (valid .run .steps-within))
+-- references that a recorder that stands for a sheet accepts leave the sheet's run within the limits, and a sheet of forms 1 to 3
+module _ (R : Recorder) (xs : List ℕ) (a : touchAllVerdict R xs ≡ Accepted) (v : SheetValue) (valid : Valid v) (e : R ≡ recorderOf v) where
+  can : Takable (length (v .head .sizes)) (length (v .refs)) xs
+  can = takable-of R xs a v valid e
+
+  few : length (v .refs) + length xs ≤ mostSteps
+  few = takable-few (length (v .head .sizes)) (length (v .refs)) xs can (valid .run .steps-within)
+
+  pub all-run : RunWithin (traceOf (appended v xs))
+  all-run = appended-run v valid xs (can .segments) few
+
+  pub all-valid : v .form ≤ 3 → Valid (appended v xs)
+  all-valid early = appended-valid v valid xs (can .segments) few early
 
 -- a reference that is accepted is accepted as a list of one
 pub one-accepted : (R : Recorder) (x : ℕ) → touchVerdict R x ≡ Accepted → touchAllVerdict R (x ∷ []) ≡ Accepted

@@ -19,8 +19,8 @@ use Rattle.recorder.specs.Moves.{Moved, Led, unmoved, led, moveOf, moves
 use Rattle.recorder.specs.declared.Recorder.{Recorder}
 use Rattle.recorder.specs.declared.TouchAnswer.{TouchAnswer}
 use Rattle.recorder.proofs.Answers.{step-room}
-use Rattle.recorder.proofs.Bulk.{appended-none, all-valid, one-accepted}
-use Rattle.recorder.proofs.Standing.{taken-valid, rested-valid, started-valid}
+use Rattle.recorder.proofs.Bulk.{all-valid, one-accepted}
+use Rattle.recorder.proofs.Standing.{rested-valid}
 
 -- moves after others
 pub moves-append : (v : SheetValue) (ms ns : List Move) → afterMoves v (ms ++ ns) ≡ afterMoves (afterMoves v ms) ns
@@ -29,10 +29,11 @@ moves-append v [] ns = refl
 moves-append v (m ∷ ms) ns = moves-append (moved v m) ms ns
 
 -- touches alone
-pub moves-touch : (v : SheetValue) (xs : List ℕ) → afterMoves v (map touching xs) ≡ appended v xs
+pub moves-touch : (v : SheetValue) → v .marks ≡ [] → (xs : List ℕ) → afterMoves v (map touching xs) ≡ appended v xs
 unfolding afterMoves
-moves-touch v [] = sym (appended-none v)
-moves-touch v (x ∷ xs) = moves-touch (taken v x) xs ∙ rw (append-assoc (v .refs) (x ∷ []) xs) refl
+moves-touch v none [] =
+    rw (append-nil (v .refs)) (ap (λ (m : List Bool). record { form = v .form; head = v .head; refs = v .refs; marks = m }) none)
+moves-touch v none (x ∷ xs) = moves-touch (taken v x) refl xs ∙ rw (append-assoc (v .refs) (x ∷ []) xs) refl
 
 -- the head stays, and each move is one entry more
 pub moves-head : (v : SheetValue) (ms : List Move) → afterMoves v ms .head ≡ v .head
@@ -47,11 +48,17 @@ moves-entries v [] = sym (append-nil (v .refs))
 moves-entries v (touching x ∷ ms) = moves-entries (taken v x) ms ∙ append-assoc (v .refs) (x ∷ []) (map entryOf ms)
 moves-entries v (resting ∷ ms) = moves-entries (rested v) ms ∙ append-assoc (v .refs) (idle ∷ []) (map entryOf ms)
 
--- a move that is accepted leaves the sheet within the limits
-pub moved-valid : (R : Recorder) (m : Move) → moveVerdict R m ≡ Accepted → (v : SheetValue) → Valid v → R ≡ recorderOf v → Valid (moved v m)
+-- a move that is accepted leaves a sheet of forms 1 to 3 within the limits, and one of these forms
+pub moved-valid : (R : Recorder) (m : Move) → moveVerdict R m ≡ Accepted
+    → (v : SheetValue) → Valid v → v .form ≤ 3 → R ≡ recorderOf v → Valid (moved v m)
 unfolding recorderOf
-moved-valid R (touching x) a v valid e = all-valid R (x ∷ []) (one-accepted R x a) v valid e
-moved-valid R resting a v valid e = rested-valid v valid (omega (arith, step-room (R .steps) a, ap (λ (Q : Recorder). Q .steps) e))
+moved-valid R (touching x) a v valid early e = all-valid R (x ∷ []) (one-accepted R x a) v valid e early
+moved-valid R resting a v valid early e =
+    rested-valid v valid early (omega (arith, step-room (R .steps) a, ap (λ (Q : Recorder). Q .steps) e))
+
+moved-early : (v : SheetValue) (m : Move) → v .form ≤ 3 → moved v m .form ≤ 3
+moved-early v (touching x) early = early
+moved-early v resting early = omega arith
 
 -- and the recorder stands for it
 moved-verdict : (R : Recorder) (m : Move) (r : TouchAnswer) → Moved R m r → r .verdict ≡ moveVerdict R m
@@ -64,12 +71,13 @@ moved-stands R (touching x) r t a v valid e = t .stands v valid e a
 moved-stands R resting r t a v valid e = t .stands v valid e a
 
 -- so after any moves
-pub led-stands : {R N : Recorder} {ms : List Move} → Led R ms N → (v : SheetValue) → Valid v → R ≡ recorderOf v
+pub led-stands : {R N : Recorder} {ms : List Move} → Led R ms N → (v : SheetValue) → Valid v → v .form ≤ 3 → R ≡ recorderOf v
     → Valid (afterMoves v ms) × (N ≡ recorderOf (afterMoves v ms))
 unfolding afterMoves
-led-stands unmoved v valid e = (valid, e)
-led-stands {R} (led m r t a rest) v valid e =
-    led-stands rest (moved v m) (moved-valid R m (sym (moved-verdict R m r t) ∙ a) v valid e) (moved-stands R m r t a v valid e)
+led-stands unmoved v valid early e = (valid, e)
+led-stands {R} (led m r t a rest) v valid early e =
+    led-stands rest (moved v m) (moved-valid R m (sym (moved-verdict R m r t) ∙ a) v valid early e) (moved-early v m early)
+    (moved-stands R m r t a v valid e)
 
 -- the entries of the moves of entries
 entry-again : (segs x : ℕ) → (x < segs) ⊎ (x ≡ idle) → entryOf (moveOf segs x) ≡ x
@@ -86,16 +94,16 @@ entries-again segs (x ∷ xs) known =
     rw (entry-again segs x (known 0 (omega arith)), entries-again segs xs (λ t lt. known (suc t) (omega arith))) refl
 
 -- a recorder depends on the head and the entries of its sheet alone
-recorder-same : (v : SheetValue) (form : ℕ) (head : HeadValue) (refs : List ℕ) → head ≡ v .head → refs ≡ v .refs
-    → recorderOf (record { form = form; head = head; refs = refs }) ≡ recorderOf v
+recorder-same : (v : SheetValue) (form : ℕ) (head : HeadValue) (refs : List ℕ) (marks : List Bool) → head ≡ v .head → refs ≡ v .refs
+    → recorderOf (record { form = form; head = head; refs = refs; marks = marks }) ≡ recorderOf v
 unfolding recorderOf
-recorder-same v form head refs h r = rw (h, r) refl
+recorder-same v form head refs marks h r = rw (h, r) refl
 
 -- the moves that a sheet records lead from its head to the recorder that stands for it
 pub sheet-moves : (v : SheetValue) → Valid v → recorderOf (afterMoves (started v) (movesOf v)) ≡ recorderOf v
 sheet-moves v valid =
     let after = afterMoves (started v) (movesOf v) in
-    recorder-same v (after .form) (after .head) (after .refs) (moves-head (started v) (movesOf v))
+    recorder-same v (after .form) (after .head) (after .refs) (after .marks) (moves-head (started v) (movesOf v))
     (moves-entries (started v) (movesOf v) ∙ entries-again (length (v .head .sizes)) (v .refs) (valid .run .entry-within))
 
 -- one move that is accepted, and then the rest
@@ -113,11 +121,11 @@ first-move v m ms a rest =
     ∙ rest
 
 -- where there is room, a touch of a segment is accepted, and an idle step
-module _ (v : SheetValue) (valid : Valid v) (room : length (v .refs) < mostSteps) where
+module _ (v : SheetValue) (few : length (v .head .sizes) ≤ mostSegs) (room : length (v .refs) < mostSteps) where
   touch-accepted : (x : ℕ) → x < length (v .head .sizes) → touchVerdict (recorderOf v) x ≡ Accepted
   unfolding recorderOf headOf
   touch-accepted x lt =
-      let all : min (length (v .head .sizes)) mostSegs ≡ length (v .head .sizes) = omega (arith, valid .run .segs-within) in
+      let all : min (length (v .head .sizes)) mostSegs ≡ length (v .head .sizes) = omega arith in
       rw (all, lt-ltb x (length (v .head .sizes)) lt, lt-ltb (length (v .refs)) mostSteps room) refl
 
   rest-accepted : idleVerdict (recorderOf v) ≡ Accepted
@@ -137,16 +145,15 @@ module _ (v : SheetValue) (valid : Valid v) (room : length (v .refs) < mostSteps
       go false e = first-move v resting ms rest-accepted after-rest
 
 -- entries, not too many, are all accepted as moves after a sheet
-entries-accepted : (v : SheetValue) → Valid v → (xs : List ℕ) → length (v .refs) + length xs ≤ mostSteps
+entries-accepted : (v : SheetValue) → length (v .head .sizes) ≤ mostSegs → (xs : List ℕ) → length (v .refs) + length xs ≤ mostSteps
     → movesVerdict v (map (moveOf (length (v .head .sizes))) xs) ≡ Accepted
 unfolding movesVerdict
-entries-accepted v valid [] room = refl
-entries-accepted v valid (x ∷ xs) room =
-    entry-accepted v valid (omega arith) x (map (moveOf (length (v .head .sizes))) xs)
-    (λ lt.
-    entries-accepted (taken v x) (taken-valid v valid x lt (omega arith)) xs (omega (arith, length-append (v .refs) (x ∷ []))))
-    (entries-accepted (rested v) (rested-valid v valid (omega arith)) xs (omega (arith, length-append (v .refs) (idle ∷ []))))
+entries-accepted v few [] room = refl
+entries-accepted v few (x ∷ xs) room =
+    entry-accepted v few (omega arith) x (map (moveOf (length (v .head .sizes))) xs)
+    (λ lt. entries-accepted (taken v x) few xs (omega (arith, length-append (v .refs) (x ∷ []))))
+    (entries-accepted (rested v) few xs (omega (arith, length-append (v .refs) (idle ∷ []))))
 
 -- so are those that a sheet records, from its head on
 pub moves-accepted : (v : SheetValue) → Valid v → movesVerdict (started v) (movesOf v) ≡ Accepted
-moves-accepted v valid = entries-accepted (started v) (started-valid v valid) (v .refs) (omega (arith, valid .run .steps-within))
+moves-accepted v valid = entries-accepted (started v) (valid .run .segs-within) (v .refs) (omega (arith, valid .run .steps-within))

@@ -2,7 +2,7 @@
 -- more steps is within the limits. Assumes nothing.
 use Prim.Native.Nat.{ℕ, _+_, _-_, _^_, _≤_, _<_, min, max}
 use mathlib.Core.Path.{_≡_, refl, sym, ap, _∙_}
-use mathlib.Core.Bool.{Bool, true, false, cond}
+use mathlib.Core.Bool.{Bool, true, false, cond, false≢true}
 use mathlib.Core.Logic.{_⊎_, inl, inr}
 use mathlib.Core.List.{List, [], _∷_, _++_}
 use native.Mathlib.Omega.{arith}
@@ -11,7 +11,8 @@ use lib.ListN.{length, getD, take, drop, length-append, List·getD-append}
 use lib.Seq.{getD-append-add, take-append-seam}
 use borrow.Author.Tests.{ltb-true, ltb-false}
 use Rattle.model.specs.Figures.{refCost, refVolume}
-use Rattle.model.specs.Sheets.{HeadValue, SheetValue, RowsWithin, Valid, traceOf, idle, newestForm, mostSegs, mostRows, mostSteps}
+use Rattle.model.specs.Sheets.{HeadValue, SheetValue, RowsWithin, RunWithin, Valid, headRun, traceOf}
+use Rattle.model.specs.Sheets.{idle, newestForm, mostSegs, mostRows, mostSteps}
 use Rattle.model.specs.Values.{padded, zeroRows, headOf}
 use Rattle.model.specs.declared.Refusal.the-variants.{RecorderFull}
 use Rattle.model.specs.declared.Verdict.the-variants.{Accepted, Refused}
@@ -94,64 +95,82 @@ appended-each P xs ys d e first second t l = at (ltb t (length xs)) refl
 abbrev Entry : SheetValue → ℕ → Type 0
 Entry v x = (x < length (v .head .sizes)) ⊎ (x ≡ idle)
 
--- other steps, not too many, leave a sheet within the limits; in form 1 each has a touch
-steps-valid : (v : SheetValue) → Valid v → (form : ℕ) → v .form ≤ form → form ≤ newestForm → (refs : List ℕ) → length refs ≤ mostSteps
-    → ((t : ℕ) → t < length refs → Entry v (getD refs t (length (v .head .sizes))))
+-- other steps, not too many, leave a sheet's run within the limits
+steps-run : (v : SheetValue) → Valid v → (refs : List ℕ) → length refs ≤ mostSteps
+    → ((t : ℕ) → t < length refs → Entry v (getD refs t (length (v .head .sizes)))) → RunWithin (headRun (v .head) refs)
+steps-run v valid refs few entries =
+    record {
+      a-within = valid .run .a-within;
+      some-segs = valid .run .some-segs;
+      segs-within = valid .run .segs-within;
+      some-size = valid .run .some-size;
+      size-within = valid .run .size-within;
+      steps-within = few;
+      entry-within = entries;
+    }
+
+-- and with no marks they leave a sheet within the limits: in form 1 each has a touch, and in form 4, where each has a mark, there are none
+steps-valid : (v : SheetValue) → Valid v → (form : ℕ) → v .form ≤ form → form ≤ newestForm
+    → (refs : List ℕ) → RunWithin (headRun (v .head) refs)
     → (form ≡ 1 → (t : ℕ) → t < length refs → getD refs t (length (v .head .sizes)) < length (v .head .sizes))
-    → Valid (record { form = form; head = v .head; refs = refs })
-steps-valid v valid form least known refs few entries segments =
+    → (4 ≤ form → length refs ≡ 0)
+    → Valid (record { form = form; head = v .head; refs = refs; marks = [] })
+steps-valid v valid form least known refs within segments none =
     record {
       some-form = omega (arith, valid .some-form);
       form-within = known;
       rows = valid .rows;
-      run =
-          record {
-            a-within = valid .run .a-within;
-            some-segs = valid .run .some-segs;
-            segs-within = valid .run .segs-within;
-            some-size = valid .run .some-size;
-            size-within = valid .run .size-within;
-            steps-within = few;
-            entry-within = entries;
-          };
+      run = within;
       whole = segments;
       warm = valid .warm;
       cold = λ early. valid .cold (omega arith);
+      marked = λ late. sym (none late);
+      modifying = λ t e. absurd (false≢true e);
+      unmarked = λ early. refl;
     }
 
 -- more references
-pub appended-valid : (v : SheetValue) → Valid v → (xs : List ℕ) → ((t : ℕ) → t < length xs → getD xs t 0 < length (v .head .sizes))
-    → length (v .refs) + length xs ≤ mostSteps → Valid (appended v xs)
-appended-valid v valid xs segments room =
-    let segs = length (v .head .sizes) in
-    steps-valid v valid (v .form) (omega arith) (valid .form-within) (v .refs ++ xs) (omega (arith, length-append (v .refs) xs))
-    (appended-each (Entry v) (v .refs) xs segs 0 (valid .run .entry-within) (λ t lt. inl (segments t lt)))
-    (λ first. appended-each (λ x. x < segs) (v .refs) xs segs 0 (valid .whole first) segments)
+module _ (v : SheetValue) (valid : Valid v) (xs : List ℕ) (segments : (t : ℕ) → t < length xs → getD xs t 0 < length (v .head .sizes))
+    (room : length (v .refs) + length xs ≤ mostSteps) where
+  pub appended-run : RunWithin (traceOf (appended v xs))
+  appended-run =
+      steps-run v valid (v .refs ++ xs) (omega (arith, length-append (v .refs) xs))
+      (appended-each (Entry v) (v .refs) xs (length (v .head .sizes)) 0 (valid .run .entry-within) (λ t lt. inl (segments t lt)))
+
+  pub appended-valid : v .form ≤ 3 → Valid (appended v xs)
+  appended-valid early =
+      let segs = length (v .head .sizes) in
+      steps-valid v valid (v .form) (omega arith) (valid .form-within) (v .refs ++ xs) appended-run
+      (λ first. appended-each (λ x. x < segs) (v .refs) xs segs 0 (valid .whole first) segments)
+      (λ late. absurd (omega arith))
 
 -- one reference more
-pub taken-valid : (v : SheetValue) → Valid v → (x : ℕ) → x < length (v .head .sizes) → length (v .refs) < mostSteps → Valid (taken v x)
-taken-valid v valid x lt room = appended-valid v valid (x ∷ []) (λ t l. one t (omega arith)) (omega arith)
+pub taken-run : (v : SheetValue) → Valid v → (x : ℕ) → x < length (v .head .sizes) → length (v .refs) < mostSteps
+    → RunWithin (traceOf (taken v x))
+taken-run v valid x lt room = appended-run v valid (x ∷ []) (λ t l. one t (omega arith)) (omega arith)
   where
     one : (t : ℕ) → t ≡ 0 → getD (x ∷ []) t 0 < length (v .head .sizes)
     one t e = rw e lt
 
 -- one idle step more
-pub rested-valid : (v : SheetValue) → Valid v → length (v .refs) < mostSteps → Valid (rested v)
-rested-valid v valid room =
+pub rested-valid : (v : SheetValue) → Valid v → v .form ≤ 3 → length (v .refs) < mostSteps → Valid (rested v)
+rested-valid v valid early room =
     steps-valid v valid (max 2 (v .form)) (omega arith) (omega (arith, valid .form-within)) (v .refs ++ (idle ∷ []))
-    (omega (arith, length-append (v .refs) (idle ∷ [])))
+    (steps-run v valid (v .refs ++ (idle ∷ [])) (omega (arith, length-append (v .refs) (idle ∷ [])))
     (appended-each (Entry v) (v .refs) (idle ∷ []) (length (v .head .sizes)) 0 (valid .run .entry-within)
-    (λ t l. inr (one t (omega arith))))
+    (λ t l. inr (one t (omega arith)))))
     (λ first. absurd (omega (arith, first)))
+    (λ late. absurd (omega arith))
   where
     one : (t : ℕ) → t ≡ 0 → getD (idle ∷ []) t 0 ≡ idle
     one t e = rw e refl
 
--- the same steps in a form from 2 on
-pub later-valid : (v : SheetValue) → Valid v → Valid (record { form = max 2 (v .form); head = v .head; refs = v .refs })
-later-valid v valid =
-    steps-valid v valid (max 2 (v .form)) (omega arith) (omega (arith, valid .form-within)) (v .refs) (valid .run .steps-within)
-    (valid .run .entry-within) (λ first. absurd (omega (arith, first)))
+-- the same steps in form 2 or 3
+pub later-valid : (v : SheetValue) → Valid v → v .form ≤ 3
+    → Valid (record { form = max 2 (v .form); head = v .head; refs = v .refs; marks = [] })
+later-valid v valid early =
+    steps-valid v valid (max 2 (v .form)) (omega arith) (omega (arith, valid .form-within)) (v .refs) (valid .run)
+    (λ first. absurd (omega (arith, first))) (λ late. absurd (omega arith))
 
 -- a recorder that takes an idle step has room for it
 pub idle-room : (R : Recorder) (v : SheetValue) → R ≡ recorderOf v → idleVerdict R ≡ Accepted → length (v .refs) < mostSteps
@@ -166,5 +185,5 @@ idle-room R v e a =
 -- no steps
 pub started-valid : (v : SheetValue) → Valid v → Valid (started v)
 started-valid v valid =
-    steps-valid v valid (v .form) (omega arith) (valid .form-within) [] (omega arith) (λ t l. absurd (omega arith))
-    (λ first t l. absurd (omega arith))
+    steps-valid v valid (v .form) (omega arith) (valid .form-within) [] (steps-run v valid [] (omega arith) (λ t l. absurd (omega arith)))
+    (λ first t l. absurd (omega arith)) (λ late. refl)

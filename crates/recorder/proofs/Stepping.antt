@@ -10,7 +10,7 @@ use borrow.Author.Tests.{lt-ltb, le-ltb}
 use Rattle.model.specs.Costs.{unitCost}
 use Rattle.model.specs.Figures.{refCost, refVolume}
 use Rattle.model.specs.Traces.{segs, steps}
-use Rattle.model.specs.Sheets.{SheetValue, RowsWithin, Valid, traceOf, idle, mostSegs, mostRows, mostSteps}
+use Rattle.model.specs.Sheets.{SheetValue, RowsWithin, RunWithin, Valid, traceOf, idle, mostSegs, mostRows, mostSteps}
 use Rattle.model.proofs.Growth.{withRefs, grown, grown-agree, grown-sums, steps-grown, entry-grown}
 use Rattle.model.specs.Values.{zeros, zeroRows, headOf}
 use Rattle.model.specs.declared.Head.{Head}
@@ -29,7 +29,7 @@ use Rattle.figures.proofs.Passing.{pass-step, pass-idle, passed-agree}
 use Rattle.recorder.specs.inner.Passes.{Continued}
 use Rattle.recorder.specs.Recorders.{recorderOf, appended, taken, rested, withStep}
 use Rattle.recorder.specs.declared.Recorder.{Recorder}
-use Rattle.recorder.proofs.Standing.{front, padded-at, head-rows, standing, standing-roomy, taken-valid, recorder-passed}
+use Rattle.recorder.proofs.Standing.{front, padded-at, head-rows, standing, standing-roomy, taken-run, recorder-passed}
 
 -- N is the recorder R with one more reference, to segment x: a touch, its bucket, Q and V as the code makes them
 pub record Stepped (R : Recorder) (x : ℕ) (N : Recorder) : Type 0 where
@@ -82,7 +82,7 @@ stepped-of v valid x lt room N s =
     let all : passedAfter rows (grown T x) (n + 1) ≡ passedOf rows (grown T x) = ap (passedAfter rows (grown T x)) end in
     let passed =
     pass-step rows (grown T x) n (recorderOf v .buckets) (recorderOf v .last)
-    (standing v ∙ passed-agree rows T (v .refs ++ (x ∷ [])) n (grown-agree T x)) (taken-valid v valid x lt room .run)
+    (standing v ∙ passed-agree rows T (v .refs ++ (x ∷ [])) n (grown-agree T x)) (taken-run v valid x lt room)
     (omega (arith, steps-grown T x)) x (entry-grown T x) lt (s .touch) (s .limited) y-is (s .bucket) b-is in
     s .next-is
     ∙ recorder-passed (taken v x) (n + 1) end (set (recorderOf v .buckets) (s .touch .bucket) (s .bucket))
@@ -125,14 +125,14 @@ passed-of : (v : SheetValue) (rows segs : ℕ) (qs : List ℕ) (p : Passed) (n :
     → rows ≡ min (headOf (v .head) .rows) mostRows → segs ≡ min (headOf (v .head) .segs) mostSegs
     → Quoted (unitsFor (headOf (v .head) .a)) (take rows (headOf (v .head) .prices)) qs
     → PassedOn (headOf (v .head) .kind) (headOf (v .head) .a) (take segs (headOf (v .head) .sizes)) rows qs n xs p r
-    → Valid (appended v xs) → length (v .refs) ≡ n → p ≡ passedOf (v .head .rows) (traceOf v)
+    → RowsWithin (v .head .rows) → RunWithin (traceOf (appended v xs)) → length (v .refs) ≡ n → p ≡ passedOf (v .head .rows) (traceOf v)
     → r ≡ passedOf (v .head .rows) (traceOf (appended v xs))
 unfolding headOf
-passed-of v rows segs qs p n xs r rows-are segs-are quoted on valid all is =
+passed-of v rows segs qs p n xs r rows-are segs-are quoted on up run all is =
     let T = traceOf v in
     let U = withRefs T (v .refs ++ xs) in
-    let sizes = front (v .head .sizes) (zeros mostSegs) segs mostSegs (valid .run .segs-within) segs-are in
-    (rw sizes at on) (v .head .rows) (head-rows (v .head) (valid .rows) rows rows-are qs quoted) (v .head .warm) (v .refs) all (valid .run)
+    let sizes = front (v .head .sizes) (zeros mostSegs) segs mostSegs (run .segs-within) segs-are in
+    (rw sizes at on) (v .head .rows) (head-rows (v .head) up rows rows-are qs quoted) (v .head .warm) (v .refs) all run
     (rw (← all) (is ∙ passed-agree (v .head .rows) T (v .refs ++ xs) (length (v .refs))
     (λ t lt. List·getD-append (v .refs) xs (length (v .head .sizes)) t lt)))
 
@@ -140,11 +140,12 @@ pub passed-on : (head : Head) (rows segs : ℕ) (qs : List ℕ) (p : Passed) (n 
     → rows ≡ min (head .rows) mostRows → segs ≡ min (head .segs) mostSegs
     → Quoted (unitsFor (head .a)) (take rows (head .prices)) qs
     → PassedOn (head .kind) (head .a) (take segs (head .sizes)) rows qs n xs p r → Continued head p n xs r
-passed-on head rows segs qs p n xs r rows-are segs-are quoted on v valid e =
-    passed-of v rows segs qs p n xs r (rw e at rows-are) (rw e at segs-are) (rw e at quoted) (rw e at on) valid
+passed-on head rows segs qs p n xs r rows-are segs-are quoted on v up run e =
+    passed-of v rows segs qs p n xs r (rw e at rows-are) (rw e at segs-are) (rw e at quoted) (rw e at on) up run
 
 -- several references, as the code takes them from the recorder of v: Q and V are sums of the buckets
-taken-of : (v : SheetValue) (xs : List ℕ) → Valid (appended v xs) → (p : Passed) (all : Bucket) (cost : ℕ)
+taken-of : (v : SheetValue) (xs : List ℕ) → RowsWithin (v .head .rows) → RunWithin (traceOf (appended v xs))
+    → (p : Passed) (all : Bucket) (cost : ℕ)
     → Continued (recorderOf v .head) (record { buckets = recorderOf v .buckets; last = recorderOf v .last }) (recorderOf v .steps) xs p
     → (((m : ℕ) → m ≤ bucketCount → Holds mostSteps (summed (p .buckets) m)) → all ≡ summed (p .buckets) bucketCount)
     → cost ≡ byKind (recorderOf v .head .kind) (all .count) (all .volume)
@@ -157,13 +158,13 @@ taken-of : (v : SheetValue) (xs : List ℕ) → Valid (appended v xs) → (p : P
       volume = all .volume;
     } ≡ recorderOf (appended v xs)
 unfolding recorderOf headOf tallyOf passedAfter
-taken-of v xs valid p all cost on all-is cost-is =
+taken-of v xs up run p all cost on all-is cost-is =
     let rows = v .head .rows in
     let T = traceOf (appended v xs) in
-    let passed = on v valid refl refl (standing v) in
+    let passed = on v up run refl refl (standing v) in
     let tally : Tally = record { buckets = p .buckets; ends = tallyOf rows T .ends } in
     let given : Tallied rows T tally =
-    record { rows-ok = valid .rows; run-ok = valid .run; is-tally = rw (ap (λ (q : Passed). q .buckets) passed) refl } in
+    record { rows-ok = up; run-ok = run; is-tally = rw (ap (λ (q : Passed). q .buckets) passed) refl } in
     let sums = all-is (tallied-buckets rows T tally given) in
     recorder-passed (appended v xs) (length (v .refs) + length xs) (sym (length-append (v .refs) xs)) (p .buckets) (p .last) cost
     (all .volume) passed (cost-is ∙ tallied-cost rows T tally given sums) (tallied-volume rows T tally given sums)
@@ -173,7 +174,7 @@ pub taken-stands : (R : Recorder) (xs : List ℕ) (p : Passed) (all : Bucket) (c
     → Continued (R .head) (record { buckets = R .buckets; last = R .last }) (R .steps) xs p
     → (((m : ℕ) → m ≤ bucketCount → Holds mostSteps (summed (p .buckets) m)) → all ≡ summed (p .buckets) bucketCount)
     → cost ≡ byKind (R .head .kind) (all .count) (all .volume)
-    → (v : SheetValue) → Valid (appended v xs) → R ≡ recorderOf v
+    → (v : SheetValue) → RowsWithin (v .head .rows) → RunWithin (traceOf (appended v xs)) → R ≡ recorderOf v
     → record {
       head = R .head;
       steps = R .steps + length xs;
@@ -182,5 +183,5 @@ pub taken-stands : (R : Recorder) (xs : List ℕ) (p : Passed) (all : Bucket) (c
       cost = cost;
       volume = all .volume;
     } ≡ recorderOf (appended v xs)
-taken-stands R xs p all cost on all-is cost-is v valid e =
-    rw e (taken-of v xs valid p all cost (rw e at on) all-is (rw e at cost-is))
+taken-stands R xs p all cost on all-is cost-is v up run e =
+    rw e (taken-of v xs up run p all cost (rw e at on) all-is (rw e at cost-is))

@@ -38,13 +38,13 @@ recorderOf v =
 unfoldable pub emptyRecorder : Recorder
 emptyRecorder = record { head = emptyHead; steps = 0; last = startTable []; buckets = allEmpty; cost = 0; volume = 0 }
 
--- the form and the head of a sheet, its warm segments among it, with no steps
+-- the form and the head of a sheet, its warm segments among it, with no steps. A recorder takes forms 1 to 3, which have no marks
 abbrev pub started : SheetValue → SheetValue
-started v = record { form = v .form; head = v .head; refs = [] }
+started v = record { form = v .form; head = v .head; refs = []; marks = [] }
 
 -- a sheet's value with the references xs after its own
 abbrev pub appended : SheetValue → List ℕ → SheetValue
-appended v xs = record { form = v .form; head = v .head; refs = v .refs ++ xs }
+appended v xs = record { form = v .form; head = v .head; refs = v .refs ++ xs; marks = [] }
 
 -- one reference more
 abbrev pub taken : SheetValue → ℕ → SheetValue
@@ -52,7 +52,7 @@ taken v x = appended v (x ∷ [])
 
 -- one idle step more: form 1 has none, so the form is then 2 or more
 abbrev pub rested : SheetValue → SheetValue
-rested v = record { form = max 2 (v .form); head = v .head; refs = v .refs ++ (idle ∷ []) }
+rested v = record { form = max 2 (v .form); head = v .head; refs = v .refs ++ (idle ∷ []); marks = [] }
 
 -- a recorder with one step more, and all else as it was
 abbrev pub withStep : Recorder → Recorder

@@ -1,2 +1,3 @@
 pub mod ListingMost
 pub mod ListingParts
+pub mod RowLines

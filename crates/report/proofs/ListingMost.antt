@@ -1,19 +1,19 @@
--- The listing of an accepted sheet has at most 11,558 bytes: how many digits each figure can have. Assumes nothing.
+-- The listing of an accepted sheet has at most 11,558 bytes, and with modtotal= 13,158: how many digits each figure can have.
+-- Assumes nothing.
 use Prim.Native.Nat.{ℕ, zero, suc, _+_, _*_, _^_, _≤_, _<_}
 use mathlib.Core.Path.{_≡_}
 use mathlib.Core.Bool.{Bool, true, false, cond}
 use mathlib.Core.List.{List, []}
-use mathlib.Core.Option.{Option, none}
 use native.Mathlib.Omega.{arith}
-use lib.ListN.{length}
+use lib.ListN.{length, getD}
 use lib.Dec.{leb, ltb}
 use lib.Seq.{take-all}
 use Rattle.decimal.specs.Decimal.{written}
 use Rattle.decimal.proofs.Written.{written-length}
-use Rattle.model.specs.Figures.{load, optmem, opttotal}
+use Rattle.model.specs.Figures.{load}
 use Rattle.model.specs.Refusals.{numberOf}
 use Rattle.model.specs.Rows.{rowFigures, zeroFigures}
-use Rattle.model.specs.Sheets.{SheetValue, Valid, traceOf, rowAt}
+use Rattle.model.specs.Sheets.{SheetValue, Valid, RunWithin, traceOf, marksOf, rowAt, largestPrice}
 use Rattle.model.specs.Traces.{Trace, segs, steps, entry, refsBy, refsOf}
 use Rattle.model.specs.declared.Refusal.{Refusal}
 use Rattle.model.specs.declared.RowFigures.{RowFigures}
@@ -21,16 +21,18 @@ use Rattle.model.proofs.Bounds.{product-within}
 use Rattle.model.proofs.References.{refs-none, refs-next}
 use Rattle.lines.specs.Texts.{numberText}
 use Rattle.lines.proofs.Lengths.{line-length}
-use Rattle.lines.proofs.Runs.{each-of, lines-length}
 use Rattle.model.specs.Sums.{tabulate}
 use Rattle.figures.specs.Rows.{figuresAt}
 use Rattle.model.proofs.Tables.{length-tabulate, getD-tabulate}
-use Rattle.report.specs.Listing.{hKey, dKey, missesKey, volumeKey, loadKey, optmemKey, opttotalKey, optoccKey, wsmemKey, wsoccKey, meanKey}
-use Rattle.report.specs.Listing.{refusedKey, refusedText, rowListing, stepsListing, mostListing, listingOf}
+use Rattle.report.specs.Listing.{hKey, dKey, missesKey, volumeKey, loadKey, optmemKey, opttotalKey, optoccKey, wsmemKey, wsoccKey}
+use Rattle.report.specs.Listing.{meanKey, modtotalKey, refusedKey, refusedText, rowListing, modListing, stepsListing}
+use Rattle.report.specs.Listing.{listing, olderListing, mostListing, listingBytes, listingOf}
+use Rattle.report.specs.inner.Parts.{markedText, headText}
 use Rattle.lines.specs.Keys.{refsKey, stepsKey, segsKey, rowsKey}
 use Rattle.bounds.proofs.FigureBounds.{
   allSizes,
   optmem-within,
+  opttotal-within,
   optocc-within,
   wsmem-within,
   wsocc-within,
@@ -39,7 +41,11 @@ use Rattle.bounds.proofs.FigureBounds.{
   volume-within,
   sizes-within,
 }
-use Rattle.report.proofs.ListingParts.{three-length, row-length, rows-listing, counts-length, head-length, listing-length}
+use Rattle.stores.specs.Rows.{rowModtotal}
+use Rattle.stores.specs.Stores.{modtotal}
+use Rattle.stores.proofs.Within.{modAdded-within}
+use Rattle.report.proofs.ListingParts.{three-length, row-length, marked-length, counts-length, head-length, listing-length}
+use Rattle.report.proofs.RowLines.{rows-most}
 
 -- the digits that the figures of a row can have
 pub record Digits (f : RowFigures) : Type 0 where
@@ -104,16 +110,69 @@ row-most f w =
       line-most meanKey 9 (f .mean) (w .mean-digits),
     )
 
+-- a row with its modtotal has at most 205 where the form has it
+abbrev rowBytes : Bool → ℕ
+rowBytes marked = cond marked 205 180
+
+marked-most : (form : ℕ) (f : RowFigures) (m : ℕ) → Digits f → m < 10 ^ 15 → length (markedText form f m) ≤ rowBytes (leb 4 form)
+unfolding modListing
+marked-most form f m w few = rw (marked-length form f m) (go (leb 4 form))
+  where
+    go : (b : Bool) → length (rowListing f) + length (modListing b m) ≤ rowBytes b
+    go true = omega (arith, row-most f w, line-most modtotalKey 14 m few)
+    go false = omega (arith, row-most f w)
+
+-- the lines before those of the rows have at most 38
+head-most : (form refs steps segs rows : ℕ) → refs < 10 ^ 4 → steps < 10 ^ 4 → segs < 10 ^ 3 → rows < 10 ^ 2
+    → length (headText form refs steps segs rows) ≤ 38
+head-most form refs steps segs rows r t s n =
+    omega (
+      arith,
+      line-most refsKey 3 refs r,
+      steps-most form steps t,
+      line-most segsKey 2 segs s,
+      line-most rowsKey 1 rows n,
+      counts-length form refs steps,
+      head-length form refs steps segs rows,
+    )
+
+-- a listing of at most 64 rows
+all-most : (form refs steps segs : ℕ) (fs : List RowFigures) (ms : List ℕ) → refs < 10 ^ 4 → steps < 10 ^ 4 → segs < 10 ^ 3
+    → length fs ≤ 64
+    → ((i : ℕ) → i < length fs → length (markedText form (getD fs i zeroFigures) (getD ms i 0)) ≤ rowBytes (leb 4 form))
+    → length (listing form refs steps segs fs ms) ≤ listingBytes form
+all-most form refs steps segs fs ms r t s few row =
+    go (leb 4 form) few (head-most form refs steps segs (length fs) r t s (omega arith))
+    (rows-most form fs ms (rowBytes (leb 4 form)) row)
+    (rw (take-all (length fs) fs (omega arith)) at (listing-length form refs steps segs (length fs) fs ms (omega arith)))
+  where
+    go : (b : Bool) {n rows head all : ℕ} → n ≤ 64 → head ≤ 38 → rows ≤ n * rowBytes b → all ≡ head + rows
+        → all ≤ cond b mostListing olderListing
+    go true few le l e = omega arith
+    go false few le l e = omega arith
+
+-- modtotal of a run within the limits has at most 15 digits
+pub modtotal-within : (T : Trace) → RunWithin T → (marks : ℕ → Bool) (h d : ℕ) → h ≤ largestPrice → d ≤ largestPrice
+    → modtotal T marks h d < 10 ^ 15
+unfolding modtotal
+modtotal-within T c marks h d high-h high-d = omega (arith, opttotal-within T c h d high-h high-d, modAdded-within T c marks h d high-h)
+
 module _ (v : SheetValue) (c : Valid v) where
+  pub row-modtotal-within : (r : ℕ) → r < length (v .head .rows) → rowModtotal v r < 10 ^ 15
+  row-modtotal-within r lt =
+      modtotal-within (traceOf v) (c .run) (marksOf (v .marks)) (rowAt v r .h) (rowAt v r .d) (c .rows .h-within r lt)
+      (c .rows .d-within r lt)
+
   -- the figures of a row
   row-digits : (r : ℕ) → r < length (v .head .rows) → Digits (figuresAt v r)
-  unfolding rowFigures load opttotal
+  unfolding rowFigures load
   row-digits r lt =
       let T = traceOf v in
       let h = rowAt v r .h in
       let d = rowAt v r .d in
       let S = sizes-within T (c .run) h d in
-      let held : steps T * (1 * allSizes T) ≤ 2048 * 1048320 = product-within (steps T) (1 * allSizes T) 2048 1048320 (c .run .steps-within) (omega arith) in
+      let held : steps T * (1 * allSizes T) ≤ 2048 * 1048320 =
+      product-within (steps T) (1 * allSizes T) 2048 1048320 (c .run .steps-within) (omega arith) in
       let dS = product-within d (allSizes T) 65535 1048320 (c .rows .d-within r lt) (omega arith) in
       let priced : steps T * (d * allSizes T) ≤ 2048 * (65535 * 1048320) =
       product-within (steps T) (d * allSizes T) 2048 (65535 * 1048320) (c .run .steps-within) dS in
@@ -127,42 +186,33 @@ module _ (v : SheetValue) (c : Valid v) where
         volume-digits = omega (arith, volume-within T (c .run) h d);
         load-digits = omega (arith, c .run .steps-within);
         optmem-digits = omega arith;
-        opttotal-digits =
-            omega (
-              arith,
-              product-within d (optmem T h d) 65535 2146959360 (c .rows .d-within r lt) (omega arith),
-              product-within h (load T h d) 65535 2138574848 (c .rows .h-within r lt) (omega (arith, c .run .steps-within)),
-            );
+        opttotal-digits = omega (arith, opttotal-within T (c .run) h d (c .rows .h-within r lt) (c .rows .d-within r lt));
         optocc-digits = omega (arith, optocc-within T (c .run) h d);
         wsmem-digits = omega (arith, wsmem-within T (c .run) h d);
         wsocc-digits = omega (arith, wsocc-within T (c .run) h d);
         mean-digits = omega (arith, mean-within T (c .run) h d);
       }
 
-  -- the listing
-  pub listing-most : length (listingOf v) ≤ mostListing
+  -- the listing: its rows with their figures and modtotals, after the lines before them
+  pub listing-within : length (listingOf v) ≤ listingBytes (v .form)
   unfolding listingOf
-  listing-most =
-      let fs = tabulate (length (v .head .rows)) (figuresAt v) in
-      let refs = refsOf (traceOf v) in
-      let segs = length (v .head .sizes) in
-      let n : length fs ≡ length (v .head .rows) = length-tabulate (length (v .head .rows)) (figuresAt v) in
-      let rows =
-      lines-length rowListing Fits 0 180 (λ prev f w. (omega arith, row-most f w)) none fs
-      (each-of Fits zeroFigures none fs (λ i lt. rw (getD-tabulate (length (v .head .rows)) (figuresAt v) i zeroFigures (omega arith)) (row-digits i (omega arith)))) in
-      omega (
-        arith,
-        rows,
-        c .rows .rows-within,
-        line-most refsKey 3 refs (omega (arith, refs-most (traceOf v) (length (v .refs)), c .run .steps-within)),
-        steps-most (v .form) (length (v .refs)) (omega (arith, c .run .steps-within)),
-        line-most segsKey 2 segs (omega (arith, c .run .segs-within)),
-        line-most rowsKey 1 (length fs) (omega (arith, c .rows .rows-within)),
-        counts-length (v .form) refs (length (v .refs)),
-        head-length (v .form) refs (length (v .refs)) segs (length fs),
-        rw (take-all (length fs) fs (omega arith), rows-listing fs)
-            at (listing-length (v .form) refs (length (v .refs)) segs (length fs) fs (omega arith)),
-      )
+  listing-within =
+      let n = length (v .head .rows) in
+      let fs = tabulate n (figuresAt v) in
+      let ms = tabulate n (rowModtotal v) in
+      let few : length fs ≡ n = length-tabulate n (figuresAt v) in
+      let row : (i : ℕ) → i < length fs → length (markedText (v .form) (getD fs i zeroFigures) (getD ms i 0)) ≤ rowBytes (leb 4 (v .form)) =
+      λ i lt. let here : i < n = omega arith in
+      rw (getD-tabulate n (figuresAt v) i zeroFigures here, getD-tabulate n (rowModtotal v) i 0 here)
+      (marked-most (v .form) (figuresAt v i) (rowModtotal v i) (row-digits i here) (row-modtotal-within i here)) in
+      all-most (v .form) (refsOf (traceOf v)) (length (v .refs)) (length (v .head .sizes)) fs ms
+      (omega (arith, refs-most (traceOf v) (length (v .refs)), c .run .steps-within)) (omega (arith, c .run .steps-within))
+      (omega (arith, c .run .segs-within)) (omega (arith, c .rows .rows-within)) row
+
+  -- of whatever form
+  pub listing-most : length (listingOf v) ≤ mostListing
+  listing-most = go (leb 4 (v .form)) listing-within
     where
-      Fits : Option RowFigures → RowFigures → Type 0
-      Fits prev f = Digits f
+      go : (b : Bool) {n : ℕ} → n ≤ cond b mostListing olderListing → n ≤ mostListing
+      go true le = le
+      go false le = omega arith

@@ -1,17 +1,19 @@
 -- The listing in the parts in which it is written, and the lengths of the parts. Assumes nothing.
-use Prim.Native.Nat.{ℕ, _+_, _≤_}
-use mathlib.Core.Path.{_≡_, refl, ap, _∙_}
+use Prim.Native.Nat.{ℕ, _+_, _≤_, _<_}
+use mathlib.Core.Path.{_≡_, sym, ap, _∙_}
 use mathlib.Core.Bool.{true, false}
 use mathlib.Core.List.{List, [], _∷_, _++_, append-assoc, append-nil}
-use lib.ListN.{length, take, length-append}
+use native.Mathlib.Omega.{arith}
+use lib.ListN.{length, take, getD, length-append}
 use lib.Dec.{leb}
 use lib.Seq.{length-take-le}
 use Rattle.model.specs.declared.RowFigures.{RowFigures}
 use Rattle.lines.specs.Texts.{numberText}
-use Rattle.lines.specs.Texts.{linesText}
-use Rattle.report.specs.Listing.{hKey, dKey, missesKey, volumeKey, loadKey, optmemKey, opttotalKey, optoccKey, wsmemKey, wsoccKey, meanKey, rowListing, rowsListing, stepsListing, listing}
+use Rattle.report.specs.Listing.{hKey, dKey, missesKey, volumeKey, loadKey, optmemKey, opttotalKey, optoccKey, wsmemKey, wsoccKey}
+use Rattle.report.specs.Listing.{meanKey, modtotalKey, rowListing, modListing, rowsListing, stepsListing, listing}
 use Rattle.lines.specs.Keys.{refsKey, stepsKey, segsKey, rowsKey}
-use Rattle.report.specs.inner.Parts.{threeText, countsText, headText}
+use Rattle.report.specs.inner.Parts.{threeText, markedText, countsText, headText}
+use Rattle.report.proofs.RowLines.{rows-same}
 
 -- three texts one after another
 three-texts : (a b c : List ℕ) → length (a ++ (b ++ c)) ≡ length a + (length b + length c)
@@ -51,11 +53,30 @@ row-length f =
     five : (a b c d e : List ℕ) → length (a ++ (b ++ (c ++ (d ++ e)))) ≡ length a + (length b + (length c + (length d + length e)))
     five a b c d e = simp length-append
 
--- the rows are a run of lines
-pub rows-listing : (fs : List RowFigures) → rowsListing fs ≡ linesText rowListing fs
-unfolding rowsListing linesText
-rows-listing [] = refl
-rows-listing (f ∷ fs) = rw (rows-listing fs)
+-- modtotal= for form 4 on, and nothing below
+module _ (form m : ℕ) where
+  pub modtotal-with : leb 4 form ≡ true → modListing (leb 4 form) m ≡ numberText modtotalKey m
+  unfolding modListing
+  modtotal-with e = rw e
+
+  pub modtotal-without : leb 4 form ≡ false → modListing (leb 4 form) m ≡ []
+  unfolding modListing
+  modtotal-without e = rw e
+
+-- a row with it
+module _ (form : ℕ) (f : RowFigures) (m : ℕ) where
+  pub marked-with : leb 4 form ≡ true → rowListing f ++ numberText modtotalKey m ≡ markedText form f m
+  unfolding markedText
+  marked-with e = rw (modtotal-with form m e)
+
+  pub marked-without : leb 4 form ≡ false → rowListing f ≡ markedText form f m
+  unfolding markedText
+  marked-without e = rw (modtotal-without form m e) (sym (append-nil (rowListing f)))
+
+  -- and its length
+  pub marked-length : length (markedText form f m) ≡ length (rowListing f) + length (modListing (leb 4 form) m)
+  unfolding markedText
+  marked-length = length-append (rowListing f) (modListing (leb 4 form) m)
 
 module _ (form refs steps : ℕ) where
   -- refs= and steps= for form 2 on, and refs= alone for form 1
@@ -83,19 +104,32 @@ module _ (form refs steps : ℕ) where
     unfolding headText
     head-length rows = three-texts (countsText form refs steps) (numberText segsKey segs) (numberText rowsKey rows)
 
-    module _ (n : ℕ) (fs : List RowFigures) (h : n ≤ length fs) where
+    -- it reads the modtotals of its rows, and below form 4 none
+    pub listing-same : (fs : List RowFigures) (ms ns : List ℕ)
+        → (leb 4 form ≡ true → (i : ℕ) → i < length fs → getD ms i 0 ≡ getD ns i 0)
+        → listing form refs steps segs fs ms ≡ listing form refs steps segs fs ns
+    unfolding listing
+    listing-same fs ms ns same = rw (rows-same (leb 4 form) fs ms ns same)
+
+    pub listing-unmarked : (fs : List RowFigures) (ms ns : List ℕ) → leb 4 form ≡ false
+        → listing form refs steps segs fs ms ≡ listing form refs steps segs fs ns
+    listing-unmarked fs ms ns below = listing-same fs ms ns (λ e. let z : _≡_ {A = ℕ} 0 1 = cc in absurd (omega arith))
+
+    module _ (n : ℕ) (fs : List RowFigures) (ms : List ℕ) (h : n ≤ length fs) where
       -- the listing of the first n rows
-      pub listing-parts : headText form refs steps segs n ++ rowsListing (take n fs) ≡ listing form refs steps segs (take n fs)
+      pub listing-parts : headText form refs steps segs n ++ rowsListing (leb 4 form) (take n fs) ms
+          ≡ listing form refs steps segs (take n fs) ms
       unfolding listing headText countsText
       listing-parts =
           rw (length-take-le n fs h)
           (five (numberText refsKey refs) (stepsListing form steps) (numberText segsKey segs) (numberText rowsKey n)
-          (rowsListing (take n fs)))
+          (rowsListing (leb 4 form) (take n fs) ms))
         where
           five : (a b c d e : List ℕ) → ((a ++ b) ++ (c ++ d)) ++ e ≡ a ++ (b ++ (c ++ (d ++ e)))
           five a b c d e = simp append-assoc
 
       -- and its length
-      pub listing-length : length (listing form refs steps segs (take n fs))
-          ≡ length (headText form refs steps segs n) + length (rowsListing (take n fs))
-      listing-length = rw (← listing-parts) (length-append (headText form refs steps segs n) (rowsListing (take n fs)))
+      pub listing-length : length (listing form refs steps segs (take n fs) ms)
+          ≡ length (headText form refs steps segs n) + length (rowsListing (leb 4 form) (take n fs) ms)
+      listing-length =
+          rw (← listing-parts) (length-append (headText form refs steps segs n) (rowsListing (leb 4 form) (take n fs) ms))

@@ -16,11 +16,39 @@ ghost use lib.ListN.{length, take};
 ghost use Rattle.model.specs.Sheets.{mostRows};
 ghost use Rattle.model.specs.Places.{gives, PlaceLeft};
 ghost use Rattle.lines.specs.Puts.{Put};
-ghost use Rattle.report.specs.Listing.{rowListing, rowsListing, listing, mostListing, refusedText};
-ghost use Rattle.report.specs.inner.Parts.{threeText, countsText, headText};
+ghost use Rattle.report.specs.Listing.{rowListing, modListing, rowsListing, listing, listingBytes, refusedText};
+ghost use Rattle.report.specs.inner.Parts.{threeText, markedText, countsText, headText};
 
-// The most bytes of the listing of a sheet.
-pub const MAX_BYTES: usize = 11558;
+// The most bytes of the listing of a sheet of form 1 to 3, and of form 4.
+pub const MAX_BYTES: usize = 11_558;
+
+pub const MAX_BYTES_4: usize = 13_158;
+
+// ---- forms
+
+// Whether the listing of a sheet of this form has steps=: from form 2 on.
+fn has_steps(form: u8) -> bool
+    ensures { λ r. ⌜ r ≡ leb 2 form ⌝ }
+{
+    2 <= form
+}
+
+// Whether the listing of a sheet of this form has modtotal=: from form 4 on.
+pub fn has_modtotal(form: u8) -> bool
+    ensures { λ r. ⌜ r ≡ leb 4 form ⌝ }
+{
+    4 <= form
+}
+
+// The most bytes of the listing of a sheet of this form.
+fn most_bytes(form: u8) -> usize
+    ensures { λ r. ⌜ r ≡ listingBytes form ⌝ }
+{
+    if has_modtotal(form) {
+        return MAX_BYTES_4;
+    }
+    MAX_BYTES
+}
 
 // ---- lengths
 
@@ -57,26 +85,35 @@ fn row_length(f: RowFigures) -> usize
         + three_length(b"wsmem=", f.wsmem, b"wsocc=", f.wsocc, b"mean=", f.mean)
 }
 
+// The length of modtotal=, where the form has it.
+fn modtotal_length(form: u8, modtotal: u64) -> usize
+    ensures { λ r. ⌜ (r ≡ length (modListing (leb 4 form) modtotal)) × (r ≤ 30) ⌝ }
+{
+    if has_modtotal(form) {
+        return number_length(b"modtotal=", modtotal);
+    }
+    0
+}
+
 // The length of the lines of the first `n` rows.
-fn rows_length(figures: [RowFigures; Sheet::MAX_ROWS], n: usize) -> usize
+fn rows_length(
+    form: u8,
+    figures: [RowFigures; Sheet::MAX_ROWS],
+    modtotals: [u64; Sheet::MAX_ROWS],
+    n: usize,
+) -> usize
     requires { ⌜ n ≤ mostRows ⌝ }
-    ensures { λ r. ⌜ (r ≡ length (rowsListing (take n figures))) × (r ≤ 21120) ⌝ }
+    ensures { λ r. ⌜ (r ≡ length (rowsListing (leb 4 form) (take n figures) modtotals)) × (r ≤ 23040) ⌝ }
 {
     let mut sum: usize = 0;
     let mut i = 0;
     while i < n {
         let f = figures[i];
-        sum += row_length(f);
+        let row = row_length(f);
+        sum += row + modtotal_length(form, modtotals[i]);
         i += 1;
     }
     sum
-}
-
-// Whether the listing of a sheet of this form has steps=: from form 2 on.
-fn has_steps(form: u8) -> bool
-    ensures { λ r. ⌜ r ≡ leb 2 form ⌝ }
-{
-    2 <= form
 }
 
 // The length of refs= and, where the form has it, steps=.
@@ -106,17 +143,18 @@ fn too_short(
     steps: usize,
     segs: usize,
     figures: [RowFigures; Sheet::MAX_ROWS],
+    modtotals: [u64; Sheet::MAX_ROWS],
     rows: usize,
     size: usize,
 ) -> bool
-    requires { ⌜ (rows ≤ mostRows) × (length (listing form refs steps segs (take rows figures)) ≤ mostListing) ⌝ }
-    ensures { λ r. ⌜ r ≡ ltb size (length (listing form refs steps segs (take rows figures))) ⌝ }
+    requires { ⌜ (rows ≤ mostRows) × (length (listing form refs steps segs (take rows figures) modtotals) ≤ listingBytes form) ⌝ }
+    ensures { λ r. ⌜ r ≡ ltb size (length (listing form refs steps segs (take rows figures) modtotals)) ⌝ }
 {
-    if MAX_BYTES <= size {
+    if most_bytes(form) <= size {
         return false;
     }
     let head = head_length(form, refs, steps, segs, rows);
-    size < head + rows_length(figures, rows)
+    size < head + rows_length(form, figures, modtotals, rows)
 }
 
 // ---- parts
@@ -202,16 +240,35 @@ fn put_row(f: RowFigures, out: &mut [u8], at: usize) -> usize
     )
 }
 
+// Writes the lines of a row and, where the form has it, modtotal= after them, and gives the index after that.
+fn put_marked(form: u8, f: RowFigures, modtotal: u64, out: &mut [u8], at: usize) -> usize
+    requires { ⌜ at + length (markedText form f modtotal) ≤ length (now out) ⌝ }
+    ensures { λ r. ⌜ Put (markedText form f modtotal) at (now (out .entry)) r (now (out .exit)) ⌝ }
+{
+    let end = put_row(f, out, at);
+    if has_modtotal(form) {
+        return put_number(b"modtotal=", modtotal, out, end);
+    }
+    end
+}
+
 // Writes the lines of the first `n` rows, and gives the index after them.
-fn put_rows(figures: [RowFigures; Sheet::MAX_ROWS], n: usize, out: &mut [u8], at: usize) -> usize
-    requires { ⌜ (n ≤ mostRows) × (at + length (rowsListing (take n figures)) ≤ length (now out)) ⌝ }
-    ensures { λ r. ⌜ Put (rowsListing (take n figures)) at (now (out .entry)) r (now (out .exit)) ⌝ }
+fn put_rows(
+    form: u8,
+    figures: [RowFigures; Sheet::MAX_ROWS],
+    modtotals: [u64; Sheet::MAX_ROWS],
+    n: usize,
+    out: &mut [u8],
+    at: usize,
+) -> usize
+    requires { ⌜ (n ≤ mostRows) × (at + length (rowsListing (leb 4 form) (take n figures) modtotals) ≤ length (now out)) ⌝ }
+    ensures { λ r. ⌜ Put (rowsListing (leb 4 form) (take n figures) modtotals) at (now (out .entry)) r (now (out .exit)) ⌝ }
 {
     let mut next = at;
     let mut i = 0;
     while i < n {
         let f = figures[i];
-        next = put_row(f, out, next);
+        next = put_marked(form, f, modtotals[i], out, next);
         i += 1;
     }
     next
@@ -220,24 +277,26 @@ fn put_rows(figures: [RowFigures; Sheet::MAX_ROWS], n: usize, out: &mut [u8], at
 // ---- the listing
 
 // The listing of a form and so many references, steps, segments and rows into a lent place, then its old contents; refusal 11 and no
-// change where the place is shorter. It has no more bytes than that of an accepted sheet can have.
+// change where the place is shorter. It has no more bytes than that of an accepted sheet of the form can have.
 pub fn write(
     form: u8,
     refs: usize,
     steps: usize,
     segs: usize,
     figures: [RowFigures; Sheet::MAX_ROWS],
+    modtotals: [u64; Sheet::MAX_ROWS],
     rows: usize,
     out: &mut [u8],
 ) -> PlaceAnswer
-    requires { ⌜ (rows ≤ mostRows) × (length (listing form refs steps segs (take rows figures)) ≤ mostListing) ⌝ }
-    ensures { λ r. ⌜ PlaceLeft (gives (listing form refs steps segs (take rows figures))) (now (out .entry)) (now (out .exit)) r ⌝ }
+    requires { ⌜ (rows ≤ mostRows) × (length (listing form refs steps segs (take rows figures) modtotals) ≤ listingBytes form) ⌝ }
+    ensures { λ r.
+        ⌜ PlaceLeft (gives (listing form refs steps segs (take rows figures) modtotals)) (now (out .entry)) (now (out .exit)) r ⌝ }
 {
-    if too_short(form, refs, steps, segs, figures, rows, out.len()) {
+    if too_short(form, refs, steps, segs, figures, modtotals, rows, out.len()) {
         return PlaceAnswer::refused(Refusal::PlaceTooShort);
     }
     let first = put_head(form, refs, steps, segs, rows, out);
-    let length = put_rows(figures, rows, out, first);
+    let length = put_rows(form, figures, modtotals, rows, out, first);
     PlaceAnswer {
         verdict: Verdict::Accepted,
         length,

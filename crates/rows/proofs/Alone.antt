@@ -41,6 +41,7 @@ withRow v q =
       form = v .form;
       head = record { kind = v .head .kind; a = v .head .a; sizes = v .head .sizes; rows = q ∷ []; warm = v .head .warm };
       refs = v .refs;
+      marks = v .marks;
     }
 
 -- with row r alone

@@ -59,7 +59,7 @@ fn print(bytes: &[u8], out: &mut [u8]) {
 
 // One byte more than the largest sheet is read, so that a longer input is refused.
 fn main() {
-    let mut input = [0u8; Sheet::MAX_BYTES_3 + 1];
+    let mut input = [0u8; Sheet::MAX_BYTES_4 + 1];
     let read = read_input(&mut input);
     let n = read.length;
     if read.failed {

@@ -1,6 +1,6 @@
 -- What is accepted is valid: the lines of a sheet ask of its value what the limits ask, and no more. Assumes nothing.
 use Prim.Native.Nat.{ℕ, zero, suc, _-_, _≤_, _<_}
-use mathlib.Core.Path.{_≡_, refl, sym, ap}
+use mathlib.Core.Path.{_≡_, refl, sym, ap, subst}
 use mathlib.Core.Logic.{_⊎_, inl}
 use mathlib.Core.Bool.{Bool, true, false, _&&_, false≢true}
 use mathlib.Core.List.{List, [], _∷_}
@@ -23,7 +23,7 @@ use Rattle.lines.proofs.Runs.{before, each-at, each-of}
 use Rattle.model.proofs.Warm.{warm-few}
 use Rattle.sheet.proofs.Words.{RowFits, HoldFits}
 use Rattle.sheet.proofs.SheetLines.{From, EntriesFit, WarmFits, Readable, sheet-reads}
-use Rattle.sheet.proofs.Touches.{EntryFits}
+use Rattle.sheet.proofs.Touches.{EntryFits, MarksFit, marks-touched}
 
 -- ---- the prices of a row
 
@@ -121,8 +121,14 @@ readable-valid lo hi new v c =
       whole = λ e. entries-whole (leb 2 (v .form)) (length (v .head .sizes)) (v .refs) (ap (λ k. leb 2 k) e) (c .segs-fit .0) (c .entries-fit);
       warm = warm-within (leb 3 (v .form)) (length (v .head .sizes)) (v .head .warm) (c .segs-fit .0) (c .warm-fits);
       cold = λ l. warm-none (leb 3 (v .form)) (length (v .head .sizes)) (v .head .warm) (lt-leb 3 (v .form) (omega arith)) (c .warm-fits);
+      marked = λ l. marks (le-leb 4 (v .form) l) .0;
+      modifying = marks-touched (leb 4 (v .form)) (length (v .head .sizes)) (v .refs) (v .marks) (c .marks-fit);
+      unmarked = λ l. marks (lt-leb 4 (v .form) (omega arith));
     }
   where
+    marks : {b : Bool} → leb 4 (v .form) ≡ b → MarksFit b (length (v .head .sizes)) (v .refs) (v .marks)
+    marks e = subst (λ b. MarksFit b (length (v .head .sizes)) (v .refs) (v .marks)) e (c .marks-fit)
+
     form : v .form ≤ newestForm
     form = go (leb 2 (v .form)) refl
       where
@@ -148,8 +154,13 @@ valid-readable lo hi v l h c =
           (λ e. c .cold (omega (arith, leb-false 3 (v .form) e)));
       entries-fit = within-entries (leb 2 (v .form)) (length (v .head .sizes)) (v .refs) (c .run .steps-within) (c .run .entry-within)
           (λ e. c .whole (omega (arith, c .some-form, leb-false 2 (v .form) e)));
+      marks-fit = marks (leb 4 (v .form)) refl;
     }
   where
+    marks : (b : Bool) → leb 4 (v .form) ≡ b → MarksFit b (length (v .head .sizes)) (v .refs) (v .marks)
+    marks true e = (c .marked (leb-true 4 (v .form) e), c .modifying)
+    marks false e = c .unmarked (omega (arith, leb-false 4 (v .form) e))
+
     ascends : (r : ℕ) → r < length (v .head .rows) → above (before zeroRow none (v .head .rows) r) (rowAt v r) ≡ true
     ascends zero l = refl
     ascends (suc r) l = lt-ltb _ _ (c .rows .ascending r l)
@@ -180,3 +191,13 @@ accepted-readable lo hi s v e = sheet-reads lo hi .back s v [] (accepted-read lo
 -- and it is valid
 pub accepted-valid : (lo hi : ℕ) → hi ≤ newestForm → (s : List ℕ) (v : SheetValue) → readForms lo hi s ≡ accepted v → Valid v
 accepted-valid lo hi new s v e = readable-valid lo hi new v (accepted-readable lo hi s v e)
+
+-- its form is one that the call takes
+pub accepted-form : (lo hi : ℕ) → 1 ≤ hi → (s : List ℕ) (v : SheetValue) → readForms lo hi s ≡ accepted v → (lo ≤ v .form) × (v .form ≤ hi)
+accepted-form lo hi some s v e =
+    let c = accepted-readable lo hi s v e in
+    (c .form-taken, go (leb 2 (v .form)) refl (c .form-known))
+  where
+    go : (b : Bool) → leb 2 (v .form) ≡ b → (2 ≤ v .form → v .form ≤ hi) → v .form ≤ hi
+    go true h known = known (leb-true 2 (v .form) h)
+    go false h known = omega (arith, leb-false 2 (v .form) h)

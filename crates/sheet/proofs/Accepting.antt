@@ -1,24 +1,27 @@
 -- A sheet that was read stands for a valid value, and a call goes on from that value. Assumes nothing.
 use Prim.Native.Nat.{ℕ, _≤_}
 use mathlib.Core.Path.{_≡_, refl, sym, ap, _∙_}
+use mathlib.Core.Bool.{Bool, true, false}
 use mathlib.Core.List.{List}
 use native.Mathlib.Omega.{arith}
+use borrow.Author.Tests.{leb-true, leb-false}
+use lib.Dec.{leb}
 use lib.ListN.{length}
 use Rattle.model.specs.Places.{nothingPlaced, Result, gives, refuses, PlaceLeft}
 use Rattle.model.specs.Sheets.{SheetValue, Valid, newestForm, mostSegs, mostRows, mostSteps}
 use Rattle.model.specs.Standing.{Standing}
-use Rattle.model.specs.Values.{zeros, idles, zeroRows, headOf, sheetOf, valueOf}
+use Rattle.model.specs.Values.{zeros, idles, zeroRows, blankMarks, headOf, sheetOf, valueOf}
 use Rattle.model.specs.declared.PlaceAnswer.{PlaceAnswer}
 use Rattle.model.specs.declared.Refusal.{Refusal}
 use Rattle.model.specs.declared.Verdict.the-variants.{Accepted, Refused}
 use Rattle.model.proofs.Places.{refusal-left}
 use Rattle.model.proofs.Warm.{warm-few}
-use Rattle.model.proofs.Values.{zeros-length, idles-length, zero-rows-length, padded-length}
+use Rattle.model.proofs.Values.{zeros-length, idles-length, zero-rows-length, blank-marks-length, padded-length}
 use Rattle.sheet.specs.Accepting.{onSheet}
 use Rattle.sheet.specs.Answers.{answerOf}
 use Rattle.sheet.specs.Reading.{Outcome, accepted, rejected, readForms, readSheet}
 use Rattle.sheet.specs.declared.SheetAnswer.{SheetAnswer}
-use Rattle.sheet.proofs.Accepted.{accepted-valid}
+use Rattle.sheet.proofs.Accepted.{accepted-valid, accepted-form}
 use Rattle.sheet.proofs.Held.{held}
 
 -- a refused sheet: the call answers for the refusal
@@ -38,11 +41,21 @@ unfolding answerOf
 accepted-on (accepted v) A e r f g = ap g (sym (ap (λ B. valueOf (B .sheet)) e ∙ held v))
 accepted-on (rejected p) A e r f g = let a : A .verdict ≡ Refused p = ap (λ B. B .verdict) e in cc
 
+-- a valid value has at most as many marks as steps
+marks-few : (v : SheetValue) → Valid v → length (v .marks) ≤ mostSteps
+marks-few v c = go (leb 4 (v .form)) refl
+  where
+    go : (b : Bool) → leb 4 (v .form) ≡ b → length (v .marks) ≤ mostSteps
+    go true e = omega (arith, c .marked (leb-true 4 (v .form) e), c .run .steps-within)
+    go false e = rw (c .unmarked (omega (arith, leb-false 4 (v .form) e))) (omega arith)
+
 -- the sheet with a valid value stands
 held-stands : (v : SheetValue) → Valid v → Standing (sheetOf v)
 unfolding sheetOf headOf
 held-stands v c =
     let few : length (v .head .warm) ≤ mostSegs = omega (arith, warm-few (length (v .head .sizes)) (v .head .warm) (c .warm), c .run .segs-within) in
+    let marks = marks-few v c in
+    let blank = blank-marks-length mostSteps in
     record {
       valid = rw (held v) c;
       segs-within = c .run .segs-within;
@@ -53,6 +66,8 @@ held-stands v c =
       prices-whole = padded-length (v .head .rows) (zeroRows mostRows) (omega (arith, zero-rows-length mostRows)) ∙ zero-rows-length mostRows;
       holds-whole = padded-length (v .head .warm) (zeros mostSegs) (omega (arith, zeros-length mostSegs)) ∙ zeros-length mostSegs;
       touches-whole = padded-length (v .refs) (idles mostSteps) (omega (arith, idles-length mostSteps)) ∙ idles-length mostSteps;
+      marked-within = marks;
+      marks-whole = padded-length (v .marks) (blankMarks mostSteps) (omega (arith, blank)) ∙ blank;
     }
 
 read-stands : (lo hi : ℕ) → hi ≤ newestForm → (s : List ℕ) (A : SheetAnswer) (o : Outcome) → readForms lo hi s ≡ o → A ≡ answerOf o → A .verdict ≡ Accepted → Standing (A .sheet)
@@ -106,3 +121,17 @@ forms-stand lo hi s A e new r = read-stands lo hi new s A (readForms lo hi s) re
 -- and where it takes every form
 pub stands : (s : List ℕ) (A : SheetAnswer) → A ≡ answerOf (readSheet s) → A .verdict ≡ Accepted → Standing (A .sheet)
 stands s A e r = forms-stand 1 newestForm s A e (omega arith) r
+
+-- and its form is one that the call takes
+read-taken : (lo hi : ℕ) → 1 ≤ hi → (s : List ℕ) (A : SheetAnswer) (o : Outcome) → readForms lo hi s ≡ o → A ≡ answerOf o
+    → A .verdict ≡ Accepted → lo ≤ A .sheet .form
+unfolding answerOf sheetOf
+read-taken lo hi some s A (accepted v) r e a = rw (ap (λ B. B .sheet .form) e) (accepted-form lo hi some s v r .0)
+read-taken lo hi some s A (rejected p) r e a =
+    let b : A .verdict ≡ Refused p = ap (λ B. B .verdict) e in
+    let z : _≡_ {A = ℕ} 0 1 = cc in
+    absurd (omega arith)
+
+pub forms-taken : (lo hi : ℕ) (s : List ℕ) (A : SheetAnswer) → A ≡ answerOf (readForms lo hi s) → 1 ≤ hi → A .verdict ≡ Accepted
+    → lo ≤ A .sheet .form
+forms-taken lo hi s A e some r = read-taken lo hi some s A (readForms lo hi s) refl e r

@@ -1,10 +1,12 @@
 -- The sheet of document 01's listing, read and written by the definitions; the limits of a sheet, each reached by a text that is
--- accepted and left by one that is refused; and the warm segments of form 3, each case decided by hand. Assumes nothing.
+-- accepted and left by one that is refused; the warm segments of form 3 and the letter w of form 4, each case decided by hand. Assumes
+-- nothing.
 use Prim.Native.Nat.{ℕ}
 use mathlib.Core.Path.{_≡_, refl}
-use mathlib.Core.Bool.{Bool, true, _&&_}
+use mathlib.Core.Bool.{Bool, true, false, _&&_}
 use mathlib.Core.List.{List, [], _∷_, _++_}
 use lib.Dec.{eqb}
+use lib.ListN.{length}
 use Rattle.model.specs.Refusals.{numberOf}
 use Rattle.model.specs.Sheets.{SheetValue, idle}
 use Rattle.model.specs.declared.Kind.the-variants.{Time, Space}
@@ -13,11 +15,12 @@ use Rattle.decimal.specs.Decimal.{allDigits, valueFrom, isNumber, written, writ
 use Rattle.sheet.specs.Lines.{splitAt, afterKey, valueLine, numberLine, sameBytes, numberLines}
 use Rattle.lines.specs.Keys.{formKey, kindKey, aKey, segsKey, sizeKey, rowsKey, rowKey, warmKey, holdKey, stepsKey, refsKey, refKey, kindWord}
 use Rattle.sheet.specs.Reading.{Outcome, accepted, rejected, namedForm, readForms, readSheet}
-use Rattle.sheet.specs.Touches.{touchLine, touchLines, entriesFrom, touchesFrom}
+use Rattle.sheet.specs.Touches.{touchLine, touchLines, placedFrom, touchesFrom}
 use Rattle.sheet.specs.Values.{kindLine, rowLine, rowLines}
 use Rattle.sheet.specs.Warm.{holdLine, holdLines}
 use Rattle.lines.specs.Texts.{lineText, numberText, linesText}
-use Rattle.sheet.specs.Order.{sizesPart, pricesPart, warmPart, tablesPart, headPart, refsPart, stepsPart, runPart, bodyPart, sheetPart}
+use Rattle.sheet.specs.Order.{sizesPart, pricesPart, warmPart, tablesPart, headPart}
+use Rattle.sheet.specs.Order.{refsPart, plainPart, stepsPart, runPart, bodyPart, sheetPart}
 use Rattle.sheet.specs.Writing.{sheetText}
 
 -- the bytes of the sheet
@@ -39,14 +42,15 @@ value-of-listing =
             warm = [];
           };
       refs = 0 ∷ 1 ∷ 0 ∷ 1 ∷ 1 ∷ 0 ∷ [];
+      marks = [];
     }
 
 listing-read : readSheet listing ≡ accepted value-of-listing
-unfolding listing value-of-listing readForms namedForm sheetPart bodyPart headPart tablesPart runPart sizesPart pricesPart refsPart kindLine numberLines rowLine rowLines splitAt afterKey valueLine numberLine sameBytes allDigits valueFrom isNumber
+unfolding listing value-of-listing readForms namedForm sheetPart bodyPart headPart tablesPart runPart sizesPart pricesPart refsPart plainPart kindLine numberLines rowLine rowLines splitAt afterKey valueLine numberLine sameBytes allDigits valueFrom isNumber
 listing-read = refl
 
 listing-written : sheetText value-of-listing ≡ listing
-unfolding listing value-of-listing sheetText sheetPart bodyPart headPart tablesPart runPart sizesPart pricesPart refsPart linesText written writtenIn
+unfolding listing value-of-listing sheetText sheetPart bodyPart headPart tablesPart runPart sizesPart pricesPart refsPart plainPart linesText written writtenIn
 listing-written = refl
 
 -- ---- the limits
@@ -76,7 +80,8 @@ price h d = record { h = h; d = d }
 
 -- the text of a sheet of kind time with a, the sizes, the rows and the references
 textOf : ℕ → List ℕ → List PriceRow → List ℕ → List ℕ
-textOf a sizes rows refs = sheetText (record { form = 1; head = record { kind = Time; a = a; sizes = sizes; rows = rows; warm = [] }; refs = refs })
+textOf a sizes rows refs =
+    sheetText (record { form = 1; head = record { kind = Time; a = a; sizes = sizes; rows = rows; warm = [] }; refs = refs; marks = [] })
 
 -- the lines of such a sheet up to segs=, up to rows= and up to refs= with these numbers, and nothing after them. Where the number is
 -- within its range the refusal is 2, of the missing next line
@@ -118,7 +123,7 @@ limits =
     ∷ []
 
 pub limits-hold : allRead limits ≡ true
-unfolding outcomeNumber _reads_ allRead price textOf toSegs toRows toRefs limits readForms namedForm sheetPart bodyPart headPart tablesPart runPart sizesPart pricesPart refsPart kindLine numberLines rowLine rowLines splitAt afterKey valueLine numberLine sameBytes allDigits valueFrom isNumber sheetText linesText written writtenIn
+unfolding outcomeNumber _reads_ allRead price textOf toSegs toRows toRefs limits readForms namedForm sheetPart bodyPart headPart tablesPart runPart sizesPart pricesPart refsPart plainPart kindLine numberLines rowLine rowLines splitAt afterKey valueLine numberLine sameBytes allDigits valueFrom isNumber sheetText linesText written writtenIn
 limits-hold = refl
 
 -- ---- the warm segments of form 3
@@ -156,15 +161,16 @@ warmed warm =
       form = 3;
       head = record { kind = Time; a = 0; sizes = 1 ∷ 1 ∷ 1 ∷ []; rows = price 0 1 ∷ []; warm = warm };
       refs = idle ∷ 1 ∷ [];
+      marks = [];
     }
 
 -- a sheet of form 3 without warm segments and one with two, read and written
 cold-read : readSheet (sheetWith 3 (holding 0 [] ++ oneTouch)) ≡ accepted (warmed [])
-unfolding price sheetWith holding oneTouch warmed readForms namedForm sheetPart bodyPart headPart tablesPart runPart sizesPart pricesPart warmPart stepsPart kindLine numberLines rowLine rowLines holdLine holdLines touchLine touchLines entriesFrom splitAt afterKey valueLine numberLine sameBytes allDigits valueFrom isNumber linesText written writtenIn
+unfolding price sheetWith holding oneTouch warmed readForms namedForm sheetPart bodyPart headPart tablesPart runPart sizesPart pricesPart warmPart stepsPart kindLine numberLines rowLine rowLines holdLine holdLines touchLine touchLines placedFrom splitAt afterKey valueLine numberLine sameBytes allDigits valueFrom isNumber linesText written writtenIn
 cold-read = refl
 
 warm-read : readSheet (sheetWith 3 (holding 2 (0 ∷ 2 ∷ []) ++ oneTouch)) ≡ accepted (warmed (0 ∷ 2 ∷ []))
-unfolding price sheetWith holding oneTouch warmed readForms namedForm sheetPart bodyPart headPart tablesPart runPart sizesPart pricesPart warmPart stepsPart kindLine numberLines rowLine rowLines holdLine holdLines touchLine touchLines entriesFrom splitAt afterKey valueLine numberLine sameBytes allDigits valueFrom isNumber linesText written writtenIn
+unfolding price sheetWith holding oneTouch warmed readForms namedForm sheetPart bodyPart headPart tablesPart runPart sizesPart pricesPart warmPart stepsPart kindLine numberLines rowLine rowLines holdLine holdLines touchLine touchLines placedFrom splitAt afterKey valueLine numberLine sameBytes allDigits valueFrom isNumber linesText written writtenIn
 warm-read = refl
 
 warm-written : sheetText (warmed (0 ∷ 2 ∷ [])) ≡ sheetWith 3 (holding 2 (0 ∷ 2 ∷ []) ++ oneTouch)
@@ -191,18 +197,109 @@ warmings =
     ∷ sheetWith 3 (holding 3 (3 ∷ 1 ∷ 1 ∷ []) ++ oneTouch) reads 4
     ∷ sheetWith 2 oneTouch reads 0
     ∷ sheetWith 2 (holding 0 [] ++ oneTouch) reads 2
-    ∷ sheetWith 4 (holding 0 [] ++ oneTouch) reads 4
+    ∷ sheetWith 4 (holding 2 (0 ∷ 2 ∷ []) ++ oneTouch) reads 0
+    ∷ sheetWith 4 (holding 2 (1 ∷ 1 ∷ []) ++ oneTouch) reads 19
+    ∷ sheetWith 4 oneTouch reads 2
+    ∷ sheetWith 5 (holding 0 [] ++ oneTouch) reads 4
     ∷ []
 
 pub warmings-hold : allRead warmings ≡ true
-unfolding outcomeNumber _reads_ allRead sheetWith holding heldLetter heldZero oneTouch warmings readForms namedForm sheetPart bodyPart headPart tablesPart runPart sizesPart pricesPart warmPart stepsPart kindLine numberLines rowLine rowLines holdLine holdLines touchLine touchLines entriesFrom splitAt afterKey valueLine numberLine sameBytes allDigits valueFrom isNumber linesText written writtenIn
+unfolding outcomeNumber _reads_ allRead sheetWith holding heldLetter heldZero oneTouch warmings readForms namedForm sheetPart bodyPart headPart tablesPart runPart sizesPart pricesPart warmPart stepsPart kindLine numberLines rowLine rowLines holdLine holdLines touchLine touchLines placedFrom splitAt afterKey valueLine numberLine sameBytes allDigits valueFrom isNumber linesText written writtenIn
 warmings-hold = refl
 
 -- a call that is not made for form 3 refuses such a sheet with 4 on the form line, one made for it alone a sheet of form 2
 not-taken : outcomeNumber (readForms 1 2 (sheetWith 3 (holding 2 (1 ∷ 1 ∷ []) ++ oneTouch))) ≡ 4
-unfolding outcomeNumber sheetWith holding oneTouch readForms namedForm sheetPart bodyPart headPart tablesPart runPart sizesPart pricesPart warmPart stepsPart kindLine numberLines rowLine rowLines holdLine holdLines touchLine touchLines entriesFrom splitAt afterKey valueLine numberLine sameBytes allDigits valueFrom isNumber linesText written writtenIn
+unfolding outcomeNumber sheetWith holding oneTouch readForms namedForm sheetPart bodyPart headPart tablesPart runPart sizesPart pricesPart warmPart stepsPart kindLine numberLines rowLine rowLines holdLine holdLines touchLine touchLines placedFrom splitAt afterKey valueLine numberLine sameBytes allDigits valueFrom isNumber linesText written writtenIn
 not-taken = refl
 
 taken-alone : outcomeNumber (readForms 3 3 (sheetWith 2 oneTouch)) ≡ 4
-unfolding outcomeNumber sheetWith oneTouch readForms namedForm sheetPart bodyPart headPart tablesPart runPart sizesPart pricesPart warmPart stepsPart kindLine numberLines rowLine rowLines holdLine holdLines touchLine touchLines entriesFrom splitAt afterKey valueLine numberLine sameBytes allDigits valueFrom isNumber linesText written writtenIn
+unfolding outcomeNumber sheetWith oneTouch readForms namedForm sheetPart bodyPart headPart tablesPart runPart sizesPart pricesPart warmPart stepsPart kindLine numberLines rowLine rowLines holdLine holdLines touchLine touchLines placedFrom splitAt afterKey valueLine numberLine sameBytes allDigits valueFrom isNumber linesText written writtenIn
 taken-alone = refl
+
+-- ---- the letter w of form 4
+
+-- the letter, and twice the letter
+w : List ℕ
+w = 119 ∷ []
+
+ww : List ℕ
+ww = 119 ∷ 119 ∷ []
+
+-- a value segment@step with what stands after the step's digits
+infix 75 _at_followed_
+_at_followed_ : ℕ → ℕ → List ℕ → List ℕ
+x at step followed y = written x ++ (64 ∷ (written step ++ y))
+
+-- a run of so many steps, with a line ref= for each value
+touching : ℕ → List (List ℕ) → List ℕ
+touching steps values = numberText stepsKey steps ++ (numberText refsKey (length values) ++ linesText (lineText refKey) values)
+
+-- a sheet of a form from 3 on with three segments, none of them warm, and such a run
+marking : ℕ → ℕ → List (List ℕ) → List ℕ
+marking form steps values = sheetWith form (holding 0 [] ++ touching steps values)
+
+-- the value of such a sheet of form 4 with these entries and marks
+marked : List ℕ → List Bool → SheetValue
+marked refs marks =
+    record {
+      form = 4;
+      head = record { kind = Time; a = 0; sizes = 1 ∷ 1 ∷ 1 ∷ []; rows = price 0 1 ∷ []; warm = [] };
+      refs = refs;
+      marks = marks;
+    }
+
+-- one touch that modifies; and two touches of four steps, of which the second does: read, with a mark for each step, and written
+one-read : readSheet (marking 4 1 (0 at 1 followed w ∷ [])) ≡ accepted (marked (0 ∷ []) (true ∷ []))
+unfolding w ww _at_followed_ price sheetWith holding touching marking marked readForms namedForm sheetPart bodyPart headPart tablesPart runPart sizesPart pricesPart warmPart stepsPart kindLine numberLines rowLine rowLines holdLine holdLines touchLine touchLines placedFrom splitAt afterKey valueLine numberLine sameBytes allDigits valueFrom isNumber linesText written writtenIn
+one-read = refl
+
+one-written : sheetText (marked (0 ∷ []) (true ∷ [])) ≡ marking 4 1 (0 at 1 followed w ∷ [])
+unfolding w ww _at_followed_ price sheetWith holding touching marking marked touchesFrom sheetText sheetPart bodyPart headPart tablesPart runPart sizesPart pricesPart warmPart stepsPart linesText written writtenIn
+one-written = refl
+
+second-read : readSheet (marking 4 4 (2 at 2 followed [] ∷ 1 at 3 followed w ∷ []))
+    ≡ accepted (marked (idle ∷ 2 ∷ 1 ∷ idle ∷ []) (false ∷ false ∷ true ∷ false ∷ []))
+unfolding w ww _at_followed_ price sheetWith holding touching marking marked readForms namedForm sheetPart bodyPart headPart tablesPart runPart sizesPart pricesPart warmPart stepsPart kindLine numberLines rowLine rowLines holdLine holdLines touchLine touchLines placedFrom splitAt afterKey valueLine numberLine sameBytes allDigits valueFrom isNumber linesText written writtenIn
+second-read = refl
+
+second-written : sheetText (marked (idle ∷ 2 ∷ 1 ∷ idle ∷ []) (false ∷ false ∷ true ∷ false ∷ []))
+    ≡ marking 4 4 (2 at 2 followed [] ∷ 1 at 3 followed w ∷ [])
+unfolding w ww _at_followed_ price sheetWith holding touching marking marked touchesFrom sheetText sheetPart bodyPart headPart tablesPart runPart sizesPart pricesPart warmPart stepsPart linesText written writtenIn
+second-written = refl
+
+-- the letter stands once, lower-case, right after the step's digits, and in form 4 alone: else 3. The step is read without it: 4 and 16
+-- stand where they do without the letter. The last step of the longest run may modify
+pub markings : List Read
+markings =
+    marking 4 17 (0 at 17 followed w ∷ []) reads 0
+    ∷ marking 4 17 (0 at 17 followed [] ∷ []) reads 0
+    ∷ marking 4 17 (0 at 16 followed w ∷ 0 at 17 followed w ∷ []) reads 0
+    ∷ marking 4 0 [] reads 0
+    ∷ marking 4 17 (0 at 17 followed ww ∷ []) reads 3
+    ∷ marking 4 1 (0 at 1 followed (87 ∷ []) ∷ []) reads 3
+    ∷ marking 4 1 ((48 ∷ 64 ∷ w) ∷ []) reads 3
+    ∷ marking 4 1 ((48 ∷ 64 ∷ 119 ∷ 49 ∷ []) ∷ []) reads 3
+    ∷ marking 4 1 ((48 ∷ 119 ∷ 64 ∷ 49 ∷ []) ∷ []) reads 3
+    ∷ marking 4 1 ((48 ∷ 119 ∷ []) ∷ []) reads 3
+    ∷ marking 4 1 ((48 ∷ 64 ∷ 48 ∷ 49 ∷ w) ∷ []) reads 3
+    ∷ marking 4 1 (0 at 1 followed (32 ∷ w) ∷ []) reads 3
+    ∷ marking 4 12 (0 at 1 followed (119 ∷ 50 ∷ []) ∷ []) reads 3
+    ∷ marking 4 17 (3 at 17 followed ww ∷ []) reads 3
+    ∷ marking 4 17 (3 at 18 followed w ∷ []) reads 4
+    ∷ marking 4 17 (0 at 18 followed w ∷ []) reads 16
+    ∷ marking 4 17 (0 at 0 followed w ∷ []) reads 16
+    ∷ marking 4 17 (0 at 17 followed w ∷ 1 at 17 followed w ∷ []) reads 16
+    ∷ marking 4 17 (0 at 18 followed w ∷ 1 at 17 followed ww ∷ []) reads 16
+    ∷ marking 3 17 (0 at 17 followed w ∷ []) reads 3
+    ∷ marking 3 17 (0 at 18 followed w ∷ []) reads 3
+    ∷ sheetWith 2 (touching 17 (0 at 17 followed w ∷ [])) reads 3
+    ∷ (toRefs 1 ++ lineText refKey (48 ∷ w)) reads 3
+    ∷ marking 4 2048 (0 at 2048 followed w ∷ []) reads 0
+    ∷ marking 4 2048 (0 at 2049 followed w ∷ []) reads 16
+    ∷ marking 4 2049 [] reads 4
+    ∷ (marking 4 1 (0 at 1 followed w ∷ []) ++ (10 ∷ [])) reads 6
+    ∷ []
+
+pub markings-hold : allRead markings ≡ true
+unfolding outcomeNumber _reads_ allRead toSegs toRows toRefs refsPart plainPart markings w ww _at_followed_ price sheetWith holding touching marking marked readForms namedForm sheetPart bodyPart headPart tablesPart runPart sizesPart pricesPart warmPart stepsPart kindLine numberLines rowLine rowLines holdLine holdLines touchLine touchLines placedFrom splitAt afterKey valueLine numberLine sameBytes allDigits valueFrom isNumber linesText written writtenIn
+markings-hold = refl

@@ -1,18 +1,20 @@
--- The text of a valid value has at most 20,012 bytes, in form 2 at most 29,163 and in form 3 at most 31,366, and that of one valid value
--- of each form has as many. Assumes nothing.
+-- The text of a valid value has at most 20,012 bytes, in form 2 at most 29,163, in form 3 at most 31,366 and in form 4 at most 33,414, and
+-- that of one valid value of each form has as many. Assumes nothing.
 use Prim.Native.Nat.{ℕ, zero, suc, _+_, _-_, _*_, _^_, _≤_, _<_}
 use mathlib.Core.Path.{_≡_, refl, ap, subst, _∙_}
 use mathlib.Core.Logic.{inl}
-use mathlib.Core.Bool.{Bool, true, false, cond}
+use mathlib.Core.Bool.{Bool, true, false, cond, false≢true}
 use mathlib.Core.List.{List, [], _∷_, _++_, append-nil}
 use mathlib.Core.Option.{Option, none, some}
+use native.Mathlib.Nat.{mul-zero}
 use native.Mathlib.Omega.{arith}
-use borrow.Author.Tests.{lt-ltb, leb-true, leb-false}
+use borrow.Author.Tests.{lt-ltb}
 use lib.Dec.{leb}
-use lib.ListN.{length, length-append, replicate, length-replicate}
+use lib.ListN.{length, length-append, getD-replicate, replicate, length-replicate}
 use Rattle.decimal.specs.Decimal.{written, writtenIn}
 use Rattle.decimal.proofs.Written.{written-length, written-longer}
-use Rattle.model.specs.Sheets.{HeadValue, SheetValue, Valid, formBytes, newestForm, largestA, mostSegs, largestSize, mostRows, mostSteps}
+use Rattle.model.specs.Sheets.{HeadValue, SheetValue, Valid, marksOf, formBytes, newestForm}
+use Rattle.model.specs.Sheets.{largestA, mostSegs, largestSize, mostRows, mostSteps}
 use Rattle.model.specs.declared.Kind.{Kind}
 use Rattle.model.specs.declared.Kind.the-variants.{Time, Space}
 use Rattle.model.specs.declared.PriceRow.{PriceRow}
@@ -22,15 +24,17 @@ use Rattle.lines.proofs.Lengths.{number-within}
 use Rattle.lines.proofs.Runs.{Each, each-map, lines-length}
 use Rattle.sheet.specs.Order.{warmFor, headPart, formLines}
 use Rattle.sheet.specs.Parts.{textOf}
-use Rattle.sheet.specs.Touches.{Touch, touchText, touchesText, touchesFrom, touchesOf}
+use Rattle.sheet.specs.Touches.{Touch, Entries, touchText, touchesText, touchesFrom, touchesOf}
 use Rattle.sheet.specs.Values.{above, inPrices, rowText}
 use Rattle.sheet.specs.Warm.{aboveHold}
 use Rattle.sheet.specs.Writing.{sheetText}
 use Rattle.sheet.proofs.Accepted.{readable-valid, valid-readable, prices-within, within-prices}
-use Rattle.sheet.proofs.PartTexts.{sizes-text, prices-text, warm-text, refs-text, steps-text, head-text, entriesText, sheet-text}
+use Rattle.sheet.proofs.PartTexts.{sizes-text, prices-text, warm-text, plain-text, steps-text, head-text}
+use Rattle.sheet.proofs.PartTexts.{entriesText, entriesIn, sheet-text}
 use Rattle.sheet.proofs.SheetLines.{From, EntriesFit, WarmFits, Readable}
-use Rattle.sheet.proofs.TouchLengths.{digitsBelow, digits-next, digits-rise, touch-length, touches-within, hold-length, holds-within}
-use Rattle.sheet.proofs.Touches.{EntryFits, touches-fit}
+use Rattle.sheet.proofs.TouchLengths.{digitsBelow, digits-next, digits-rise, touchWidth, touch-length, touches-within}
+use Rattle.sheet.proofs.TouchLengths.{hold-length, holds-within}
+use Rattle.sheet.proofs.Touches.{EntryFits, OnTouches, MarksFit, marks-letter, touches-fit}
 use Rattle.sheet.proofs.Words.{RowFits, HoldFits}
 
 -- ---- the length of a text is that of its lines
@@ -70,7 +74,7 @@ first-length : (v : SheetValue) → v .form ≡ 1 → length (sheetText v)
 unfolding entriesText linesText
 first-length v e =
     ap length (sheet-text v)
-    ∙ rw (e, refs-text (length (v .head .sizes)) (v .refs)) (simp length-append)
+    ∙ rw (e, plain-text (length (v .head .sizes)) (entriesIn v)) (simp length-append)
 
 -- the form line of a later form
 form-text : (form : ℕ) → leb 2 form ≡ true → textOf (formLines form) ≡ numberText formKey form
@@ -81,18 +85,18 @@ form-text form e = rw e (append-nil (numberText formKey form))
 later-length : (v : SheetValue) → leb 2 (v .form) ≡ true → length (sheetText v)
     ≡ length (numberText formKey (v .form)) + (length (textOf (headPart true (leb 3 (v .form)) .lines (v .head)))
     + (length (numberText stepsKey (length (v .refs)))
-    + (length (numberText refsKey (length (touchesOf (v .refs)))) + length (touchesText (touchesOf (v .refs))))))
+    + (length (numberText refsKey (length (touchesOf (entriesIn v)))) + length (touchesText (touchesOf (entriesIn v))))))
 unfolding entriesText
 later-length v e =
     ap length (sheet-text v)
-    ∙ rw (form-text (v .form) e, e, steps-text (length (v .head .sizes)) (v .refs))
+    ∙ rw (form-text (v .form) e, e, steps-text (leb 4 (v .form)) (length (v .head .sizes)) (entriesIn v))
     (five (numberText formKey (v .form)) (textOf (headPart true (leb 3 (v .form)) .lines (v .head))) (numberText stepsKey (length (v .refs)))
-    (numberText refsKey (length (touchesOf (v .refs)))) (touchesText (touchesOf (v .refs))))
+    (numberText refsKey (length (touchesOf (entriesIn v)))) (touchesText (touchesOf (entriesIn v))))
   where
     five : (a b c d e : List ℕ) → length (a ++ (b ++ (c ++ (d ++ e)))) ≡ length a + (length b + (length c + (length d + length e)))
     five a b c d e = simp length-append
 
--- ---- at most 20,012 bytes, 29,163 in form 2, and 31,366 in form 3
+-- ---- at most 20,012 bytes, 29,163 in form 2, 31,366 in form 3, and 33,414 in form 4
 
 -- the lines of numbers below 10 ^ suc k
 numbers-within : (key : List ℕ) (lo hi k : ℕ) → hi < 10 ^ suc k → (xs : List ℕ) → Each (From lo hi) none xs
@@ -156,19 +160,34 @@ first-within : (segs : ℕ) (xs : List ℕ) → segs ≤ mostSegs → EntriesFit
 first-within segs xs h (l, c) =
     omega (arith, number-within refsKey 3 (length xs) (omega arith), numbers-within refKey 0 (segs - 1) 2 (omega arith) xs c)
 
--- the touches of form 2
-second-within : (segs : ℕ) (xs : List ℕ) → segs ≤ mostSegs → EntriesFit true segs xs
-    → length (numberText stepsKey (length xs)) + (length (numberText refsKey (length (touchesOf xs))) + length (touchesText (touchesOf xs))) ≤ 25538
-second-within segs xs h (l, c) =
+-- the letters of at most 2,048 touches
+letters-within : (letters : Bool) (n : ℕ) → n ≤ mostSteps → touchWidth letters * n ≤ 9 * mostSteps + cond letters 2048 0
+letters-within true n h = omega arith
+letters-within false n h = omega arith
+
+-- the touches of form 2 on
+later-within : (letters : Bool) (segs : ℕ) (e : Entries) → segs ≤ mostSegs → EntriesFit true segs (e .refs)
+    → MarksFit letters segs (e .refs) (e .marks)
+    → length (numberText stepsKey (length (e .refs)))
+    + (length (numberText refsKey (length (touchesOf e))) + length (touchesText (touchesOf e))) ≤ 25538 + cond letters 2048 0
+later-within letters segs e h (l, c) f =
+    let steps = length (e .refs) in
+    let w = marks-letter letters segs (e .refs) (e .marks) f in
     let (n, m) =
-    touches-within segs (length xs) (omega arith) (omega arith) (touchesOf xs)
-    (touches-fit segs (length xs) xs none none 0 (omega arith) (omega arith) c) in
-    let d = digits-rise (suc (length xs)) (suc mostSteps) (omega arith) in
-    omega (arith, m, d, number-within stepsKey 3 (length xs) (omega arith), number-within refsKey 3 (length (touchesOf xs)) (omega (arith, n)))
+    touches-within letters segs steps (omega arith) (omega arith) (touchesOf e)
+    (touches-fit letters segs steps (marksOf (e .marks)) w (e .refs) none none 0 (omega arith) (omega arith) c) in
+    omega (
+      arith,
+      m,
+      letters-within letters (length (touchesOf e)) (omega (arith, n)),
+      digits-rise (suc steps) (suc mostSteps) (omega arith),
+      number-within stepsKey 3 steps (omega arith),
+      number-within refsKey 3 (length (touchesOf e)) (omega (arith, n)),
+    )
 
 -- no valid sheet is longer than a sheet of its form may be
 pub text-within : (v : SheetValue) → Valid v → length (sheetText v) ≤ formBytes (v .form)
-text-within v c = go (leb 2 (v .form)) refl (leb 3 (v .form)) refl
+text-within v c = go (v .form) refl
   where
     r : Readable 1 newestForm v
     r = valid-readable 1 newestForm v (c .some-form) (c .form-within) c
@@ -176,26 +195,24 @@ text-within v c = go (leb 2 (v .form)) refl (leb 3 (v .form)) refl
     entries : (b : Bool) → leb 2 (v .form) ≡ b → EntriesFit b (length (v .head .sizes)) (v .refs)
     entries b e = subst (λ b. EntriesFit b (length (v .head .sizes)) (v .refs)) e (r .entries-fit)
 
-    second : leb 2 (v .form) ≡ true
-        → length (sheetText v) ≤ length (numberText formKey (v .form)) + (3618 + cond (leb 3 (v .form)) 2203 0 + 25538)
-    second e =
-        rw (later-length v e)
-        (omega (arith, head-within v c, second-within (length (v .head .sizes)) (v .refs) (c .run .segs-within) (entries true e)))
+    later : (form : ℕ) → v .form ≡ form → leb 2 form ≡ true → length (sheetText v)
+        ≤ length (numberText formKey form) + (3618 + cond (leb 3 form) 2203 0 + (25538 + cond (leb 4 form) 2048 0))
+    later form e t =
+        let l : leb 2 (v .form) ≡ true = ap (λ f. leb 2 f) e ∙ t in
+        let segs = length (v .head .sizes) in
+        let w = later-within (leb 4 (v .form)) segs (entriesIn v) (c .run .segs-within) (entries true l) (r .marks-fit) in
+        rw (later-length v l, ← e) (omega (arith, head-within v c, w))
 
-    go : (b : Bool) → leb 2 (v .form) ≡ b → (d : Bool) → leb 3 (v .form) ≡ d → length (sheetText v) ≤ formBytes (v .form)
-    go false e d g =
-        let one : v .form ≡ 1 = omega (arith, leb-false 2 (v .form) e, c .some-form) in
-        let h = rw one at (head-within v c) in
-        rw (first-length v one, one)
-        (omega (arith, h, first-within (length (v .head .sizes)) (v .refs) (c .run .segs-within) (entries false e)))
-    go true e false g =
-        let two : v .form ≡ 2 = omega (arith, leb-true 2 (v .form) e, leb-false 3 (v .form) g) in
-        let l = second e in
-        rw two (omega (arith, rw two at l, number-within formKey 0 2 (omega arith)))
-    go true e true g =
-        let three : v .form ≡ 3 = omega (arith, leb-true 3 (v .form) g, c .form-within) in
-        let l = second e in
-        rw three (omega (arith, rw three at l, number-within formKey 0 3 (omega arith)))
+    go : (form : ℕ) → v .form ≡ form → length (sheetText v) ≤ formBytes form
+    go zero e = absurd (omega (arith, c .some-form))
+    go (suc zero) e =
+        let h = rw e at (head-within v c) in
+        let w = first-within (length (v .head .sizes)) (v .refs) (c .run .segs-within) (entries false (ap (λ f. leb 2 f) e)) in
+        rw (first-length v e) (omega (arith, h, w))
+    go (suc (suc zero)) e = omega (arith, later 2 e refl, number-within formKey 0 2 (omega arith))
+    go (suc (suc (suc zero))) e = omega (arith, later 3 e refl, number-within formKey 0 3 (omega arith))
+    go (suc (suc (suc (suc zero)))) e = omega (arith, later 4 e refl, number-within formKey 0 4 (omega arith))
+    go (suc (suc (suc (suc (suc k))))) e = absurd (omega (arith, c .form-within))
 
 -- ---- and one valid value with as many
 
@@ -217,16 +234,23 @@ ascent k (suc n) = k ∷ ascent (suc k) n
 abbrev warmest : Bool → ℕ → List ℕ
 warmest later n = cond later (ascent 0 n) []
 
--- a sheet of a form with n sizes 4095, m rows from 10000/10000 on, as many warm segments as its form has, and k references 255
+-- k marks, from form 4 on
+abbrev marking : Bool → ℕ → List Bool
+marking letters k = cond letters (replicate k true) []
+
+-- a sheet of a form with n sizes 4095, m rows from 10000/10000 on, as many warm segments as its form has, and k references 255, each with a
+-- letter where its form has it
 filled : ℕ → ℕ → ℕ → ℕ → SheetValue
 filled form n m k =
     record {
       form = form;
       head = record { kind = Space; a = largestA; sizes = replicate n largestSize; rows = wideRows 0 m; warm = warmest (leb 3 form) n };
       refs = replicate k 255;
+      marks = marking (leb 4 form) k;
     }
 
--- the largest sheet of a form: 256 sizes, 64 rows, from form 3 on 256 warm segments, and a reference in each of 2,048 steps
+-- the largest sheet of a form: 256 sizes, 64 rows, from form 3 on 256 warm segments, and a reference in each of 2,048 steps, which modifies
+-- in form 4
 pub largest : ℕ → SheetValue
 largest form = filled form mostSegs mostRows mostSteps
 
@@ -291,6 +315,17 @@ filled-entries false n k n₁ k₂ = (
   each-same (From 0 (length (replicate n largestSize) - 1)) 255 (λ prev. rw length-replicate (omega arith)) k none,
 )
 
+-- its marks fit in each form
+filled-marks : (letters : Bool) (n k : ℕ) → 256 ≤ n
+    → MarksFit letters (length (replicate n largestSize)) (replicate k 255) (marking letters k)
+filled-marks true n k n₁ = (rw (length-replicate {A = Bool} k true, length-replicate {A = ℕ} k 255), go k)
+  where
+    go : (k : ℕ) → OnTouches (length (replicate n largestSize)) (replicate k 255) (replicate k true)
+    go zero t e = absurd (false≢true e)
+    go (suc k) zero e = rw length-replicate (omega arith)
+    go (suc k) (suc t) e = go k t e
+filled-marks false n k n₁ = refl
+
 -- such a value meets what the lines ask, where its counts do
 filled-readable : (form n m k : ℕ) → 1 ≤ form → form ≤ newestForm → 256 ≤ n → n ≤ mostSegs → 1 ≤ m → m ≤ mostRows → k ≤ mostSteps
     → Readable 1 newestForm (filled form n m k)
@@ -307,6 +342,7 @@ filled-readable form n m k f₁ f₂ n₁ n₂ m₁ m₂ k₂ =
       prices-fit = each-map WideFits RowFits (λ prev q f. f .0) none (wideRows 0 m) (wide-each 0 m none (omega arith) refl);
       warm-fits = filled-warm (leb 3 form) n;
       entries-fit = filled-entries (leb 2 form) n k n₁ k₂;
+      marks-fit = filled-marks (leb 4 form) n k n₁;
     }
 
 -- the largest sheets are valid
@@ -389,30 +425,53 @@ filled-head form n m k h g =
       same-lines sizeKey largestSize 10 n size-length,
     )
 
--- a touch in every step: as many as steps, each line with 9 bytes and its step's digits
-touches-each : (k before : ℕ) → length (touchesFrom before (replicate k 255)) ≡ k
+-- a touch in every step: as many as steps
+touches-each : (m : ℕ → Bool) (k before : ℕ) → length (touchesFrom m before (replicate k 255)) ≡ k
 unfolding touchesFrom
-touches-each zero before = refl
-touches-each (suc k) before = ap suc (touches-each k (suc before))
+touches-each m zero before = refl
+touches-each m (suc k) before = ap suc (touches-each m k (suc before))
+
+-- the marks are all the same
+marking-same : (letters : Bool) (k t : ℕ) → t < k → marksOf (marking letters k) t ≡ letters
+marking-same true k t h = getD-replicate k t true false h
+marking-same false k t h = refl
 
 digits-of-255 : length (written 255) ≡ 3
 unfolding written writtenIn
 digits-of-255 = refl
 
-touches-long : (k before : ℕ) → before + k < 10000
-    → length (touchesText (touchesFrom before (replicate k 255))) + digitsBelow (suc before) ≡ 9 * k + digitsBelow (suc (before + k))
+-- each line has its width and its step's digits
+touches-long : (letters : Bool) (m : ℕ → Bool) (k before : ℕ) → ((t : ℕ) → before ≤ t → t < before + k → m t ≡ letters) → before + k < 10000
+    → length (touchesText (touchesFrom m before (replicate k 255))) + digitsBelow (suc before)
+    ≡ touchWidth letters * k + digitsBelow (suc (before + k))
 unfolding touchesFrom linesText
-touches-long zero before h = let e : before + 0 ≡ before = omega arith in rw e
-touches-long (suc k) before h =
+touches-long letters m zero before f h = let e : before + 0 ≡ before = omega arith in rw (e, mul-zero (touchWidth letters))
+touches-long letters m (suc k) before f h =
     let e : before + suc k ≡ suc before + k = omega arith in
-    let x : Touch = record { segment = 255; step = suc before } in
-    let i = touches-long k (suc before) (omega arith) in
+    let x : Touch = record { segment = 255; step = suc before; modifies = m before } in
+    let rest = touchesText (touchesFrom m (suc before) (replicate k 255)) in
+    let i = touches-long letters m k (suc before) (λ t a b. f t (omega arith) (omega arith)) (omega arith) in
     let d = digits-next (suc before) (omega arith) in
-    rw (length-append (touchText x) (touchesText (touchesFrom (suc before) (replicate k 255))), touch-length x, digits-of-255, e)
-    (together (length (written (suc before))) (length (touchesText (touchesFrom (suc before) (replicate k 255)))) (digitsBelow (suc before)) (digitsBelow (suc (suc before))) (digitsBelow (suc (suc before + k))) k i d)
+    let w = width letters (m before) (f before (omega arith) (omega arith)) in
+    rw (length-append (touchText x) rest, touch-length x, digits-of-255, e)
+    (together (length (written (suc before))) (cond (m before) 1 0) (touchWidth letters) (length rest) (digitsBelow (suc before))
+    (digitsBelow (suc (suc before))) (digitsBelow (suc (suc before + k))) k i d w)
   where
-    together : (w t b c e k : ℕ) → t + c ≡ 9 * k + e → b + w ≡ c → 6 + (3 + w) + t + b ≡ 9 * suc k + e
-    together w t b c e k i d = omega arith
+    width : (letters b : Bool) → b ≡ letters → 9 + cond b 1 0 ≡ touchWidth letters
+    width true b e = rw e
+    width false b e = rw e
+
+    together : (w l u t b c e k : ℕ) → t + c ≡ u * k + e → b + w ≡ c → 9 + l ≡ u → 6 + (3 + (w + l)) + t + b ≡ u * suc k + e
+    together w l u t b c e k i d g = omega arith
+
+-- the length of the lines of k touches
+touches-length : (letters : Bool) (k : ℕ) → k < 10000
+    → length (touchesText (touchesOf (record { refs = replicate k 255; marks = marking letters k })))
+    ≡ touchWidth letters * k + (digitsBelow (suc k) - 1)
+touches-length letters k h =
+    let z : 0 + k ≡ k = omega arith in
+    let same : (t : ℕ) → 0 ≤ t → t < 0 + k → marksOf (marking letters k) t ≡ letters = λ t _ l. marking-same letters k t (omega arith) in
+    omega (arith, rw z at (touches-long letters (marksOf (marking letters k)) k 0 same (omega arith)))
 
 -- the length of such a value's text, by its counts, in form 1 and in a later form
 filled-first : (n m k : ℕ) → m ≤ mostRows → n ≤ 10000 → length (sheetText (filled 1 n m k))
@@ -428,18 +487,17 @@ filled-first n m k h g =
 filled-later : (form n m k : ℕ) → leb 2 form ≡ true → m ≤ mostRows → n ≤ 10000 → k < 10000 → length (sheetText (filled form n m k))
     ≡ length (numberText formKey form)
     + (11 + (6 + (length (numberText segsKey n) + (n * 10 + (length (numberText rowsKey m) + (m * 16 + warmestLength (leb 3 form) n)))))
-    + (length (numberText stepsKey k) + (length (numberText refsKey k) + (9 * k + (digitsBelow (suc k) - 1)))))
+    + (length (numberText stepsKey k) + (length (numberText refsKey k) + (touchWidth (leb 4 form) * k + (digitsBelow (suc k) - 1)))))
 unfolding filled
 filled-later form n m k e h g l =
-    let z : 0 + k ≡ k = omega arith in
-    let t : length (touchesText (touchesOf (replicate k 255))) ≡ 9 * k + (digitsBelow (suc k) - 1) = omega (arith, rw z at (touches-long k 0 (omega arith))) in
+    let entries = entriesIn (filled form n m k) in
     later-length (filled form n m k) e
     ∙ (ap (λ x. length (numberText formKey form) + (x + (length (numberText stepsKey (length {A = ℕ} (replicate k 255)))
-    + (length (numberText refsKey (length (touchesOf (replicate k 255)))) + length (touchesText (touchesOf (replicate k 255)))))))
+    + (length (numberText refsKey (length (touchesOf entries))) + length (touchesText (touchesOf entries))))))
     (filled-head form n m k h g)
-    ∙ rw (length-replicate {A = ℕ} k 255, touches-each k 0, t))
+    ∙ rw (length-replicate {A = ℕ} k 255, touches-each (marksOf (marking (leb 4 form) k)) k 0, touches-length (leb 4 form) k l))
 
--- the largest sheet of form 1 has 20,012 bytes, that of form 2 has 29,163, and that of form 3 has 31,366
+-- the largest sheet of form 1 has 20,012 bytes, that of form 2 has 29,163, that of form 3 has 31,366, and that of form 4 has 33,414
 pub largest-first : length (sheetText (largest 1)) ≡ formBytes 1
 unfolding largest warmestLength written writtenIn
 largest-first = filled-first mostSegs mostRows mostSteps (omega arith) (omega arith)
@@ -451,3 +509,20 @@ largest-second = filled-later 2 mostSegs mostRows mostSteps refl (omega arith) (
 pub largest-third : length (sheetText (largest 3)) ≡ formBytes 3
 unfolding largest warmestLength written writtenIn
 largest-third = filled-later 3 mostSegs mostRows mostSteps refl (omega arith) (omega arith) (omega arith)
+
+pub largest-fourth : length (sheetText (largest 4)) ≡ formBytes 4
+unfolding largest warmestLength written writtenIn
+largest-fourth = filled-later 4 mostSegs mostRows mostSteps refl (omega arith) (omega arith) (omega arith)
+
+-- so the largest sheet of each form is as long as a sheet of the form may be
+pub largest-form : (form : ℕ) → largest form .form ≡ form
+unfolding largest filled
+largest-form form = refl
+
+pub largest-length : (form : ℕ) → 1 ≤ form → form ≤ newestForm → length (sheetText (largest form)) ≡ formBytes form
+largest-length zero l h = absurd (omega arith)
+largest-length (suc zero) l h = largest-first
+largest-length (suc (suc zero)) l h = largest-second
+largest-length (suc (suc (suc zero))) l h = largest-third
+largest-length (suc (suc (suc (suc zero)))) l h = largest-fourth
+largest-length (suc (suc (suc (suc (suc k))))) l h = absurd (omega arith)

@@ -70,6 +70,14 @@ split-forth c (b ∷ x) y e =
     let (n, r) = both (not (eqb b c)) (lacks c x) e in
     rw (not-true (eqb b c) n, split-forth c x y r)
 
+-- what lacks a byte is not split at it
+pub split-none : (c : ℕ) (x : List ℕ) → lacks c x ≡ true → splitAt c x ≡ none
+unfolding splitAt
+split-none c [] e = refl
+split-none c (b ∷ x) e =
+    let (n, r) = both (not (eqb b c)) (lacks c x) e in
+    rw (not-true (eqb b c) n, split-none c x r)
+
 -- the parts with a byte in front are parts with it in front
 before-parts : (b : ℕ) (p : Split) (x y : List ℕ) → andBefore b p ≡ parts x y → (x′ : List ℕ) × (p ≡ parts x′ y) × (x ≡ b ∷ x′)
 before-parts b (parts x′ y′) x y e = (x′, (cc), (cc))

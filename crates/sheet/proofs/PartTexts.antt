@@ -11,9 +11,10 @@ use Rattle.lines.specs.Texts.{lineText, numberText, linesText}
 use Rattle.lines.proofs.Runs.{lines-append, lines-map}
 use Rattle.model.specs.Sheets.{HeadValue, SheetValue}
 use Rattle.model.specs.declared.PriceRow.{PriceRow}
-use Rattle.sheet.specs.Order.{sizesPart, pricesPart, warmPart, warmFor, tablesPart, headPart, refsPart, stepsPart, entriesPart, runPart, bodyPart, formLines, sheetPart}
+use Rattle.sheet.specs.Order.{sizesPart, pricesPart, warmPart, warmFor, tablesPart, headPart}
+use Rattle.sheet.specs.Order.{refsPart, plainPart, stepsPart, entriesPart, runPart, bodyPart, formLines, sheetPart}
 use Rattle.sheet.specs.Parts.{Line, textOf}
-use Rattle.sheet.specs.Touches.{touchWord, touchesText, touchesOf}
+use Rattle.sheet.specs.Touches.{Entries, touchWord, touchesText, touchesOf}
 use Rattle.sheet.specs.Values.{rowWord, rowText}
 use Rattle.sheet.specs.Writing.{sheetText}
 
@@ -56,11 +57,17 @@ pub refs-text : (segs : ℕ) (xs : List ℕ)
 unfolding refsPart
 refs-text segs xs = counted-text refsKey refKey written xs
 
--- steps=, refs= and the touches of form 2
-pub steps-text : (segs : ℕ) (xs : List ℕ) → textOf (stepsPart segs .lines xs)
-    ≡ numberText stepsKey (length xs) ++ (numberText refsKey (length (touchesOf xs)) ++ touchesText (touchesOf xs))
+-- as the entries of form 1
+pub plain-text : (segs : ℕ) (e : Entries)
+    → textOf (plainPart segs .lines e) ≡ numberText refsKey (length (e .refs)) ++ linesText (numberText refKey) (e .refs)
+unfolding plainPart
+plain-text segs e = rw (append-nil (refsPart segs .lines (e .refs))) (refs-text segs (e .refs))
+
+-- steps=, refs= and the touches of form 2 on
+pub steps-text : (letters : Bool) (segs : ℕ) (e : Entries) → textOf (stepsPart letters segs .lines e)
+    ≡ numberText stepsKey (length (e .refs)) ++ (numberText refsKey (length (touchesOf e)) ++ touchesText (touchesOf e))
 unfolding stepsPart linesText
-steps-text segs xs = rw (lines-map lineOf (λ x. (refKey, touchWord x)) (touchesOf xs))
+steps-text letters segs e = rw (lines-map lineOf (λ x. (refKey, touchWord x)) (touchesOf e))
 
 -- the head
 pub head-text : (taken later : Bool) (h : HeadValue) → textOf (headPart taken later .lines h)
@@ -74,16 +81,21 @@ head-text taken later h =
     (warmFor later (length (h .sizes)) .lines (h .warm))
 
 -- the text of the entries of a form
-unfoldable pub entriesText : ℕ → HeadValue → List ℕ → List ℕ
-entriesText form head refs = textOf (entriesPart (leb 2 form) (length (head .sizes)) .lines refs)
+unfoldable pub entriesText : ℕ → HeadValue → Entries → List ℕ
+entriesText form head e = textOf (entriesPart (leb 2 form) (leb 4 form) (length (head .sizes)) .lines e)
+
+-- the entries of a sheet's value
+abbrev pub entriesIn : SheetValue → Entries
+entriesIn v = record { refs = v .refs; marks = v .marks }
 
 -- the whole
 pub sheet-text : (v : SheetValue)
     → sheetText v
-    ≡ textOf (formLines (v .form)) ++ (textOf (headPart true (leb 3 (v .form)) .lines (v .head)) ++ entriesText (v .form) (v .head) (v .refs))
+    ≡ textOf (formLines (v .form))
+    ++ (textOf (headPart true (leb 3 (v .form)) .lines (v .head)) ++ entriesText (v .form) (v .head) (entriesIn v))
 unfolding sheetText sheetPart bodyPart runPart headPart entriesText
 sheet-text v =
+    let entries = entriesPart (leb 2 (v .form)) (leb 4 (v .form)) (length (v .head .sizes)) .lines (entriesIn v) in
     lines-append lineOf (formLines (v .form)) _
     ∙ ap (λ t. textOf (formLines (v .form)) ++ t)
-    (rw (append-nil (entriesPart (leb 2 (v .form)) (length (v .head .sizes)) .lines (v .refs)))
-    (lines-append lineOf (headPart true (leb 3 (v .form)) .lines (v .head)) (entriesPart (leb 2 (v .form)) (length (v .head .sizes)) .lines (v .refs))))
+    (rw (append-nil entries) (lines-append lineOf (headPart true (leb 3 (v .form)) .lines (v .head)) entries))

@@ -22,9 +22,10 @@ use Rattle.model.specs.declared.Refusal.{Refusal}
 use Rattle.model.specs.declared.Refusal.the-variants.{SheetTooLong, LineMalformed, ValueMalformed, OutOfRange, ThresholdNotAbove, BytesAfterEnd, StepNotAbove, HoldNotAbove}
 use Rattle.sheet.specs.Lines.{Parsed, read, refused, andThen, Split, parts, none as unsplit, splitAt, sameBytes, afterKey, ofLine}
 use Rattle.sheet.specs.Lines.{valueLine, inRange, numberLine, numberLines}
-use Rattle.sheet.specs.Order.{sizesPart, pricesPart, warmPart, warmFor, tablesPart, headPart, refsPart, stepsPart, entriesPart, runPart, bodyPart, sheetPart}
+use Rattle.sheet.specs.Order.{sizesPart, pricesPart, warmPart, warmFor, tablesPart, headPart}
+use Rattle.sheet.specs.Order.{refsPart, plainPart, stepsPart, entriesPart, runPart, bodyPart, sheetPart}
 use Rattle.sheet.specs.Reading.{sheetLines, namedForm, Outcome, accepted, rejected, atEnd, readForms, readSheet}
-use Rattle.sheet.specs.Touches.{Touch, touchParts, touchLine, touchLines, entriesFrom, entryLines}
+use Rattle.sheet.specs.Touches.{stepPart, touchOf, touchParts, touchLine, touchLines, entriesOf, entryLines}
 use Rattle.sheet.specs.Warm.{aboveHold, holdAfter, holdLine, holdLines}
 use Rattle.sheet.specs.Values.{kindOf, kindLine, above, inPrices, rowParts, rowLine, rowLines}
 use Rattle.sheet.proofs.Accepted.{accepted-valid}
@@ -126,18 +127,21 @@ row-refuses prev s = stepping (valueLine rowKey s) _ (line-refuses rowKey s) λ 
         no-value
     go unsplit rest = no-value
 
--- the line ref= of form 2
-touch-refuses : (segs steps before : ℕ) (s : List ℕ) → Refuses (touchLine segs steps before s)
+-- the line ref= of form 2 on
+touch-refuses : (letters : Bool) (segs steps before : ℕ) (s : List ℕ) → Refuses (touchLine letters segs steps before s)
 unfolding touchLine
-touch-refuses segs steps before s = stepping (valueLine refKey s) _ (line-refuses refKey s) λ v rest. go (splitAt atSign v) rest
+touch-refuses letters segs steps before s = stepping (valueLine refKey s) _ (line-refuses refKey s) λ v rest. go (splitAt atSign v) rest
   where
-    go : (p : Split) (rest : List ℕ) → Refuses (touchParts segs steps before p rest)
-    go (parts x y) rest =
+    of : (x y : List ℕ) (modifies : Bool) (rest : List ℕ) → Refuses (touchOf segs steps before x y modifies rest)
+    of x y modifies rest =
         testing (isNumber x && isNumber y) _ _
         (testing (ltb (value x) segs) _ _
         (testing (ltb before (value y) && leb (value y) steps) _ _ (reading _ rest) (refusing StepNotAbove (inr (inl refl))))
         beyond)
         no-value
+
+    go : (p : Split) (rest : List ℕ) → Refuses (touchParts letters segs steps before p rest)
+    go (parts x y) rest = of x (stepPart letters y .0) (stepPart letters y .1) rest
     go unsplit rest = no-value
 
 -- the line hold=
@@ -168,12 +172,12 @@ rows-refuse n s = rw (row-lines n none s) (lines-refuse rowLine row-refuses n no
 holds-refuse : (segs n : ℕ) (s : List ℕ) → Refuses (holdLines segs n none s)
 holds-refuse segs n s = rw (hold-lines segs n none s) (lines-refuse (holdLine segs) (hold-refuses segs) n none s)
 
-touches-refuse : (segs steps n : ℕ) (s : List ℕ) → Refuses (entryLines segs steps n s)
-touches-refuse segs steps n s =
-    stepping (touchLines segs steps n 0 s) _
-    (rw (touch-lines segs steps n none s)
-    (lines-refuse (λ p. touchLine segs steps (stepOf p)) (λ p. touch-refuses segs steps (stepOf p)) n none s))
-    (λ xs rest. reading (entriesFrom 0 steps xs) rest)
+touches-refuse : (letters : Bool) (segs steps n : ℕ) (s : List ℕ) → Refuses (entryLines letters segs steps n s)
+touches-refuse letters segs steps n s =
+    stepping (touchLines letters segs steps n 0 s) _
+    (rw (touch-lines letters segs steps n none s)
+    (lines-refuse (λ p. touchLine letters segs steps (stepOf p)) (λ p. touch-refuses letters segs steps (stepOf p)) n none s))
+    (λ xs rest. reading (entriesOf letters steps xs) rest)
 
 -- the warm segments
 warm-refuses : (later : Bool) (segs : ℕ) (s : List ℕ) → Refuses (warmFor later segs .reads s)
@@ -195,20 +199,23 @@ head-refuses taken later s =
     reading _ s₅
 
 -- the entries
-entries-refuse : (later : Bool) (segs : ℕ) (s : List ℕ) → Refuses (entriesPart later segs .reads s)
-unfolding refsPart stepsPart
-entries-refuse true segs s =
+entries-refuse : (later letters : Bool) (segs : ℕ) (s : List ℕ) → Refuses (entriesPart later letters segs .reads s)
+unfolding refsPart plainPart stepsPart
+entries-refuse true letters segs s =
     stepping (numberLine stepsKey 0 mostSteps s) _ (number-refuses stepsKey 0 mostSteps s) λ steps s₁.
-    stepping (numberLine refsKey 0 steps s₁) _ (number-refuses refsKey 0 steps s₁) (touches-refuse segs steps)
-entries-refuse false segs s =
-    stepping (numberLine refsKey 0 mostSteps s) _ (number-refuses refsKey 0 mostSteps s) (numbers-refuse refKey 0 (segs - 1))
+    stepping (numberLine refsKey 0 steps s₁) _ (number-refuses refsKey 0 steps s₁) (touches-refuse letters segs steps)
+entries-refuse false letters segs s =
+    stepping (refsPart segs .reads s) _
+    (stepping (numberLine refsKey 0 mostSteps s) _ (number-refuses refsKey 0 mostSteps s) (numbers-refuse refKey 0 (segs - 1))) λ refs s₁.
+    reading _ s₁
 
 -- and the lines of a sheet
 body-refuses : (lo form : ℕ) (s : List ℕ) → Refuses (bodyPart lo form .reads s)
 unfolding bodyPart runPart
 body-refuses lo form s =
     stepping (headPart (leb lo form) (leb 3 form) .reads s) _ (head-refuses (leb lo form) (leb 3 form) s) λ head s₁.
-    stepping (entriesPart (leb 2 form) (length (head .sizes)) .reads s₁) _ (entries-refuse (leb 2 form) (length (head .sizes)) s₁) λ refs s₂.
+    stepping (entriesPart (leb 2 form) (leb 4 form) (length (head .sizes)) .reads s₁) _
+    (entries-refuse (leb 2 form) (leb 4 form) (length (head .sizes)) s₁) λ e s₂.
     reading _ s₂
 
 pub sheet-refuses : (lo hi : ℕ) (s : List ℕ) → Refuses (sheetLines lo hi s)

@@ -2,7 +2,7 @@
 -- Assumes nothing.
 use Prim.Native.Nat.{ℕ, suc, _+_, _-_, _≤_, max}
 use mathlib.Core.Path.{_≡_, refl, sym, ap, subst, _∙_}
-use mathlib.Core.Bool.{Bool, true, false, cond}
+use mathlib.Core.Bool.{Bool, true, false, cond, false≢true}
 use mathlib.Core.List.{List, [], _∷_, _++_, append-assoc, append-nil, map}
 use mathlib.Core.Option.{Option, none}
 use native.Mathlib.Nat.{sub-zero}
@@ -13,24 +13,26 @@ use lib.ListN.{length, take}
 use Rattle.decimal.specs.Decimal.{written}
 use Rattle.lines.specs.Keys.{lineFeed, formKey, kindKey, aKey, segsKey, sizeKey, rowsKey, rowKey, warmKey, holdKey, stepsKey, refsKey, refKey, kindWord}
 use Rattle.lines.specs.Texts.{lineText, numberText, linesText}
-use Rattle.lines.proofs.Runs.{Each, lines-map, lines-append}
-use Rattle.model.specs.Sheets.{HeadValue, SheetValue, idle, newestForm, largestA, mostSegs, largestSize, mostRows, mostSteps}
+use Rattle.lines.proofs.Runs.{Each, lines-map}
+use Rattle.model.specs.Sheets.{HeadValue, SheetValue, idle, marksOf, newestForm, largestA, mostSegs, largestSize, mostRows, mostSteps}
 use Rattle.model.specs.declared.Kind.{Kind}
 use Rattle.model.specs.declared.Kind.the-variants.{Time, Space}
 use Rattle.model.specs.declared.Refusal.the-variants.{LineMalformed, OutOfRange}
 use Rattle.sheet.specs.Lines.{read, refused, andThen, splitAt, sameBytes, afterKey, valueLine, numberLine}
 use Rattle.sheet.specs.Order.{kindFor, numberPart, numbersPart, rowsPart, holdsPart, sizesPart, pricesPart, warmPart, warmFor, tablesPart, headPart}
-use Rattle.sheet.specs.Order.{refsPart, touchesPart, stepsPart, entriesPart, runPart, bodyPart, formLines, sheetPart, linesOf}
+use Rattle.sheet.specs.Order.{refsPart, plainPart, touchesPart, stepsPart, entriesPart}
+use Rattle.sheet.specs.Order.{runPart, bodyPart, formLines, sheetPart, linesOf}
 use Rattle.sheet.specs.Parts.{Line, textOf}
 use Rattle.sheet.specs.Reading.{sheetLines, formIn, namedForm}
-use Rattle.sheet.specs.Touches.{touchWord, touchesText, touchLines, touchesFrom, touchesOf, entriesFrom, entryLines}
+use Rattle.sheet.specs.Touches.{Touch, Entries, touchWord, touchesText, touchLines, touchesFrom, touchesOf, entriesOf, entryLines}
 use Rattle.sheet.specs.Values.{kindLine, rowLine, rowWord, rowText}
 use Rattle.sheet.specs.Warm.{holdLine}
 use Rattle.sheet.specs.Writing.{sheetText}
 use Rattle.sheet.proofs.Parsing.{by-test, passed, then-read, Reads, lacks}
 use Rattle.sheet.proofs.PartsKept.{Kept, reads-as, line-kept, lines-kept, whole-kept, then-kept}
 use Rattle.sheet.proofs.Runs.{lines-reads, number-lines, row-lines, hold-lines}
-use Rattle.sheet.proofs.Touches.{EntryFits, touches-reads, touches-back, entries-back, entries-length, entries-fit, touches-fit}
+use Rattle.sheet.proofs.Touches.{EntryFits, MarksFit, touches-reads, touches-fit, touches-again, entries-again}
+use Rattle.sheet.proofs.Touches.{placed-length, entries-fit, marks-letter, marks-fit}
 use Rattle.sheet.proofs.Words.{number-reads, kind-reads, row-reads, hold-reads, RowFits, HoldFits}
 
 -- a number lo to hi, whatever stands before it
@@ -59,6 +61,7 @@ pub record Readable (lo hi : ℕ) (v : SheetValue) : Type 0 where
   pub prices-fit : Each RowFits none (v .head .rows)
   pub warm-fits : WarmFits (leb 3 (v .form)) (length (v .head .sizes)) (v .head .warm)
   pub entries-fit : EntriesFit (leb 2 (v .form)) (length (v .head .sizes)) (v .refs)
+  pub marks-fit : MarksFit (leb 4 (v .form)) (length (v .head .sizes)) (v .refs) (v .marks)
 
 -- ---- the parts
 
@@ -124,65 +127,96 @@ refs-kept : (segs : ℕ) → Kept (refsPart segs) (Counted 0 mostSteps (From 0 (
 unfolding refsPart
 refs-kept segs = then-kept (number-kept refsKey 0 mostSteps refl) (λ n _. numbers-kept refKey 0 (segs - 1) n refl) (λ n xs f g. g .0)
 
+-- the entries of form 1
+plain-kept : (segs : ℕ) → Kept (plainPart segs)
+    (λ e. Counted 0 mostSteps (From 0 (segs - 1)) (e .refs) × (e ≡ record { refs = e .refs; marks = [] }))
+unfolding plainPart
+plain-kept segs =
+    then-kept (refs-kept segs) (λ refs _. whole-kept (record { refs = refs; marks = [] })) (λ refs e f g. ap (λ (w : Entries). w .refs) g)
+
+-- what n lines of touches ask of entries and marks
+abbrev TouchesFit : Bool → ℕ → ℕ → ℕ → Entries → Type 0
+TouchesFit letters segs steps n e =
+    (length (e .refs) ≡ steps)
+    × ((length (touchesOf e) ≡ n) × (Each (EntryFits segs) none (e .refs) × MarksFit letters segs (e .refs) (e .marks)))
+
 -- n lines of touches, where an idle entry is no segment
-touches-kept : (segs steps n : ℕ) → segs ≤ idle
-    → Kept (touchesPart segs steps n) (λ xs. (length xs ≡ steps) × ((length (touchesOf xs) ≡ n) × Each (EntryFits segs) none xs))
-touches-kept segs steps n h = record { both = record { forth = forth; back = back } }
+touches-kept : (letters : Bool) (segs steps n : ℕ) → segs ≤ idle → Kept (touchesPart letters segs steps n) (TouchesFit letters segs steps n)
+touches-kept letters segs steps n h = record { both = record { forth = forth; back = back } }
   where
-    text : (xs : List ℕ) → textOf (map (λ x. (refKey, touchWord x)) (touchesOf xs)) ≡ touchesText (touchesOf xs)
-    text xs = lines-map (λ (l : Line). lineText (l .0) (l .1)) (λ x. (refKey, touchWord x)) (touchesOf xs)
+    lines : Entries → List Line
+    lines e = map (λ x. (refKey, touchWord x)) (touchesOf e)
 
-    forth : (xs rest : List ℕ) → (length xs ≡ steps) × ((length (touchesOf xs) ≡ n) × Each (EntryFits segs) none xs)
-        → entryLines segs steps n (textOf (map (λ x. (refKey, touchWord x)) (touchesOf xs)) ++ rest) ≡ read xs rest
-    forth xs rest (l, (k, c)) =
-        let e : 0 + length xs ≡ steps = omega (arith, l) in
-        let f = touches-reads segs steps n .forth (touchesOf xs) rest
-        (k, touches-fit segs steps xs none none 0 (omega arith) (omega (arith, l)) c) in
-        rw (text xs, f) (ap (λ ys. read ys rest) (ap (λ m. entriesFrom 0 m (touchesOf xs)) (sym e) ∙ entries-back xs 0))
+    text : (e : Entries) → textOf (lines e) ≡ touchesText (touchesOf e)
+    text e = lines-map (λ (l : Line). lineText (l .0) (l .1)) (λ x. (refKey, touchWord x)) (touchesOf e)
 
-    back : (s xs rest : List ℕ) → entryLines segs steps n s ≡ read xs rest
-        → (s ≡ textOf (map (λ x. (refKey, touchWord x)) (touchesOf xs)) ++ rest)
-        × ((length xs ≡ steps) × ((length (touchesOf xs) ≡ n) × Each (EntryFits segs) none xs))
-    back s xs rest e =
-        then-read (touchLines segs steps n 0 s) _ xs rest e λ ts mid e₁ e₂.
-        let (t, (k, c)) = touches-reads segs steps n .back s ts mid e₁ in
-        let q : entriesFrom 0 steps ts ≡ xs = cc in
+    forth : (e : Entries) (rest : List ℕ) → TouchesFit letters segs steps n e
+        → entryLines letters segs steps n (textOf (lines e) ++ rest) ≡ read e rest
+    forth e rest (l, (k, (c, m))) =
+        let w = marks-letter letters segs (e .refs) (e .marks) m in
+        let t = touches-fit letters segs steps (marksOf (e .marks)) w (e .refs) none none 0 (omega arith) (omega (arith, l)) c in
+        rw (text e, touches-reads letters segs steps n .forth (touchesOf e) rest (k, t))
+        (ap (λ x. read x rest) (ap (λ i. entriesOf letters i (touchesOf e)) (sym l) ∙ entries-again letters segs h e m))
+
+    back : (s : List ℕ) (e : Entries) (rest : List ℕ) → entryLines letters segs steps n s ≡ read e rest
+        → (s ≡ textOf (lines e) ++ rest) × TouchesFit letters segs steps n e
+    back s e rest p =
+        then-read (touchLines letters segs steps n 0 s) _ e rest p λ ts mid e₁ e₂.
+        let (t, (k, c)) = touches-reads letters segs steps n .back s ts mid e₁ in
+        let q : entriesOf letters steps ts ≡ e = cc in
         let m : mid ≡ rest = cc in
-        let o : touchesOf xs ≡ ts = ap touchesOf (sym q) ∙ touches-back segs steps h ts none c in
-        let l = entries-length segs steps ts none (omega arith) c in
-        rw (text xs, o) (t ∙ rw m, (ap length (sym q) ∙ (l ∙ sub-zero steps), (k, rw q at (entries-fit segs steps ts none none c))))
+        let o : touchesOf e ≡ ts = ap touchesOf (sym q) ∙ touches-again letters segs steps h ts c in
+        let l = placed-length idle (λ x. x .segment) letters segs steps ts none (omega arith) c in
+        rw (text e, o) (
+          t ∙ rw m,
+          (
+            ap (λ (x : Entries). length (x .refs)) (sym q) ∙ (l ∙ sub-zero steps),
+            (
+              k,
+              subst (λ x. Each (EntryFits segs) none (x .refs) × MarksFit letters segs (x .refs) (x .marks)) q
+                  (entries-fit letters segs steps ts none none c, marks-fit letters segs steps ts c),
+            ),
+          ),
+        )
 
 -- steps=, refs= and the touches
-steps-kept : (segs : ℕ) → segs ≤ idle → Kept (stepsPart segs)
-    (λ xs. ((0 ≤ length xs) × (length xs ≤ mostSteps)) × (((0 ≤ length (touchesOf xs)) × (length (touchesOf xs) ≤ length xs))
-    × ((length xs ≡ length xs) × ((length (touchesOf xs) ≡ length (touchesOf xs)) × Each (EntryFits segs) none xs))))
+steps-kept : (letters : Bool) (segs : ℕ) → segs ≤ idle → Kept (stepsPart letters segs)
+    (λ e. ((0 ≤ length (e .refs)) × (length (e .refs) ≤ mostSteps))
+    × (((0 ≤ length (touchesOf e)) × (length (touchesOf e) ≤ length (e .refs)))
+    × TouchesFit letters segs (length (e .refs)) (length (touchesOf e)) e))
 unfolding stepsPart
-steps-kept segs h =
+steps-kept letters segs h =
     then-kept (number-kept stepsKey 0 mostSteps refl)
     (λ steps _. then-kept (number-kept refsKey 0 steps refl)
-    (λ n _. touches-kept segs steps n h)
-    (λ n xs f g. g .1 .0))
-    (λ steps xs f g. g .1 .0)
+    (λ n _. touches-kept letters segs steps n h)
+    (λ n e f g. g .1 .0))
+    (λ steps e f g. g .1 .0)
 
 -- touches are no more than entries
-touches-few : (xs : List ℕ) (before : ℕ) → length (touchesFrom before xs) ≤ length xs
+touches-few : (m : ℕ → Bool) (xs : List ℕ) (before : ℕ) → length (touchesFrom m before xs) ≤ length xs
 unfolding touchesFrom
-touches-few [] before = omega arith
-touches-few (x ∷ xs) before = go (eqb x idle) (touches-few xs (suc before))
+touches-few m [] before = omega arith
+touches-few m (x ∷ xs) before = go (eqb x idle) (touches-few m xs (suc before))
   where
-    go : (b : Bool) → length (touchesFrom (suc before) xs) ≤ length xs
-        → length (cond b (touchesFrom (suc before) xs) (record { segment = x; step = suc before } ∷ touchesFrom (suc before) xs)) ≤ suc (length xs)
+    later : List Touch
+    later = touchesFrom m (suc before) xs
+
+    go : (b : Bool) → length later ≤ length xs
+        → length (cond b later (record { segment = x; step = suc before; modifies = m before } ∷ later)) ≤ suc (length xs)
     go true l = omega (arith, l)
     go false l = omega (arith, l)
 
--- the entries of a form
-entries-kept : (later : Bool) (segs : ℕ) → segs ≤ idle → Kept (entriesPart later segs) (EntriesFit later segs)
-entries-kept true segs h = record {
-  both = reads-as (steps-kept segs h .both) (λ xs f. (f .0 .1, f .1 .1 .1 .1))
-      (λ xs f. ((omega arith, f .0), ((omega arith, touches-few xs 0), (refl, (refl, f .1)))));
+-- the entries of a form; one with the letter is no form 1
+entries-kept : (later letters : Bool) (segs : ℕ) → (letters ≡ true → later ≡ true) → segs ≤ idle → Kept (entriesPart later letters segs)
+    (λ e. EntriesFit later segs (e .refs) × MarksFit letters segs (e .refs) (e .marks))
+entries-kept true letters segs w h = record {
+  both = reads-as (steps-kept letters segs h .both) (λ e f. ((f .0 .1, f .1 .1 .1 .1 .0), f .1 .1 .1 .1 .1))
+      (λ e f. ((omega arith, f .0 .0), ((omega arith, touches-few (marksOf (e .marks)) (e .refs) 0), (refl, (refl, (f .0 .1, f .1))))));
 }
-entries-kept false segs h = record {
-  both = reads-as (refs-kept segs .both) (λ xs f. (f .0 .1, f .1 .1)) (λ xs f. ((omega arith, f .0), (refl, f .1)));
+entries-kept false true segs w h = absurd (false≢true (w refl))
+entries-kept false false segs w h = record {
+  both = reads-as (plain-kept segs .both) (λ e f. ((f .0 .0 .1, f .0 .1 .1), ap (λ (w : Entries). w .marks) (f .1)))
+      (λ e f. (((omega arith, f .0 .0), (refl, f .0 .1)), rw (f .1)));
 }
 
 -- kind= of a sheet whose form is taken
@@ -246,17 +280,21 @@ head-segs taken later s h rest e = head-kept taken later .both .back s h rest e 
 -- the head, and then the entries
 abbrev BodyFits : ℕ → ℕ → SheetValue → Type 0
 BodyFits lo form v =
-    HeadFits (leb lo form) (leb 3 form) (v .head) × (EntriesFit (leb 2 form) (length (v .head .sizes)) (v .refs)
-    × (v ≡ record { form = form; head = v .head; refs = v .refs }))
+    HeadFits (leb lo form) (leb 3 form) (v .head)
+    × ((EntriesFit (leb 2 form) (length (v .head .sizes)) (v .refs) × MarksFit (leb 4 form) (length (v .head .sizes)) (v .refs) (v .marks))
+    × (v ≡ record { form = form; head = v .head; refs = v .refs; marks = v .marks }))
 
 body-kept : (lo form : ℕ) → Kept (bodyPart lo form) (BodyFits lo form)
 unfolding bodyPart runPart
 body-kept lo form =
     then-kept (head-kept (leb lo form) (leb 3 form))
-    (λ head f. then-kept (entries-kept (leb 2 form) (length (head .sizes)) (omega (arith, f .1 .1 .0 .0 .1)))
-    (λ refs _. whole-kept (record { form = form; head = head; refs = refs }))
-    (λ refs v f g. ap (λ (w : SheetValue). w .refs) g))
+    (λ head f. then-kept (entries-kept (leb 2 form) (leb 4 form) (length (head .sizes)) with-letters (omega (arith, f .1 .1 .0 .0 .1)))
+    (λ e _. whole-kept (record { form = form; head = head; refs = e .refs; marks = e .marks }))
+    (λ e v f g. ap (λ (w : SheetValue). record { refs = w .refs; marks = w .marks }) g))
     (λ head v f g. ap (λ (w : SheetValue). w .head) (g .1))
+  where
+    with-letters : leb 4 form ≡ true → leb 2 form ≡ true
+    with-letters e = le-leb 2 form (omega (arith, leb-true 4 form e))
 
 -- ---- the sheet
 
@@ -268,7 +306,7 @@ lines-same lo hi v = refl
 module _ (lo hi : ℕ) where
   -- the fits of the parts are those of the record
   to : (v : SheetValue) → 1 ≤ v .form → (2 ≤ v .form → v .form ≤ hi) → BodyFits lo (v .form) v → Readable lo hi v
-  to v some known (h, (r, e)) =
+  to v some known (h, ((r, m), e)) =
       let (t, (a, (s, (q, (w, i))))) = h in
       record {
         some-form = some;
@@ -281,6 +319,7 @@ module _ (lo hi : ℕ) where
         prices-fit = q .1 .1;
         warm-fits = w;
         entries-fit = r;
+        marks-fit = m;
       }
 
   from : (v : SheetValue) → Readable lo hi v → BodyFits lo (v .form) v
@@ -289,7 +328,7 @@ module _ (lo hi : ℕ) where
       le-leb lo (v .form) (c .form-taken),
       (c .a-fits, ((c .segs-fit, (refl, c .sizes-fit)), ((c .rows-fit, (refl, c .prices-fit)), (c .warm-fits, refl)))),
     ),
-    (c .entries-fit, refl),
+    ((c .entries-fit, c .marks-fit), refl),
   )
 
   -- a body begins with its key and not with that of a form
@@ -376,18 +415,22 @@ unfolding numberLine valueLine splitAt afterKey
 kind-no-form Time rest = refl
 kind-no-form Space rest = refl
 
-body-no-form : (form : ℕ) (v : SheetValue) → numberLine formKey 2 newestForm (textOf (bodyPart 1 form .lines v)) ≡ refused LineMalformed
+body-no-form : (form : ℕ) (v : SheetValue) (rest : List ℕ)
+    → numberLine formKey 2 newestForm (textOf (bodyPart 1 form .lines v) ++ rest) ≡ refused LineMalformed
 unfolding bodyPart headPart linesText
-body-no-form form v = kind-no-form (v .head .kind) _
+body-no-form form v rest =
+    ap (λ s. numberLine formKey 2 newestForm s) (append-assoc (lineText kindKey (kindWord (v .head .kind))) _ rest)
+    ∙ kind-no-form (v .head .kind) _
 
--- the form of a form line, and 1 where there is none
-pub named-later : (v : SheetValue) → leb 2 (v .form) ≡ true → v .form ≤ newestForm → namedForm (sheetText v) ≡ v .form
+-- the form of a form line, and 1 where there is none, whatever follows the text
+pub named-later : (v : SheetValue) (rest : List ℕ) → leb 2 (v .form) ≡ true → v .form ≤ newestForm → namedForm (sheetText v ++ rest) ≡ v .form
 unfolding namedForm sheetText sheetPart
-named-later v e h =
-    ap (λ s. formIn (numberLine formKey 2 newestForm s)) (sym (append-nil _) ∙ later-text 1 newestForm v [] e)
-    ∙ ap formIn (number-reads formKey 2 newestForm refl .forth (v .form) (textOf (bodyPart 1 (v .form) .lines v) ++ []) (leb-true 2 (v .form) e, h))
+named-later v rest e h =
+    let body = textOf (bodyPart 1 (v .form) .lines v) in
+    ap (λ s. formIn (numberLine formKey 2 newestForm s)) (later-text 1 newestForm v rest e)
+    ∙ ap formIn (number-reads formKey 2 newestForm refl .forth (v .form) (body ++ rest) (leb-true 2 (v .form) e, h))
 
-pub named-first : (v : SheetValue) → leb 2 (v .form) ≡ false → namedForm (sheetText v) ≡ 1
+pub named-first : (v : SheetValue) (rest : List ℕ) → leb 2 (v .form) ≡ false → namedForm (sheetText v ++ rest) ≡ 1
 unfolding namedForm sheetText sheetPart
-named-first v e =
-    ap (λ s. formIn (numberLine formKey 2 newestForm s)) (first-text 1 newestForm v e) ∙ ap formIn (body-no-form (v .form) v)
+named-first v rest e =
+    ap (λ s. formIn (numberLine formKey 2 newestForm (s ++ rest))) (first-text 1 newestForm v e) ∙ ap formIn (body-no-form (v .form) v rest)

@@ -1,9 +1,9 @@
 -- How long lines are whose numbers ascend, those of touches and of warm segments: the numbers below n have as many digits together as
 -- `digitsBelow n` says, where n is at most 10,000. Assumes nothing.
-use Prim.Native.Nat.{ℕ, zero, suc, _+_, _-_, _*_, _≤_, _<_}
+use Prim.Native.Nat.{ℕ, suc, _+_, _-_, _*_, _≤_, _<_}
 use mathlib.Core.Path.{_≡_, refl}
 use mathlib.Core.Logic.{_⊎_, inl, inr, ⊎-elim}
-use mathlib.Core.Bool.{Bool, true, false}
+use mathlib.Core.Bool.{Bool, true, false, cond, false≢true}
 use mathlib.Core.List.{List, [], _∷_}
 use mathlib.Core.Option.{Option, none, some}
 use native.Mathlib.Nat.{add-le-add}
@@ -13,11 +13,11 @@ use lib.Dec.{ltb}
 use lib.ListN.{length, length-append}
 use Rattle.decimal.specs.Decimal.{written}
 use Rattle.decimal.proofs.Written.{written-some, written-length, written-longer}
-use Rattle.lines.specs.Keys.{holdKey}
+use Rattle.lines.specs.Keys.{markLetter, holdKey}
 use Rattle.lines.specs.Texts.{numberText, linesText}
 use Rattle.lines.proofs.Lengths.{line-length}
 use Rattle.lines.proofs.Runs.{Each}
-use Rattle.sheet.specs.Touches.{Touch, touchText, touchesText}
+use Rattle.sheet.specs.Touches.{Touch, stepWord, touchText, touchesText}
 use Rattle.sheet.specs.Warm.{aboveHold}
 use Rattle.sheet.proofs.Touches.{stepOf, TouchFits}
 use Rattle.sheet.proofs.Words.{HoldFits}
@@ -67,20 +67,39 @@ ascending-within at text F w top f (x ∷ xs) prev l (h, c) =
     let (n, m) = ascending-within at text F w top f xs (some x) u c in
     (omega (arith, a, n), rw length-append (omega (arith, m, d)))
 
--- the line of a touch: its two numbers, and six bytes
-pub touch-length : (x : Touch) → length (touchText x) ≡ 6 + (length (written (x .segment)) + length (written (x .step)))
-touch-length x = simp length-append (omega arith)
+-- a step that is written, and the letter
+pub step-length : (modifies : Bool) (step : ℕ) → length (stepWord modifies step) ≡ length (written step) + cond modifies 1 0
+step-length true step = length-append (written step) (markLetter ∷ [])
+step-length false step = omega arith
 
--- touches of at most 1,000 segments: each line has at most 9 bytes and its step's digits
-pub touches-within : (segs steps : ℕ) → segs ≤ 1000 → steps < 10000 → (xs : List Touch) → Each (TouchFits segs steps) none xs
-    → (length xs ≤ steps) × (length (touchesText xs) ≤ 9 * length xs + (digitsBelow (suc steps) - 1))
-touches-within segs steps g h xs c =
-    let (n, m) = ascending-within (λ p. suc (stepOf p)) touchText (TouchFits segs steps) 9 (suc steps) fits xs none (omega arith) c in
+-- the line of a touch: its two numbers, the letter where it modifies, and six bytes
+pub touch-length : (x : Touch)
+    → length (touchText x) ≡ 6 + (length (written (x .segment)) + (length (written (x .step)) + cond (x .modifies) 1 0))
+touch-length x = simp length-append (omega (arith, step-length (x .modifies) (x .step)))
+
+-- the most bytes of such a line, but for the digits of its step: one more in a form with the letter
+abbrev pub touchWidth : Bool → ℕ
+touchWidth letters = cond letters 10 9
+
+-- a letter stands in such a form alone
+letter-within : (letters modifies : Bool) → (modifies ≡ true → letters ≡ true) → 9 + cond modifies 1 0 ≤ touchWidth letters
+letter-within true true h = omega arith
+letter-within true false h = omega arith
+letter-within false true h = absurd (false≢true (h refl))
+letter-within false false h = omega arith
+
+-- touches of at most 1,000 segments
+pub touches-within : (letters : Bool) (segs steps : ℕ) → segs ≤ 1000 → steps < 10000 → (xs : List Touch)
+    → Each (TouchFits letters segs steps) none xs
+    → (length xs ≤ steps) × (length (touchesText xs) ≤ touchWidth letters * length xs + (digitsBelow (suc steps) - 1))
+touches-within letters segs steps g h xs c =
+    let F = TouchFits letters segs steps in
+    let (n, m) = ascending-within (λ p. suc (stepOf p)) touchText F (touchWidth letters) (suc steps) fits xs none (omega arith) c in
     (omega (arith, n), omega (arith, m))
   where
-    fits : (prev : Option Touch) (x : Touch) → TouchFits segs steps prev x
+    fits : (prev : Option Touch) (x : Touch) → TouchFits letters segs steps prev x
         → (suc (stepOf prev) < suc (x .step)) × (suc (x .step) ≤ suc steps)
-        × (length (touchText x) + digitsBelow (suc (stepOf prev)) ≤ 9 + digitsBelow (suc (x .step)))
+        × (length (touchText x) + digitsBelow (suc (stepOf prev)) ≤ touchWidth letters + digitsBelow (suc (x .step)))
     fits prev x f = (
       omega (arith, f .step-above),
       omega (arith, f .step-within),
@@ -88,6 +107,7 @@ touches-within segs steps g h xs c =
         arith,
         digits-above (suc (stepOf prev)) (x .step) (f .step-above) (omega (arith, f .step-within)),
         written-length 2 (x .segment) (omega (arith, f .segment-below)),
+        letter-within letters (x .modifies) (f .letter),
       )),
     )
 

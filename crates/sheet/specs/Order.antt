@@ -7,14 +7,15 @@ use mathlib.Core.Option.{none}
 use lib.Dec.{leb}
 use lib.ListN.{length, take}
 use Rattle.decimal.specs.Decimal.{written}
-use Rattle.lines.specs.Keys.{formKey, kindKey, aKey, segsKey, sizeKey, rowsKey, rowKey, warmKey, holdKey, stepsKey, refsKey, refKey, kindWord}
+use Rattle.lines.specs.Keys.{formKey, kindKey, aKey, segsKey, sizeKey, rowsKey, rowKey, warmKey, holdKey}
+use Rattle.lines.specs.Keys.{stepsKey, refsKey, refKey, kindWord}
 use Rattle.model.specs.Sheets.{HeadValue, SheetValue, largestA, mostSegs, largestSize, mostRows, mostSteps, newestForm}
 use Rattle.model.specs.declared.Kind.{Kind}
 use Rattle.model.specs.declared.PriceRow.{PriceRow}
 use Rattle.model.specs.declared.Refusal.the-variants.{OutOfRange}
 use Rattle.sheet.specs.Lines.{read, refused, andThen, sameBytes, numberLine, numberLines}
 use Rattle.sheet.specs.Parts.{Line, Part, whole, then, counted}
-use Rattle.sheet.specs.Touches.{touchWord, touchesOf, entryLines}
+use Rattle.sheet.specs.Touches.{Entries, touchWord, touchesOf, entryLines}
 use Rattle.sheet.specs.Values.{kindLine, rowLines, rowWord}
 use Rattle.sheet.specs.Warm.{holdLines}
 
@@ -81,26 +82,31 @@ headPart taken later =
 unfoldable pub refsPart : ℕ → Part (List ℕ)
 refsPart segs = counted (numberPart refsKey 0 mostSteps) (numbersPart refKey 0 (segs - 1))
 
--- n lines ref= of form 2, segment and step, as the entries of the steps
-abbrev pub touchesPart : ℕ → ℕ → ℕ → Part (List ℕ)
-touchesPart segs steps n = record { lines = λ xs. map (λ x. (refKey, touchWord x)) (touchesOf xs); reads = entryLines segs steps n }
+-- the entries of form 1: it has no marks
+unfoldable pub plainPart : ℕ → Part Entries
+plainPart segs = then (refsPart segs) (λ e. e .refs) λ refs. whole (record { refs = refs; marks = [] })
 
--- steps=, refs= and the touches of form 2
-unfoldable pub stepsPart : ℕ → Part (List ℕ)
-stepsPart segs =
-    then (numberPart stepsKey 0 mostSteps) length λ steps.
-    then (numberPart refsKey 0 steps) (λ xs. length (touchesOf xs)) λ n.
-    touchesPart segs steps n
+-- n lines ref= of form 2 on, segment and step, as the entries of the steps and, in a form that has the letter, their marks
+abbrev pub touchesPart : Bool → ℕ → ℕ → ℕ → Part Entries
+touchesPart letters segs steps n =
+    record { lines = λ e. map (λ x. (refKey, touchWord x)) (touchesOf e); reads = entryLines letters segs steps n }
 
--- the entries of a sheet of form 1, or of form 2 on
-abbrev pub entriesPart : Bool → ℕ → Part (List ℕ)
-entriesPart later segs = cond later (stepsPart segs) (refsPart segs)
+-- steps=, refs= and the touches of form 2 on
+unfoldable pub stepsPart : Bool → ℕ → Part Entries
+stepsPart letters segs =
+    then (numberPart stepsKey 0 mostSteps) (λ e. length (e .refs)) λ steps.
+    then (numberPart refsKey 0 steps) (λ e. length (touchesOf e)) λ n.
+    touchesPart letters segs steps n
+
+-- the entries of a sheet of form 1, or of form 2 on; form 4 has the letter w
+abbrev pub entriesPart : Bool → Bool → ℕ → Part Entries
+entriesPart later letters segs = cond later (stepsPart letters segs) (plainPart segs)
 
 -- the entries of a sheet of a form, after its head
 unfoldable pub runPart : ℕ → HeadValue → Part SheetValue
 runPart form head =
-    then (entriesPart (leb 2 form) (length (head .sizes))) (λ v. v .refs) λ refs.
-    whole (record { form = form; head = head; refs = refs })
+    then (entriesPart (leb 2 form) (leb 4 form) (length (head .sizes))) (λ v. record { refs = v .refs; marks = v .marks }) λ e.
+    whole (record { form = form; head = head; refs = e .refs; marks = e .marks })
 
 -- the lines after the form line: the head, then the entries. A call takes forms from lo on
 unfoldable pub bodyPart : ℕ → ℕ → Part SheetValue

@@ -9,9 +9,9 @@ ghost use Prim.Native.Nat.{_*_, _^_, _≤_, _<_};
 ghost use lib.ListN.{length};
 ghost use Rattle.model.specs.Costs.{swapCost};
 ghost use Rattle.model.specs.Schedules.{held, Permitted};
-ghost use Rattle.model.specs.Sheets.{mostSegs, mostSteps};
+ghost use Rattle.model.specs.Sheets.{mostSegs, mostSteps, marksOf};
 ghost use Rattle.model.specs.Traces.{Trace};
-ghost use Rattle.stores.specs.Stores.{marksOf, storesOf};
+ghost use Rattle.stores.specs.Stores.{storesOf};
 ghost use Rattle.storeprice.specs.inner.Passing.{heldAfter, noFlags, SizedAs};
 
 // No segment is modified.

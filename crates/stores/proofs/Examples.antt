@@ -6,7 +6,7 @@ use mathlib.Core.Bool.{Bool, true, false, _&&_}
 use mathlib.Core.List.{List, [], _∷_, _++_}
 use lib.Dec.{eqb}
 use lib.ListN.{getD, replicate}
-use Rattle.model.specs.Sheets.{listed, runOf}
+use Rattle.model.specs.Sheets.{listed, runOf, marksOf}
 use Rattle.model.specs.Sums.{sum, tabulate}
 use Rattle.model.specs.Traces.{Trace, steps, touching, later, unreferenced}
 use Rattle.model.specs.Figures.{misses, volume, load, optmem, opttotal, kept, refCost}
@@ -14,7 +14,7 @@ use Rattle.model.specs.Schedules.{held, scheduleMemory, scheduleLoad, nextKept}
 use Rattle.model.specs.Decisions.{heldByte, heldBytes}
 use Rattle.model.specs.declared.Kind.{Kind}
 use Rattle.model.specs.declared.Kind.the-variants.{Time, Space}
-use Rattle.stores.specs.Stores.{marksOf, dirty, storesOf, storesAtEnds, markedLoad, markedTotal}
+use Rattle.stores.specs.Stores.{dirty, storesOf, storesAtEnds, markedLoad, markedTotal}
 use Rattle.stores.specs.Stores.{sinceMark, storeCost, modAdded, modtotal, joined, nextMarked, modHeld, modSchedule}
 
 -- a step: a touch, a touch that modifies, or none

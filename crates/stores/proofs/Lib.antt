@@ -11,3 +11,4 @@ pub mod Reached
 pub mod Tight
 pub mod Unique
 pub mod Unmarked
+pub mod Within

@@ -5,17 +5,12 @@ use Prim.Native.Nat.{ℕ, zero, suc, _+_, _-_, _*_, min}
 use mathlib.Core.Bool.{Bool, false, cond, not, _&&_, _||_}
 use mathlib.Core.List.{List}
 use mathlib.Core.Option.{Option, none, some}
-use lib.ListN.{getD}
 use Rattle.model.specs.Costs.{keeps, totalCost}
 use Rattle.model.specs.Sums.{sum}
 use Rattle.model.specs.Traces.{Trace, steps, touched, swapOf, overTouches, overSegments}
 use Rattle.model.specs.Figures.{retentionOf, opttotal}
 use Rattle.model.specs.Schedules.{held, scheduleMemory, scheduleLoad, nextKept}
 use Rattle.model.specs.Decisions.{heldBytes}
-
--- the marks of a list with one for each step
-abbrev pub marksOf : List Bool → ℕ → Bool
-marksOf marks t = getD marks t false
 
 -- the step at place t touches segment i and modifies it; a mark on a step without a touch says nothing
 abbrev pub modifies : Trace → (ℕ → Bool) → ℕ → ℕ → Bool

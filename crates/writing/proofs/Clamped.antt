@@ -19,9 +19,10 @@ abbrev pub clampedHead : Head → ℕ → ℕ → ℕ → HeadValue
 clampedHead h segs rows warm =
     record { kind = h .kind; a = h .a; sizes = take segs (h .sizes); rows = take rows (h .prices); warm = take warm (h .holds) }
 
--- the value of a sheet by another count of steps
-abbrev pub clamped : Sheet → ℕ → SheetValue
-clamped s steps = record { form = s .form; head = headValueOf (s .head); refs = take steps (s .touches) }
+-- the value of a sheet by another count of steps and of marks
+abbrev pub clamped : Sheet → ℕ → ℕ → SheetValue
+clamped s steps marked =
+    record { form = s .form; head = headValueOf (s .head); refs = take steps (s .touches); marks = take marked (s .marks) }
 
 -- the first n elements are the first of n and the length
 take-min : {A : Type 0} (xs : List A) (n m most : ℕ) → length xs ≡ most → m ≡ min n most → take m xs ≡ take n xs
@@ -47,6 +48,8 @@ head-clamped h segs rows warm i j k d e f =
     )
 
 -- and a sheet's
-pub value-clamped : (s : Sheet) (steps : ℕ) → length (s .touches) ≡ 2048 → steps ≡ min (s .steps) 2048 → clamped s steps ≡ valueOf s
+pub value-clamped : (s : Sheet) (steps marked : ℕ) → length (s .touches) ≡ 2048 → length (s .marks) ≡ 2048 → steps ≡ min (s .steps) 2048
+    → marked ≡ min (s .marked) 2048 → clamped s steps marked ≡ valueOf s
 unfolding valueOf
-value-clamped s steps k f = rw (take-min (s .touches) (s .steps) steps 2048 k f)
+value-clamped s steps marked j k e f =
+    rw (take-min (s .touches) (s .steps) steps 2048 j e, take-min (s .marks) (s .marked) marked 2048 k f)

@@ -12,13 +12,13 @@ use Rattle.model.specs.declared.PriceRow.{PriceRow}
 use Rattle.decimal.specs.Decimal.{written}
 use Rattle.lines.specs.Keys.{formKey, kindKey, aKey, segsKey, sizeKey, rowsKey, warmKey, holdKey, stepsKey, refsKey, refKey, kindWord}
 use Rattle.writing.specs.inner.Parts.{numbersText, rowsText, countedText, formText, segmentsText, pricedText, warmText, headText}
-use Rattle.writing.specs.inner.Parts.{stepsText, runText}
+use Rattle.writing.specs.inner.Parts.{touchesWith, stepsText, runText}
 use Rattle.lines.specs.Texts.{lineText, numberText, linesText}
 use Rattle.sheet.specs.Order.{warmPart, warmFor, formLines, headPart, entriesPart}
 use Rattle.sheet.specs.Parts.{textOf}
-use Rattle.sheet.specs.Touches.{touchesOf, touchesText}
+use Rattle.sheet.specs.Touches.{Entries, touchesOf, touchesText}
 use Rattle.sheet.specs.Writing.{sheetText}
-use Rattle.sheet.proofs.PartTexts.{sizes-text, prices-text, warm-text, refs-text, steps-text, head-text, entriesText, sheet-text}
+use Rattle.sheet.proofs.PartTexts.{sizes-text, prices-text, warm-text, plain-text, steps-text, head-text, entriesText, entriesIn, sheet-text}
 
 -- the lines from kind= to the sizes
 pub segments-length : (kind : Kind) (a : ℕ) (sizes : List ℕ) → length (segmentsText kind a sizes)
@@ -42,11 +42,12 @@ pub head-length : (form : ℕ) (h : HeadValue) → length (headText form h)
 unfolding headText
 head-length form h = simp length-append
 
--- the lines of the entries of form 2
-pub steps-length : (xs : List ℕ) → length (stepsText xs)
-    ≡ length (numberText stepsKey (length xs)) + (length (numberText refsKey (length (touchesOf xs))) + length (touchesText (touchesOf xs)))
+-- the lines of the entries of form 2 on
+pub steps-length : (xs : List ℕ) (marks : List Bool) → length (stepsText xs marks)
+    ≡ length (numberText stepsKey (length xs))
+    + (length (numberText refsKey (length (touchesWith xs marks))) + length (touchesText (touchesWith xs marks)))
 unfolding stepsText
-steps-length xs = simp length-append
+steps-length xs marks = simp length-append
 
 -- by the form: with a form line, warm segments and steps, or without
 module _ (form : ℕ) where
@@ -66,13 +67,13 @@ module _ (form : ℕ) where
   unfolding warmText
   warm-first xs e = rw e
 
-  pub run-later : (xs : List ℕ) → leb 2 form ≡ true → runText form xs ≡ stepsText xs
+  pub run-later : (xs : List ℕ) (marks : List Bool) → leb 2 form ≡ true → runText form xs marks ≡ stepsText xs marks
   unfolding runText
-  run-later xs e = rw e
+  run-later xs marks e = rw e
 
-  pub run-first : (xs : List ℕ) → leb 2 form ≡ false → runText form xs ≡ countedText refsKey refKey xs
+  pub run-first : (xs : List ℕ) (marks : List Bool) → leb 2 form ≡ false → runText form xs marks ≡ countedText refsKey refKey xs
   unfolding runText
-  run-first xs e = rw e
+  run-first xs marks e = rw e
 
 -- the form line
 form-text : (form : ℕ) → textOf (formLines form) ≡ formText form
@@ -109,21 +110,24 @@ heads form h =
     ((numberText rowsKey (length (h .rows)) ++ rowsText (h .rows)) ++ warmText form (h .warm)))
 
 -- the entries
-runs : (form : ℕ) (h : HeadValue) (xs : List ℕ) → entriesText form h xs ≡ runText form xs
+runs : (form : ℕ) (h : HeadValue) (e : Entries) → entriesText form h e ≡ runText form (e .refs) (e .marks)
 unfolding entriesText runText stepsText
-runs form h xs = go (leb 2 form)
+runs form h e = go (leb 2 form)
   where
-    go : (b : Bool) → textOf (entriesPart b (length (h .sizes)) .lines xs)
-        ≡ cond b (numberText stepsKey (length xs) ++ (numberText refsKey (length (touchesOf xs)) ++ touchesText (touchesOf xs)))
-        (countedText refsKey refKey xs)
-    go true = steps-text (length (h .sizes)) xs
-    go false = refs-text (length (h .sizes)) xs
+    go : (b : Bool) → textOf (entriesPart b (leb 4 form) (length (h .sizes)) .lines e)
+        ≡ cond b
+        (numberText stepsKey (length (e .refs)) ++ (numberText refsKey (length (touchesOf e)) ++ touchesText (touchesOf e)))
+        (countedText refsKey refKey (e .refs))
+    go true = steps-text (leb 4 form) (length (h .sizes)) e
+    go false = plain-text (length (h .sizes)) e
 
 -- the whole
-pub text-parts : (v : SheetValue) → formText (v .form) ++ (headText (v .form) (v .head) ++ runText (v .form) (v .refs)) ≡ sheetText v
-text-parts v = rw (sheet-text v, form-text (v .form), heads (v .form) (v .head), runs (v .form) (v .head) (v .refs))
+pub text-parts : (v : SheetValue)
+    → formText (v .form) ++ (headText (v .form) (v .head) ++ runText (v .form) (v .refs) (v .marks)) ≡ sheetText v
+text-parts v =
+    rw (sheet-text v, form-text (v .form), heads (v .form) (v .head), runs (v .form) (v .head) (entriesIn v))
 
 -- and its length
 pub parts-length : (v : SheetValue) → length (sheetText v)
-    ≡ length (formText (v .form)) + (length (headText (v .form) (v .head)) + length (runText (v .form) (v .refs)))
+    ≡ length (formText (v .form)) + (length (headText (v .form) (v .head)) + length (runText (v .form) (v .refs) (v .marks)))
 parts-length v = rw (← text-parts v) (simp length-append)

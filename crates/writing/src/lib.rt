@@ -125,12 +125,12 @@ fn priced_length(prices: [PriceRow; Sheet::MAX_ROWS], n: usize) -> usize
 }
 
 // The length of the lines of the entries of a form.
-fn run_length(form: u8, entries: &[u16]) -> usize
+fn run_length(form: u8, entries: &[u16], marks: &[bool]) -> usize
     requires { ⌜ length (now entries) ≤ mostSteps ⌝ }
-    ensures { λ r. ⌜ (r ≡ length (runText form (now (entries .entry)))) × (r ≤ 63541) ⌝ }
+    ensures { λ r. ⌜ (r ≡ length (runText form (now (entries .entry)) (now (marks .entry)))) × (r ≤ 65589) ⌝ }
 {
     if 2 <= form {
-        return touches::steps_length(entries);
+        return touches::steps_length(entries, marks);
     }
     counted_length(b"refs=", b"ref=", entries)
 }
@@ -255,12 +255,12 @@ fn put_priced(prices: [PriceRow; Sheet::MAX_ROWS], n: usize, out: &mut [u8], at:
 }
 
 // Writes the lines of the entries of a form, and gives the index after them.
-fn put_run(form: u8, entries: &[u16], out: &mut [u8], at: usize) -> usize
-    requires { ⌜ (length (now entries) ≤ mostSteps) × (at + length (runText form (now entries)) ≤ length (now out)) ⌝ }
-    ensures { λ r. ⌜ Put (runText form (now (entries .entry))) at (now (out .entry)) r (now (out .exit)) ⌝ }
+fn put_run(form: u8, entries: &[u16], marks: &[bool], out: &mut [u8], at: usize) -> usize
+    requires { ⌜ (length (now entries) ≤ mostSteps) × (at + length (runText form (now entries) (now marks)) ≤ length (now out)) ⌝ }
+    ensures { λ r. ⌜ Put (runText form (now (entries .entry)) (now (marks .entry))) at (now (out .entry)) r (now (out .exit)) ⌝ }
 {
     if 2 <= form {
-        return touches::put_steps(entries, out, at);
+        return touches::put_steps(entries, marks, out, at);
     }
     put_counted(b"refs=", b"ref=", entries, out, at)
 }
@@ -295,27 +295,52 @@ fn put_head(form: u8, head: Head, out: &mut [u8], at: usize) -> usize
 
 // ---- the sheet
 
-// The bytes of a sheet into a lent place: the text of the sheet's value, then the old contents; refusal 11 and no change where the
-// place is shorter.
-// It is so for every Sheet, also one put together by hand: a count beyond its array counts the whole array, the lines of form 2 are
-// written where the form is 2 or more, and those of form 3 where it is 3 or more.
-pub fn write(sheet: Sheet, out: &mut [u8]) -> PlaceAnswer
-    ensures { λ r. ⌜ PlaceLeft (gives (sheetText (valueOf sheet))) (now (out .entry)) (now (out .exit)) r ⌝ }
+// The length of the text of a sheet.
+fn text_length(sheet: Sheet) -> usize
+    ensures { λ r. ⌜ r ≡ length (sheetText (valueOf sheet)) ⌝ }
 {
     let form = sheet.form;
     let head = sheet.head;
     let touches = sheet.touches;
     let steps = least(sheet.steps, touches.len());
-    let length = form_length(form) + head_length(form, head) + run_length(form, &touches[..steps]);
+    let marks = sheet.marks;
+    let marked = least(sheet.marked, marks.len());
+    form_length(form)
+        + head_length(form, head)
+        + run_length(form, &touches[..steps], &marks[..marked])
+}
+
+// Writes the text of a sheet at the front of `out`, and gives the index after it.
+fn put_sheet(sheet: Sheet, out: &mut [u8]) -> usize
+    requires { ⌜ length (sheetText (valueOf sheet)) ≤ length (now out) ⌝ }
+    ensures { λ r. ⌜ Put (sheetText (valueOf sheet)) 0 (now (out .entry)) r (now (out .exit)) ⌝ }
+{
+    let form = sheet.form;
+    let head = sheet.head;
+    let touches = sheet.touches;
+    let steps = least(sheet.steps, touches.len());
+    let marks = sheet.marks;
+    let marked = least(sheet.marked, marks.len());
+    let first = put_form(form, out);
+    let run = put_head(form, head, out, first);
+    put_run(form, &touches[..steps], &marks[..marked], out, run)
+}
+
+// The bytes of a sheet into a lent place: the text of the sheet's value, then the old contents; refusal 11 and no change where the
+// place is shorter.
+// It is so for every Sheet, also one put together by hand: a count beyond its array counts the whole array, the lines of form 2 are
+// written where the form is 2 or more, those of form 3 where it is 3 or more, and letters w where there are marks.
+pub fn write(sheet: Sheet, out: &mut [u8]) -> PlaceAnswer
+    ensures { λ r. ⌜ PlaceLeft (gives (sheetText (valueOf sheet))) (now (out .entry)) (now (out .exit)) r ⌝ }
+{
+    let length = text_length(sheet);
     if out.len() < length {
         return PlaceAnswer {
             verdict: Verdict::Refused(Refusal::PlaceTooShort),
             length: 0,
         };
     }
-    let first = put_form(form, out);
-    let run = put_head(form, head, out, first);
-    put_run(form, &touches[..steps], out, run);
+    put_sheet(sheet, out);
     PlaceAnswer {
         verdict: Verdict::Accepted,
         length,

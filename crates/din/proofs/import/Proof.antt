@@ -1,5 +1,6 @@
 -- `import` meets its contract: the refusal with the empty sheet, or the sheet of the segments found. Assumes nothing.
 use borrow.Author.Needs.{needs}
+use Rattle.model.specs.Values.{blankMarks}
 use Rattle.din.proofs.Answers.{import-few, import-refused, import-taken}
 use Rattle.din.proofs.import.Statement.{statement}
 use Rattle.din.proofs.import.Tie as tie
@@ -13,6 +14,7 @@ returns c =
     import-refused _ _ _ (v .before .before .trace .ensures) _ _ (v .verdict .given .1) _ (c .empty .ensures)
 
 returns-2 : tie.Need-returns-2
+unfolding blankMarks
 returns-2 c =
     let z = c .before in
     let o = z .before .before in

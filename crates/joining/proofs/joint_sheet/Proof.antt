@@ -2,6 +2,7 @@
 use mathlib.Core.Path.{sym}
 use native.Mathlib.Omega.{arith}
 use lib.Seq.{length-take-le}
+use Rattle.model.specs.Values.{blankMarks}
 use Rattle.joining.proofs.Held.{sheet-held, entries-within, heads-fit}
 use Rattle.joining.proofs.joint_sheet.Statement.{statement}
 use Rattle.joining.proofs.joint_sheet.Tie as tie
@@ -44,6 +45,7 @@ joint-touches-requires c κs =
     )
 
 returns : tie.Need-returns
+unfolding blankMarks
 returns c =
     let l = c .before .before .before .before .before in
     let h = l .before .before in

@@ -29,10 +29,10 @@ returns c =
     let s = c .before in
     sym
     (rows-unlike (take (s .args .m) (s .args .t1)) (take (s .args .n) (s .args .t3))
-    (λ same. c .if1 .taken (omega (arith, first-count s, second-count s))))
+    (λ same. absurd (omega (arith, first-count s, second-count s, same, c .if1 .taken))))
 
 loop-holds : tie.Need-loop-holds Inv-loop μ-loop
-loop-holds c = (c .if1 .left, omega arith, refl)
+loop-holds c = (omega (arith, c .if1 .left), omega arith, refl)
 
 returns-2 : tie.Need-returns-2 Inv-loop μ-loop
 returns-2 c =

@@ -6,9 +6,8 @@ use lib.ListN.{length, getD}
 use denote.Ref.{now}
 use borrow.Author.Needs.{needs}
 use Rattle.model.specs.Traces.{Trace}
-use Rattle.model.specs.Sheets.{runOf}
+use Rattle.model.specs.Sheets.{runOf, marksOf}
 use Rattle.model.proofs.LastTouches.{startTable-is}
-use Rattle.stores.specs.Stores.{marksOf}
 use Rattle.modpass.proofs.Adding.{Adding, adding-start, adding-touch, adding-idle, adding-small, adding-end}
 use Rattle.modpass.proofs.Tables.{tables-small}
 use Rattle.modpass.proofs.stores.Statement.{statement}

@@ -6,9 +6,8 @@ use lib.ListN.{length, getD}
 use denote.Ref.{now}
 use borrow.Author.Needs.{needs}
 use Rattle.model.specs.Traces.{Trace}
-use Rattle.model.specs.Sheets.{runOf}
+use Rattle.model.specs.Sheets.{runOf, marksOf}
 use Rattle.model.proofs.LastTouches.{startTable-is}
-use Rattle.stores.specs.Stores.{marksOf}
 use Rattle.modplan.proofs.Finding.{Finding, finding-start, finding-touch, finding-idle, finding-end}
 use Rattle.modpass.proofs.Tables.{tables-small}
 use Rattle.modplan.proofs.find.Statement.{statement}

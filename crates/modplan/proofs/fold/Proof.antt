@@ -5,7 +5,7 @@ use native.Mathlib.Omega.{arith}
 use lib.ListN.{getD}
 use denote.Ref.{now}
 use borrow.Author.Needs.{needs}
-use Rattle.stores.specs.Stores.{marksOf}
+use Rattle.model.specs.Sheets.{marksOf}
 use Rattle.modplan.proofs.Folding.{Folding, folding-start, folding-touch, folding-idle, folding-end}
 use Rattle.modplan.proofs.fold.Statement.{statement}
 use Rattle.modplan.proofs.fold.Tie as tie

@@ -3,8 +3,7 @@
 use mathlib.Core.Path.{refl}
 use denote.Ref.{now}
 use borrow.Author.Needs.{needs}
-use Rattle.model.specs.Sheets.{runOf}
-use Rattle.stores.specs.Stores.{marksOf}
+use Rattle.model.specs.Sheets.{runOf, marksOf}
 use Rattle.modplan.proofs.Folding.{folded-decides}
 use Rattle.modplan.proofs.mod_decisions.Statement.{statement}
 use Rattle.modplan.proofs.mod_decisions.Tie as tie

@@ -7,8 +7,7 @@ use lib.ListN.{length, drop}
 use lib.Seq.{length-take-le}
 use denote.Ref.{now}
 use borrow.Author.Needs.{needs}
-use Rattle.model.specs.Sheets.{runOf}
-use Rattle.stores.specs.Stores.{marksOf}
+use Rattle.model.specs.Sheets.{runOf, marksOf}
 use Rattle.modplan.proofs.Folding.{decides-schedule}
 use Rattle.modplan.proofs.write_modified.Statement.{statement}
 use Rattle.modplan.proofs.write_modified.Tie as tie

@@ -1,12 +1,17 @@
--- `plans::sheet_price` meets its contract: the row is tested, and the schedule is priced by the sheet's value. Assumes nothing.
+-- `plans::sheet_price` meets its contract: the row is tested, and the schedule is priced by the sheet's value, with its stores where
+-- there are marks. Assumes nothing.
 use Prim.Native.Nat.{_<_}
-use mathlib.Core.Path.{sym, _∙_}
+use mathlib.Core.Path.{_≡_, sym, _∙_}
 use native.Mathlib.Omega.{arith}
 use borrow.Author.Needs.{needs}
 use lib.Seq.{length-take-le}
+use Rattle.model.specs.Sheets.{traceOf, rowAt}
 use Rattle.model.specs.Values.{headValueOf, valueOf}
-use Rattle.plans.proofs.PlanResults.{price-no-row, price-at}
 use Rattle.model.proofs.Standing.{rows-counted, row-of}
+use Rattle.pricing.specs.Checking.{priceAnswer}
+use Rattle.plans.specs.Plans.{pricedAt, priceFor}
+use Rattle.plans.proofs.PlanResults.{price-no-row, price-at}
+use Rattle.plans.proofs.Prices.{marks-empty, plain-at}
 use Rattle.plans.proofs.sheet_price.Statement.{statement}
 use Rattle.plans.proofs.sheet_price.Tie as tie
 
@@ -46,14 +51,43 @@ price-requires : tie.Need-price-requires
 unfolding valueOf headValueOf
 price-requires c κs = let s = Entry (c .before .before .before) in s .pre .valid .run
 
-returns-2 : tie.Need-returns-2
+-- the price without stores, by the sheet's value
+plain : (c : tie.After-price) → let s = Entry (c .before .before .before .before) in
+    c .price .result
+    ≡ priceAnswer (traceOf (valueOf (s .args .s))) (rowAt (valueOf (s .args .s)) (s .args .row) .h)
+    (rowAt (valueOf (s .args .s)) (s .args .row) .d) (s .args .schedule .now)
 unfolding valueOf headValueOf
-returns-2 c =
+plain c =
+    let s = Entry (c .before .before .before .before) in
+    let l : s .args .row < s .args .s .head .rows = omega (arith, Found (c .before .before .before .before) .if1 .left) in
+    rw (row-of (s .args .s) (s .pre) (s .args .row) l) (c .price .ensures)
+
+-- and what is answered by it, at a row that there is
+at-row : (c : tie.After-price) → let s = Entry (c .before .before .before .before) in
+    pricedAt (valueOf (s .args .s)) (s .args .row) (s .args .schedule .now)
+    ≡ priceFor (valueOf (s .args .s)) (s .args .row) (s .args .schedule .now)
+at-row c =
     let s = Entry (c .before .before .before .before) in
     let n = rows-counted (s .args .s) (s .pre) in
-    let l : s .args .row < s .args .s .head .rows = omega (arith, Found (c .before .before .before .before) .if1 .left) in
-    let p = price-at (valueOf (s .args .s)) (s .args .row) (s .args .schedule .now) (omega arith) in
-    c .price .ensures ∙ sym (rw (row-of (s .args .s) (s .pre) (s .args .row) l) at p)
+    sym (price-at (valueOf (s .args .s)) (s .args .row) (s .args .schedule .now)
+    (omega (arith, n, Found (c .before .before .before .before) .if1 .left)))
+
+returns-2 : tie.Need-returns-2
+returns-2 c =
+    let q = c .before .before in
+    let s = Entry (q .before .before .before .before) in
+    plain q
+    ∙ plain-at (valueOf (s .args .s)) (s .args .row) (s .args .schedule .now) (marks-empty (s .args .s) (c .if2 .taken))
+    ∙ at-row q
+
+with-stores-requires : tie.Need-with-stores-requires
+with-stores-requires c κs =
+    let q = c .before .before in
+    let s = Entry (q .before .before .before .before) in
+    ((s .pre, omega (arith, Found (q .before .before .before .before) .if1 .left), omega (arith, c .if2 .left)), plain q)
+
+returns-3 : tie.Need-returns-3
+returns-3 c = c .with-stores .ensures ∙ at-row (c .before .before .before)
 
 pub sheet-price-spec : {M : Type 1} → statement M
 sheet-price-spec =
@@ -70,4 +104,6 @@ sheet-price-spec =
     array-share-prefix-touches
     slice-aggregate-price-3
     price-requires
-    returns-2)
+    returns-2
+    with-stores-requires
+    returns-3)

@@ -1,9 +1,11 @@
 -- `plans::sheet_schedule` meets its contract: the row and the room are tested, and the optimal schedule of the sheet's value is
 -- written. Assumes nothing.
-use Prim.Native.Nat.{_<_}
+use Prim.Native.Nat.{_*_, _≤_, _<_}
 use mathlib.Core.Path.{sym, _∙_}
 use native.Mathlib.Omega.{arith}
 use borrow.Author.Needs.{needs}
+use borrow.Author.Tests.{ltb-true, ltb-false}
+use lib.ListN.{length}
 use lib.Seq.{length-take-le}
 use Rattle.model.specs.Values.{headValueOf, valueOf}
 use Rattle.plans.proofs.PlanResults.{schedule-no-row, schedule-short, schedule-placed}
@@ -20,19 +22,27 @@ returns c =
 
 returns-2 : tie.Need-returns-2
 returns-2 c =
-    let s = c .before .before .before .before .before .before in
+    let t = c .before .before in
+    let s = t .before .before .before .before .before in
     let n = rows-counted (s .args .s) (s .pre) in
     let m = steps-counted (s .args .s) (s .pre) in
+    let less = ltb-true (length (s .args .out .now)) _ (sym (t .too-short .ensures) ∙ c .before .if2 .taken) in
     rw (c .refused2 .ensures)
-    (schedule-short (valueOf (s .args .s)) (s .args .row) (s .args .out .now)
-    (omega (arith, c .before .before .before .if1 .left)) (omega (arith, c .before .if2 .taken)))
+    (schedule-short (valueOf (s .args .s)) (s .args .row) (s .args .out .now) (omega (arith, t .before .before .if1 .left))
+    (omega (arith, less)))
 
 -- where the row and the room were tested, and where the function begins
 abbrev Fits : tie.After-write-optimal-arg → tie.Else2
 Fits c = c .before .before .before .before .before
 
 abbrev Entry : tie.After-write-optimal-arg → tie.Start
-Entry c = Fits c .before .before .before .before .before
+Entry c = Fits c .before .before .before .before .before .before
+
+-- the place is long enough
+room : (c : tie.After-write-optimal-arg) → 32 * Entry c .args .s .steps ≤ length (Entry c .args .out .now)
+room c =
+    let e = Fits c in
+    ltb-false (length (Entry c .args .out .now)) _ (sym (e .before .too-short .ensures) ∙ e .if2 .left)
 
 array-share-prefix-sizes : tie.Need-array-share-prefix-sizes
 array-share-prefix-sizes c = omega (arith, Entry c .pre)
@@ -55,9 +65,10 @@ slice-aggregate-write-optimal-3 c = sym (length-take-le _ _ (omega (arith, Entry
 write-optimal-requires : tie.Need-write-optimal-requires
 unfolding valueOf headValueOf
 write-optimal-requires c κs =
-    let s = Entry (c .before .before .before .before) in
+    let b = c .before .before .before .before in
+    let s = Entry b in
     let m = steps-counted (s .args .s) (s .pre) in
-    (s .pre .valid .run, omega (arith, Fits (c .before .before .before .before) .if2 .left))
+    (s .pre .valid .run, omega (arith, m, room b))
 
 of-steps-requires : tie.Need-of-steps-requires
 of-steps-requires c κs = omega (arith, Entry (c .before .before .before .before .before .before .before) .pre)
@@ -68,13 +79,13 @@ length-requires c κs = omega (arith, c .of-steps .ensures, Entry (c .before .be
 returns-3 : tie.Need-returns-3
 unfolding valueOf headValueOf
 returns-3 c =
-    let e = Fits (c .before .before .before .before .before .before .before .before .before) in
-    let s = Entry (c .before .before .before .before .before .before .before .before .before) in
+    let b = c .before .before .before .before .before .before .before .before .before in
+    let s = Entry b in
     let v = valueOf (s .args .s) in
     let n = rows-counted (s .args .s) (s .pre) in
     let m = steps-counted (s .args .s) (s .pre) in
-    let l : s .args .row < s .args .s .head .rows = omega (arith, e .before .before .if1 .left) in
-    let p = schedule-placed v (s .args .row) (s .args .out .now) (omega arith) (omega (arith, e .if2 .left)) in
+    let l : s .args .row < s .args .s .head .rows = omega (arith, Fits b .before .before .before .if1 .left) in
+    let p = schedule-placed v (s .args .row) (s .args .out .now) (omega arith) (omega (arith, room b)) in
     record {
       answer-is = rw (c .length .ensures .0, c .before .of-steps .ensures) (rw m at (p .answer-is));
       place-is =
@@ -88,6 +99,7 @@ sheet-schedule-spec =
     (tie.spec
     (λ c κs. search needs)
     returns
+    (λ c κs. search needs)
     (λ c κs. search needs)
     returns-2
     (λ c. search needs)

@@ -4,7 +4,7 @@ use mathlib.Core.Path.{_≡_}
 use mathlib.Core.List.{List}
 use lib.ListN.{length, take}
 use Rattle.model.specs.LastTouches.{startTable}
-use Rattle.model.specs.Sheets.{SheetValue, Valid, traceOf, mostSegs}
+use Rattle.model.specs.Sheets.{SheetValue, RowsWithin, RunWithin, traceOf, mostSegs}
 use Rattle.model.specs.Values.{headOf}
 use Rattle.model.specs.declared.Head.{Head}
 use Rattle.figures.specs.Buckets.{allEmpty}
@@ -33,5 +33,5 @@ headSwaps head = startSwaps (head .a) (headSizes head) (headWarm head)
 -- r is what the pass has after a sheet with the references xs more, where p is what it has after the sheet's own n
 abbrev pub Continued : Head → Passed → ℕ → List ℕ → Passed → Type 0
 Continued head p n xs r =
-    (v : SheetValue) → Valid (appended v xs) → head ≡ headOf (v .head) → length (v .refs) ≡ n
+    (v : SheetValue) → RowsWithin (v .head .rows) → RunWithin (traceOf (appended v xs)) → head ≡ headOf (v .head) → length (v .refs) ≡ n
     → p ≡ passedOf (v .head .rows) (traceOf v) → r ≡ passedOf (v .head .rows) (traceOf (appended v xs))

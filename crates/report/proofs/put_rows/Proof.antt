@@ -1,45 +1,43 @@
 -- `report::put_rows` meets its contract. The loop's invariant: the lines of the rows passed are put from `at` on.
 -- Assumes nothing.
-use mathlib.Core.Path.{_≡_, refl, sym, ap}
+use mathlib.Core.Path.{_≡_, refl, sym}
 use Prim.Native.Nat.{_-_, _≤_}
 use native.Mathlib.Omega.{arith}
 use borrow.Author.Needs.{needs}
+use lib.Dec.{leb}
 use lib.ListN.{length, take}
-use Rattle.model.specs.Rows.{zeroFigures}
 use Rattle.lines.specs.Puts.{Put}
 use Rattle.lines.proofs.Putting.{put-nothing, put-same, put-then}
-use Rattle.lines.specs.Texts.{linesText}
-use Rattle.lines.proofs.Runs.{lines-next, lines-room}
-use Rattle.report.specs.Listing.{rowListing}
-use Rattle.report.proofs.ListingParts.{rows-listing}
+use Rattle.report.specs.Listing.{rowsListing}
+use Rattle.report.proofs.RowLines.{rows-next, rows-room}
 use Rattle.report.proofs.put_rows.Statement.{statement}
 use Rattle.report.proofs.put_rows.Tie as tie
 
 abbrev Inv-loop : tie.InvT-loop
-Inv-loop n out₀ at figures next₀ i₀ out next i =
-    (i ≤ n) × (length out ≡ length out₀) × Put (linesText rowListing (take i figures)) at out₀ next out
+Inv-loop form n out₀ at figures modtotals next₀ i₀ out next i =
+    (i ≤ n) × (length out ≡ length out₀) × Put (rowsListing (leb 4 form) (take i figures) modtotals) at out₀ next out
 
 abbrev μ-loop : tie.MeasureT-loop
-μ-loop n out₀ at figures next₀ i₀ out next i = n - i
+μ-loop form n out₀ at figures modtotals next₀ i₀ out next i = n - i
 
 loop-holds : tie.Need-loop-holds Inv-loop μ-loop
-unfolding linesText
+unfolding rowsListing
 loop-holds c = (omega arith, refl, put-nothing _ _ (omega arith))
 
-put-row-requires : tie.Need-put-row-requires Inv-loop μ-loop
-put-row-requires c κs =
+put-marked-requires : tie.Need-put-marked-requires Inv-loop μ-loop
+put-marked-requires c κs =
     let t = c .before .before in
     let l = t .before .loop in
     let a = t .before .before .before .args in
-    let r = lines-room rowListing (a .t1) (l .i) (a .n) zeroFigures (t .loop-test .taken) (search needs) in
-    omega (arith, r, ap length (rows-listing (take (a .n) (a .t1))), l .inv .2 .ends)
+    omega (arith, rows-room (a .form) (a .t2) (a .t3) (l .i) (search needs) (a .n) (t .loop-test .taken), l .inv .2 .ends)
 
 loop-again : tie.Need-loop-again Inv-loop μ-loop
 loop-again c =
     let t = c .before .before .before .before .before in
     let l = t .before .loop in
-    let p = put-then (l .inv .2) (c .before .before .put-row .ensures) in
-    (omega arith, omega arith, put-same (sym (lines-next _ _ (l .i) _ (search needs))) p)
+    let a = t .before .before .before .args in
+    let p = put-then (l .inv .2) (c .before .before .put-marked .ensures) in
+    (omega arith, omega arith, put-same (sym (rows-next (a .form) (a .t2) (a .t3) (l .i) (search needs))) p)
 
 same-length : tie.Need-same-length Inv-loop μ-loop
 same-length c = c .before .loop .inv .1
@@ -48,7 +46,7 @@ returns : tie.Need-returns Inv-loop μ-loop
 returns c =
     let l = c .before .loop in
     let e : l .i ≡ c .before .before .before .args .n = omega arith in
-    rw (e, ← rows-listing) at (l .inv .2)
+    rw e at (l .inv .2)
 
 pub put-rows-spec : {M : Type 1} → statement M
 put-rows-spec =
@@ -59,7 +57,9 @@ put-rows-spec =
     loop-holds
     (λ c. search needs)
     (λ c. search needs)
-    put-row-requires
+    (λ c. search needs)
+    (λ c. search needs)
+    put-marked-requires
     (λ c. search needs)
     (λ c. search needs)
     loop-again

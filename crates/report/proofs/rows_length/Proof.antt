@@ -4,34 +4,43 @@ use mathlib.Core.Path.{_≡_, refl}
 use Prim.Native.Nat.{_*_, _-_, _≤_}
 use native.Mathlib.Omega.{arith}
 use borrow.Author.Needs.{needs}
-use lib.ListN.{length, take}
-use Rattle.lines.specs.Texts.{linesText}
-use Rattle.lines.proofs.Runs.{lines-sum}
-use Rattle.report.specs.Listing.{rowListing}
-use Rattle.report.proofs.ListingParts.{rows-listing}
+use lib.Dec.{leb}
+use lib.ListN.{length, take, getD}
+use Rattle.model.specs.Rows.{zeroFigures}
+use Rattle.report.specs.Listing.{rowsListing}
+use Rattle.report.proofs.ListingParts.{marked-length}
+use Rattle.report.proofs.RowLines.{rows-sum}
 use Rattle.report.proofs.rows_length.Statement.{statement}
 use Rattle.report.proofs.rows_length.Tie as tie
 
 abbrev Inv-loop : tie.InvT-loop
-Inv-loop n figures sum₀ i₀ sum i = (i ≤ n) × (sum ≡ length (linesText rowListing (take i figures))) × (sum ≤ 330 * i)
+Inv-loop form n figures modtotals sum₀ i₀ sum i =
+    (i ≤ n) × (sum ≡ length (rowsListing (leb 4 form) (take i figures) modtotals)) × (sum ≤ 360 * i)
 
 abbrev μ-loop : tie.MeasureT-loop
-μ-loop n figures sum₀ i₀ sum i = n - i
+μ-loop form n figures modtotals sum₀ i₀ sum i = n - i
 
 loop-holds : tie.Need-loop-holds Inv-loop μ-loop
-unfolding linesText
+unfolding rowsListing
 loop-holds c = (omega arith, refl, omega arith)
 
 loop-again : tie.Need-loop-again Inv-loop μ-loop
 loop-again c =
-    let l = c .before .before .before .loop in
-    (omega arith, lines-sum _ _ (l .i) _ (search needs) (l .inv .1) (c .row-length .ensures .0), omega arith)
+    let r = c .before in
+    let l = r .before .before .before .loop in
+    let a = r .before .before .before .before .args in
+    let row = marked-length (a .form) (getD (a .t2) (l .i) zeroFigures) (getD (a .t3) (l .i) 0) in (
+      omega arith,
+      rows-sum (a .form) (a .t2) (a .t3) (l .i) (search needs) (l .inv .1)
+          (omega (arith, row, r .row-length .ensures, c .modtotal-length .ensures)),
+      omega (arith, r .row-length .ensures, c .modtotal-length .ensures),
+    )
 
 returns : tie.Need-returns Inv-loop μ-loop
 returns c =
     let l = c .before .loop in
     let e : l .i ≡ c .before .before .args .n = omega arith in
-    (rw (e, ← rows-listing) at (l .inv .1), omega arith)
+    (rw e at (l .inv .1), omega arith)
 
 pub rows-length-spec : {M : Type 1} → statement M
 rows-length-spec =
@@ -43,6 +52,10 @@ rows-length-spec =
     (λ c. search needs)
     (λ c. search needs)
     (λ c κs. search needs)
+    (λ c. search needs)
+    (λ c. search needs)
+    (λ c κs. search needs)
+    (λ c. search needs)
     (λ c. search needs)
     (λ c. search needs)
     (λ c. search needs)

@@ -11,20 +11,23 @@ use Rattle.report.proofs.too_short.Statement.{statement}
 use Rattle.report.proofs.too_short.Tie as tie
 
 returns : tie.Need-returns
-returns c = sym (le-ltb (c .before .args .size) _ (omega arith))
+returns c =
+    let m = c .before in
+    sym (le-ltb (m .before .args .size) _ (omega (arith, m .most-bytes .ensures)))
 
 returns-2 : tie.Need-returns-2
 returns-2 c =
-    let a = c .before .before .before .args in
+    let a = c .before .before .before .before .args in
     let e : c .before .head-length .result + c .rows-length .result
-    ≡ length (listing (a .form) (a .refs) (a .steps) (a .segs) (take (a .rows) (a .figures))) =
-    omega (arith, listing-length (a .form) (a .refs) (a .steps) (a .segs) (a .rows) (a .figures) (omega arith)) in
+    ≡ length (listing (a .form) (a .refs) (a .steps) (a .segs) (take (a .rows) (a .figures)) (a .modtotals)) =
+    omega (arith, listing-length (a .form) (a .refs) (a .steps) (a .segs) (a .rows) (a .figures) (a .modtotals) (omega arith)) in
     rw e
 
 pub too-short-spec : {M : Type 1} → statement M
 too-short-spec =
     tie.close
     (tie.spec
+    (λ c κs. search needs)
     returns
     (λ c κs. search needs)
     (λ c κs. search needs)

@@ -21,14 +21,14 @@ put-head-requires c κs =
     let e = c .before in
     let a = e .before .before .before .args in
     let h = ltb-false (length (a .out .now)) _ (sym (e .before .too-short .ensures) ∙ e .if1 .left) in
-    omega (arith, h, listing-length (a .form) (a .refs) (a .steps) (a .segs) (a .rows) (a .figures) (omega arith))
+    omega (arith, h, listing-length (a .form) (a .refs) (a .steps) (a .segs) (a .rows) (a .figures) (a .modtotals) (omega arith))
 
 put-rows-requires : tie.Need-put-rows-requires
 put-rows-requires c κs =
     let e = c .before .before .before .before .before in
     let a = e .before .before .before .args in
     let h = ltb-false (length (a .out .now)) _ (sym (e .before .too-short .ensures) ∙ e .if1 .left) in
-    let l = listing-length (a .form) (a .refs) (a .steps) (a .segs) (a .rows) (a .figures) (omega arith) in
+    let l = listing-length (a .form) (a .refs) (a .steps) (a .segs) (a .rows) (a .figures) (a .modtotals) (omega arith) in
     (omega arith, omega (arith, h, l, c .before .before .before .put-head .ensures .ends))
 
 returns-2 : tie.Need-returns-2
@@ -38,7 +38,7 @@ returns-2 c =
     let s = h .before .before .before .before .before in
     let a = s .args in
     let q = put-same
-    (listing-parts (a .form) (a .refs) (a .steps) (a .segs) (a .rows) (a .figures) (omega (arith, s .pre, s .good)))
+    (listing-parts (a .form) (a .refs) (a .steps) (a .segs) (a .rows) (a .figures) (a .modtotals) (omega (arith, s .pre, s .good)))
     (put-then (h .put-head .ensures) (p .put-rows .ensures)) in
     text-put _ _ _ _ _ (omega (arith, q .ends)) q
 

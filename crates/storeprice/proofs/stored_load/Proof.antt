@@ -6,7 +6,7 @@ use native.Mathlib.Omega.{arith}
 use lib.ListN.{length, getD}
 use denote.Ref.{now}
 use borrow.Author.Needs.{needs}
-use Rattle.stores.specs.Stores.{marksOf}
+use Rattle.model.specs.Sheets.{marksOf}
 use Rattle.storeprice.proofs.Passing.{Storing, storing-start, storing-touch, storing-idle, storing-end}
 use Rattle.storeprice.proofs.stored_load.Statement.{statement}
 use Rattle.storeprice.proofs.stored_load.Tie as tie

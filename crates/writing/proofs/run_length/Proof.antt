@@ -11,15 +11,15 @@ use Rattle.writing.proofs.run_length.Tie as tie
 returns : tie.Need-returns
 returns c =
     let i = c .before in
-    let a = i .before .before .args in
-    let e = run-later (a .form) (a .entries .now) (le-leb 2 (a .form) (i .if1 .taken)) in
+    let a = i .before .before .before .args in
+    let e = run-later (a .form) (a .entries .now) (a .marks .now) (le-leb 2 (a .form) (i .if1 .taken)) in
     (c .steps-length .ensures .0 ∙ sym (ap length e), c .steps-length .ensures .1)
 
 returns-2 : tie.Need-returns-2
 returns-2 c =
     let i = c .before .before .before in
-    let a = i .before .before .args in
-    let e = run-first (a .form) (a .entries .now) (lt-leb 2 (a .form) (i .if1 .left)) in
+    let a = i .before .before .before .args in
+    let e = run-first (a .form) (a .entries .now) (a .marks .now) (lt-leb 2 (a .form) (i .if1 .left)) in
     (c .counted-length .ensures .0 ∙ sym (ap length e), omega arith)
 
 pub run-length-spec : {M : Type 1} → statement M

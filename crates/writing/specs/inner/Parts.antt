@@ -1,6 +1,6 @@
 -- The parts in which a sheet is written. Assumes nothing.
 use Prim.Native.Nat.{ℕ}
-use mathlib.Core.Bool.{cond}
+use mathlib.Core.Bool.{Bool, cond}
 use mathlib.Core.List.{List, [], _++_}
 use lib.Dec.{leb}
 use lib.ListN.{length}
@@ -9,7 +9,7 @@ use Rattle.model.specs.declared.Kind.{Kind}
 use Rattle.model.specs.declared.PriceRow.{PriceRow}
 use Rattle.lines.specs.Keys.{formKey, kindKey, aKey, segsKey, sizeKey, rowsKey, warmKey, holdKey, stepsKey, refsKey, refKey, kindWord}
 use Rattle.lines.specs.Texts.{lineText, numberText, linesText}
-use Rattle.sheet.specs.Touches.{touchesOf, touchesText}
+use Rattle.sheet.specs.Touches.{Touch, touchesOf, touchesText}
 use Rattle.sheet.specs.Values.{rowText}
 
 -- a line for each number
@@ -44,11 +44,16 @@ warmText form holds = cond (leb 3 form) (countedText warmKey holdKey holds) []
 unfoldable pub headText : ℕ → HeadValue → List ℕ
 headText form h = segmentsText (h .kind) (h .a) (h .sizes) ++ (pricedText (h .rows) ++ warmText form (h .warm))
 
--- the entries of form 2: the line that counts the steps, the line that counts the touches, and the line of each touch
-unfoldable pub stepsText : List ℕ → List ℕ
-stepsText entries =
-    numberText stepsKey (length entries) ++ (numberText refsKey (length (touchesOf entries)) ++ touchesText (touchesOf entries))
+-- the touches of entries and of their marks
+abbrev pub touchesWith : List ℕ → List Bool → List Touch
+touchesWith entries marks = touchesOf (record { refs = entries; marks = marks })
+
+-- the entries of form 2 on: the line that counts the steps, the line that counts the touches, and the line of each touch
+unfoldable pub stepsText : List ℕ → List Bool → List ℕ
+stepsText entries marks =
+    numberText stepsKey (length entries)
+    ++ (numberText refsKey (length (touchesWith entries marks)) ++ touchesText (touchesWith entries marks))
 
 -- the entries of a form
-unfoldable pub runText : ℕ → List ℕ → List ℕ
-runText form entries = cond (leb 2 form) (stepsText entries) (countedText refsKey refKey entries)
+unfoldable pub runText : ℕ → List ℕ → List Bool → List ℕ
+runText form entries marks = cond (leb 2 form) (stepsText entries marks) (countedText refsKey refKey entries)

@@ -1,4 +1,4 @@
--- `reading::touching::short_touch` meets its contract: the first number reaches up to "@", the second up to the line feed. Assumes nothing.
+-- `reading::touching::short_touch` meets its contract: the first number reaches up to "@", the step up to the line feed. Assumes nothing.
 use Prim.Native.Nat.{_+_, _≤_, _<_}
 use mathlib.Core.Path.{_≡_, sym, _∙_}
 use mathlib.Core.Bool.{true}
@@ -25,7 +25,7 @@ long c = long-key (c .before .before .before .before .args .s .now) refKey (keye
 first-some : (c : tie.Else2) → 0 < c .before .number-before .result .length
 first-some c = omega arith
 
-second-some : (c : tie.Else3) → 0 < c .before .number-before2 .result .length
+second-some : (c : tie.Else3) → 0 < c .before .step-before .result .next
 second-some c = omega arith
 
 -- the first number and its "@" lie within the bytes
@@ -36,14 +36,14 @@ first-within c =
     tail-place (k .before .before .before .before .args .s .now) 4 _ (long k)
     (omega (arith, c .before .number-before .ensures (first-some c) .0))
 
--- and so do the second and its line feed
+-- and so do the step and what follows it up to the line feed
 second-within : (c : tie.Else3)
-    → 4 + c .before .before .before .before .number-before .result .length + 1 + (c .before .number-before2 .result .length + 1)
+    → 4 + c .before .before .before .before .number-before .result .length + 1 + c .before .step-before .result .next
     ≤ length (c .before .before .before .before .before .before .before .before .before .before .args .s .now)
 second-within c =
     let b = c .before .before .before in
     tail-place (b .before .before .before .before .before .before .before .args .s .now) _ _ (omega (arith, first-within b))
-    (omega (arith, c .before .number-before2 .ensures (second-some c) .0))
+    (c .before .step-before .ensures .0)
 
 sub-number-before : tie.Need-sub-number-before
 sub-number-before c = long c
@@ -57,14 +57,11 @@ add-at c = omega (arith, first-within c)
 add-at-2 : tie.Need-add-at-2
 add-at-2 c = omega (arith, first-within c)
 
-sub-number-before-2 : tie.Need-sub-number-before-2
-sub-number-before-2 c = omega (arith, first-within c)
+sub-step-before : tie.Need-sub-step-before
+sub-step-before c = omega (arith, first-within c)
 
-part-number-before-start-2 : tie.Need-part-number-before-start-2
-part-number-before-start-2 c = omega (arith, first-within c)
-
-add-t25 : tie.Need-add-t25
-add-t25 c = omega (arith, second-within (c .before .before .before))
+part-step-before-start : tie.Need-part-step-before-start
+part-step-before-start c = omega (arith, first-within c)
 
 add-t26 : tie.Need-add-t26
 add-t26 c = omega (arith, second-within (c .before .before .before))
@@ -73,10 +70,11 @@ returns-7 : tie.Need-returns-7
 returns-7 c =
     let d = c .before .before .before in
     let b = d .before .before .before in
-    let k = b .before .before .before in (
+    let k = b .before .before .before in
+    let t = d .before .step-before .ensures in (
       omega (arith, second-within d),
-      λ h. short-touch _ _ _ _ _ _ _ _ (keyed k) (b .before .number-before .ensures (first-some b) .1)
-          (d .before .number-before2 .ensures (second-some d) .1) (c .before .before .if4 .left) (c .before .if5 .left) (c .if6 .left),
+      λ h. short-touch _ _ _ _ _ _ _ _ _ _ (keyed k) (b .before .number-before .ensures (first-some b) .1) (t .1 (second-some d) .0)
+          (t .1 (second-some d) .1) (c .before .before .if4 .left) (c .before .if5 .left) (c .if6 .left),
     )
 
 pub short-touch-spec : {M : Type 1} → statement M
@@ -95,8 +93,8 @@ short-touch-spec =
     (λ c. (omega arith, (λ h. absurd (omega arith))))
     add-at
     add-at-2
-    sub-number-before-2
-    part-number-before-start-2
+    sub-step-before
+    part-step-before-start
     (λ c. search needs)
     (λ c κs. search needs)
     (λ c κs. search needs)
@@ -109,6 +107,5 @@ short-touch-spec =
     (λ c. (omega arith, (λ h. absurd (omega arith))))
     (λ c. search needs)
     (λ c. search needs)
-    add-t25
     add-t26
     returns-7)

@@ -6,8 +6,8 @@ use Rattle.reading.proofs.ReadTouches.{pair-first, touch-value}
 use Rattle.reading.proofs.touching.touch_value.Statement.{statement}
 use Rattle.reading.proofs.touching.touch_value.Tie as tie
 
-cast-t15 : tie.Need-cast-t15
-cast-t15 c =
+cast-t17 : tie.Need-cast-t17
+cast-t17 c =
     let x = c .before in
     let p = x .before .before in
     let b = pair-first _ _ _ _ _ _ _ _ (sym (p .pair-around .ensures) ∙ x .x .given .1) in
@@ -16,23 +16,23 @@ cast-t15 c =
 returns : tie.Need-returns
 returns c =
     let p = c .before .before in
-    (λ s. touch-value _ _ _ (p .before .before .pre .0) _ _ _ _ (p .pair-around .ensures) (c .enum-told .given .1), omega arith)
+    (λ s. touch-value _ _ _ _ (p .before .before .pre .0) _ _ _ _ (p .pair-around .ensures) (c .enum-told .given .1), omega arith)
 
 returns-2 : tie.Need-returns-2
 returns-2 c =
     let p = c .before .before in
-    (λ s. touch-value _ _ _ (p .before .before .pre .0) _ _ _ _ (p .pair-around .ensures) (c .enum-told2 .given .1), omega arith)
+    (λ s. touch-value _ _ _ _ (p .before .before .pre .0) _ _ _ _ (p .pair-around .ensures) (c .enum-told2 .given .1), omega arith)
 
 returns-3 : tie.Need-returns-3
 returns-3 c =
     let p = c .before .before in
-    (λ s. touch-value _ _ _ (p .before .before .pre .0) _ _ _ _ (p .pair-around .ensures) (c .enum-told3 .given .1), omega arith)
+    (λ s. touch-value _ _ _ _ (p .before .before .pre .0) _ _ _ _ (p .pair-around .ensures) (c .enum-told3 .given .1), omega arith)
 
 returns-4 : tie.Need-returns-4
 returns-4 c =
     let x = c .before in
     let p = x .before .before in
-    (λ s. touch-value _ _ _ (p .before .before .pre .0) _ _ _ _ (p .pair-around .ensures) (x .x .given .1), omega arith)
+    (λ s. touch-value _ _ _ _ (p .before .before .pre .0) _ _ _ _ (p .pair-around .ensures) (x .x .given .1), omega arith)
 
 pub touch-value-spec : {M : Type 1} → statement M
 touch-value-spec =
@@ -45,7 +45,7 @@ touch-value-spec =
     (λ c. search needs)
     (λ c. search needs)
     (λ c. search needs)
-    cast-t15
+    cast-t17
     (λ c. search needs)
     returns
     returns-2

@@ -6,8 +6,7 @@ use native.Mathlib.Omega.{arith}
 use borrow.Author.Needs.{needs}
 use lib.ListN.{length}
 use Rattle.model.specs.Sheets.{mostSegs, mostSteps}
-use Rattle.recorder.specs.Recorders.{recorderOf}
-use Rattle.recorder.proofs.Bulk.{none-appended, takable, takable-few, all-valid}
+use Rattle.recorder.proofs.Bulk.{none-appended, takable, takable-few, all-run}
 use Rattle.recorder.proofs.Standing.{stands-roomy}
 use Rattle.recorder.proofs.Stepping.{taken-stands}
 use Rattle.guards.proofs.Telling.{failed, passed}
@@ -20,7 +19,7 @@ start c = c .before .before .before .before .before .before
 
 -- no reference is taken
 returns : tie.Need-returns
-returns c = (λ none. refl, λ v valid e. e ∙ ap recorderOf (none-appended v _ (c .if1 .taken)))
+returns c = (λ none. refl, λ v valid e. e ∙ none-appended v _ (c .if1 .taken))
 
 -- there are some: no recorder that stands for a sheet fails the test
 returns-2 : tie.Need-returns-2
@@ -51,7 +50,7 @@ returns-3 c =
       λ none. absurd (omega (arith, ap length none, t .before .before .before .before .if1 .left)),
       λ v valid e.
           taken-stands (s .args .recorder) _ (p .pass-on .result) _ _ (p .pass-on .ensures) (c .before .before .sum-first .ensures)
-          (c .by-kind .ensures) v (all-valid _ _ (s .pre) v valid e) e,
+          (c .by-kind .ensures) v (valid .rows) (all-run _ _ (s .pre) v valid e) e,
     )
 
 pub take-all-spec : {M : Type 1} → statement M

@@ -8,10 +8,10 @@ use Rattle.writing.proofs.touches.entry_count.Statement.{statement}
 use Rattle.writing.proofs.touches.entry_count.Tie as tie
 
 returns : tie.Need-returns
-returns c = (λ b. sym (ap length (entry-idle b _ (sym (c .before .is-idle .ensures) ∙ c .if1 .taken))), omega arith)
+returns c = (λ m b. sym (ap length (entry-idle m b _ (sym (c .before .is-idle .ensures) ∙ c .if1 .taken))), omega arith)
 
 returns-2 : tie.Need-returns-2
-returns-2 c = (λ b. sym (ap length (entry-touch b _ (sym (c .before .is-idle .ensures) ∙ c .if1 .left))), omega arith)
+returns-2 c = (λ m b. sym (ap length (entry-touch m b _ (sym (c .before .is-idle .ensures) ∙ c .if1 .left))), omega arith)
 
 pub entry-count-spec : {M : Type 1} → statement M
 entry-count-spec = tie.close (tie.spec (λ c κs. search needs) returns returns-2)

@@ -8,15 +8,22 @@ use Rattle.writing.proofs.touches.entry_length.Statement.{statement}
 use Rattle.writing.proofs.touches.entry_length.Tie as tie
 
 returns : tie.Need-returns
-returns c = (sym (ap length (text-idle _ _ (sym (c .before .is-idle .ensures) ∙ c .if1 .taken))), omega arith)
+returns c = (sym (ap length (text-idle _ _ _ (sym (c .before .is-idle .ensures) ∙ c .if1 .taken))), omega arith)
 
 returns-2 : tie.Need-returns-2
 returns-2 c =
-    let e = c .before in (
-      c .touch-length .ensures .0 ∙ sym (ap length (text-touch _ _ (sym (e .before .is-idle .ensures) ∙ e .if1 .left))),
-      c .touch-length .ensures .1,
-    )
+    let m = c .before in
+    let e = m .before in
+    let t = text-touch _ _ _ _ (m .modifies-at .ensures) (sym (e .before .is-idle .ensures) ∙ e .if1 .left) in
+    (c .touch-length .ensures .0 ∙ ap length t, c .touch-length .ensures .1)
 
 pub entry-length-spec : {M : Type 1} → statement M
 entry-length-spec =
-    tie.close (tie.spec (λ c κs. search needs) returns (λ c. search needs) (λ c κs. search needs) returns-2)
+    tie.close
+    (tie.spec
+    (λ c κs. search needs)
+    returns
+    (λ c. search needs)
+    (λ c κs. search needs)
+    (λ c κs. search needs)
+    returns-2)

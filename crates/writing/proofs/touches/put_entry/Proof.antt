@@ -3,26 +3,30 @@ use mathlib.Core.Path.{sym, ap, _∙_}
 use native.Mathlib.Omega.{arith}
 use borrow.Author.Needs.{needs}
 use lib.ListN.{length}
+use Rattle.model.specs.Sheets.{marksOf}
 use Rattle.lines.proofs.Putting.{put-nothing, put-same}
 use Rattle.writing.proofs.TouchLines.{text-idle, text-touch}
 use Rattle.writing.proofs.touches.put_entry.Statement.{statement}
 use Rattle.writing.proofs.touches.put_entry.Tie as tie
 
 returns : tie.Need-returns
-returns c = put-same (sym (text-idle _ _ (sym (c .before .is-idle .ensures) ∙ c .if1 .taken))) (put-nothing _ _ (omega arith))
+returns c = put-same (sym (text-idle _ _ _ (sym (c .before .is-idle .ensures) ∙ c .if1 .taken))) (put-nothing _ _ (omega arith))
 
 put-touch-requires : tie.Need-put-touch-requires
 put-touch-requires c κs =
-    let e = c .before in
-    let s = e .before .before .before in
-    let t = text-touch (s .args .before) (s .args .x) (sym (e .before .is-idle .ensures) ∙ e .if1 .left) in
+    let m = c .before in
+    let e = m .before in
+    let s = e .before .before .before .before in
+    let i = sym (e .before .is-idle .ensures) ∙ e .if1 .left in
+    let t = text-touch (marksOf (s .args .marks .now)) (s .args .before) (s .args .x) (m .modifies-at .result) (m .modifies-at .ensures) i in
     omega (arith, ap length t, s .pre)
 
 returns-2 : tie.Need-returns-2
 returns-2 c =
     let p = c .before .before in
-    let e = p .before .before in
-    put-same (sym (text-touch _ _ (sym (e .before .is-idle .ensures) ∙ e .if1 .left))) (p .put-touch .ensures)
+    let m = p .before .before in
+    let e = m .before in
+    put-same (text-touch _ _ _ _ (m .modifies-at .ensures) (sym (e .before .is-idle .ensures) ∙ e .if1 .left)) (p .put-touch .ensures)
 
 pub put-entry-spec : {M : Type 1} → statement M
 put-entry-spec =
@@ -31,6 +35,7 @@ put-entry-spec =
     (λ c κs. search needs)
     returns
     (λ c. search needs)
+    (λ c κs. search needs)
     put-touch-requires
     (λ c. search needs)
     returns-2)

@@ -8,18 +8,19 @@ use lib.ListN.{length, take}
 use lib.Seq.{take-all}
 use Rattle.lines.specs.Puts.{Put}
 use Rattle.lines.specs.Texts.{linesText}
-use Rattle.sheet.specs.Touches.{touchesFrom, touchesOf, touchesText}
+use Rattle.sheet.specs.Touches.{touchesFrom, touchesText}
+use Rattle.writing.specs.inner.Parts.{touchesWith}
 use Rattle.lines.proofs.Putting.{put-nothing, put-same, put-then}
 use Rattle.writing.proofs.TouchLines.{text-next, text-room}
 use Rattle.writing.proofs.touches.put_touches.Statement.{statement}
 use Rattle.writing.proofs.touches.put_touches.Tie as tie
 
 abbrev Inv-loop : tie.InvT-loop
-Inv-loop entries out₀ at next₀ i₀ out next i =
-    (i ≤ length entries) × (length out ≡ length out₀) × Put (touchesText (touchesOf (take i entries))) at out₀ next out
+Inv-loop entries marks out₀ at next₀ i₀ out next i =
+    (i ≤ length entries) × (length out ≡ length out₀) × Put (touchesText (touchesWith (take i entries) marks)) at out₀ next out
 
 abbrev μ-loop : tie.MeasureT-loop
-μ-loop entries out₀ at next₀ i₀ out next i = length entries - i
+μ-loop entries marks out₀ at next₀ i₀ out next i = length entries - i
 
 loop-holds : tie.Need-loop-holds Inv-loop μ-loop
 unfolding touchesFrom linesText
@@ -29,16 +30,17 @@ put-entry-requires : tie.Need-put-entry-requires Inv-loop μ-loop
 put-entry-requires c κs =
     let t = c .before .before in
     let l = t .before .loop in
-    let s = t .before .before .before .before in
-    let r = text-room (s .args .entries .now) (l .i) (t .loop-test .taken) in
+    let s = t .before .before .before .before .before in
+    let r = text-room (s .args .marks .now) (s .args .entries .now) (l .i) (t .loop-test .taken) in
     (omega (arith, s .pre), omega (arith, r, s .pre, l .inv .2 .ends))
 
 loop-again : tie.Need-loop-again Inv-loop μ-loop
 loop-again c =
     let t = c .before .before .before .before .before in
     let l = t .before .loop in
+    let a = t .before .before .before .before .before .args in
     let p = put-then (l .inv .2) (c .before .before .put-entry .ensures) in
-    (omega arith, omega arith, put-same (sym (text-next _ (l .i) (t .loop-test .taken))) p)
+    (omega arith, omega arith, put-same (sym (text-next (a .marks .now) (a .entries .now) (l .i) (t .loop-test .taken))) p)
 
 returns : tie.Need-returns Inv-loop μ-loop
 returns c =

@@ -12,8 +12,9 @@ use Rattle.writing.proofs.touches.steps_length.Tie as tie
 returns : tie.Need-returns
 returns c =
     let n = c .before .before .before .before .before in
-    let e = ap (λ k. length (numberText refsKey k)) (n .count-touches .ensures) in
-    omega (arith, e, steps-length (n .before .before .args .entries .now))
+    let a = n .before .before .before .args in
+    let e = ap (λ k. length (numberText refsKey k)) (n .count-touches .ensures (a .marks .now)) in
+    omega (arith, e, steps-length (a .entries .now) (a .marks .now))
 
 pub steps-length-spec : {M : Type 1} → statement M
 steps-length-spec =

@@ -7,17 +7,18 @@ use borrow.Author.Needs.{needs}
 use lib.ListN.{length, take}
 use lib.Seq.{take-all}
 use Rattle.lines.specs.Texts.{linesText}
-use Rattle.sheet.specs.Touches.{touchesFrom, touchesOf, touchesText}
+use Rattle.sheet.specs.Touches.{touchesFrom, touchesText}
+use Rattle.writing.specs.inner.Parts.{touchesWith}
 use Rattle.writing.proofs.TouchLines.{length-next}
 use Rattle.writing.proofs.touches.touches_length.Statement.{statement}
 use Rattle.writing.proofs.touches.touches_length.Tie as tie
 
 abbrev Inv-loop : tie.InvT-loop
-Inv-loop entries sum₀ i₀ sum i =
-    (i ≤ length entries) × (sum ≡ length (touchesText (touchesOf (take i entries)))) × (sum ≤ 31 * i)
+Inv-loop entries marks sum₀ i₀ sum i =
+    (i ≤ length entries) × (sum ≡ length (touchesText (touchesWith (take i entries) marks))) × (sum ≤ 32 * i)
 
 abbrev μ-loop : tie.MeasureT-loop
-μ-loop entries sum₀ i₀ sum i = length entries - i
+μ-loop entries marks sum₀ i₀ sum i = length entries - i
 
 loop-holds : tie.Need-loop-holds Inv-loop μ-loop
 unfolding touchesFrom linesText
@@ -27,7 +28,9 @@ loop-again : tie.Need-loop-again Inv-loop μ-loop
 loop-again c =
     let t = c .before .before in
     let l = t .before .loop in
-    (omega arith, length-next _ (l .i) (t .loop-test .taken) _ _ (l .inv .1) (c .entry-length .ensures .0), omega arith)
+    let a = t .before .before .before .before .args in
+    let e = c .entry-length .ensures .0 in
+    (omega arith, length-next (a .marks .now) (a .entries .now) (l .i) (t .loop-test .taken) _ _ (l .inv .1) e, omega arith)
 
 returns : tie.Need-returns Inv-loop μ-loop
 returns c =

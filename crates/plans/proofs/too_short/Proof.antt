@@ -1,0 +1,10 @@
+-- `plans::too_short` meets its contract: the room in steps decides. Assumes nothing.
+use Rattle.plans.proofs.PlanResults.{room-test}
+use Rattle.plans.proofs.too_short.Statement.{statement}
+use Rattle.plans.proofs.too_short.Tie as tie
+
+returns : tie.Need-returns
+returns c = room-test (c .args .steps) (c .args .size)
+
+pub too-short-spec : {M : Type 1} → statement M
+too-short-spec = tie.close (tie.spec returns)

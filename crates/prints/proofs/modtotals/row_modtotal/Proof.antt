@@ -1,0 +1,48 @@
+-- `prints::modtotals::row_modtotal` meets its contract: what the pass gives is added, and nothing where no touch modifies.
+-- Assumes nothing.
+use Prim.Native.Nat.{_+_}
+use mathlib.Core.Path.{_≡_, sym, _∙_}
+use native.Mathlib.Omega.{arith}
+use denote.Ref.{now}
+use borrow.Author.Needs.{needs}
+use Rattle.model.specs.Sheets.{runOf, marksOf}
+use Rattle.model.specs.Traces.{Trace}
+use Rattle.stores.specs.Stores.{modtotal}
+use Rattle.report.proofs.ListingMost.{modtotal-within}
+use Rattle.prints.proofs.RowTotals.{modtotal-adds, modtotal-plain}
+use Rattle.prints.proofs.modtotals.row_modtotal.Statement.{statement}
+use Rattle.prints.proofs.modtotals.row_modtotal.Tie as tie
+
+-- the run that the function is called with
+abbrev Run : tie.Start → Trace
+Run s = runOf (s .args .kind) (s .args .a) (now (s .args .sizes)) (now (s .args .warm)) (now (s .args .refs))
+
+-- the sum is modtotal
+adds : (c : tie.After-stores) → let s = c .before .before .before .before .before .before in
+    s .args .total + c .stores .result ≡ modtotal (Run s) (marksOf (now (s .args .marks))) (s .args .row .h) (s .args .row .d)
+adds c =
+    let s = c .before .before .before .before .before .before in
+    modtotal-adds (Run s) (now (s .args .marks)) (s .args .row) (s .pre .1 .1) (c .stores .ensures)
+
+-- which is within 64 bits
+add-result : tie.Need-add-result
+add-result c =
+    let s = c .before .before .before .before .before .before in
+    let row = s .args .row in
+    let marks = marksOf (now (s .args .marks)) in
+    omega (
+      arith,
+      adds c,
+      modtotal-within (Run s) (s .pre .0 .0) marks (row .h) (row .d) (omega (arith, s .good)) (omega (arith, s .good)),
+    )
+
+returns : tie.Need-returns
+returns c = adds c
+
+returns-2 : tie.Need-returns-2
+returns-2 c =
+    let s = c .before .before .before .before .before in
+    modtotal-plain (Run s) (now (s .args .marks)) (s .args .row) (s .pre .1 .1) (sym (s .pre .1 .0) ∙ c .if1 .left)
+
+pub row-modtotal-spec : {M : Type 1} → statement M
+row-modtotal-spec = tie.close (tie.spec (λ c κs. search needs) add-result returns returns-2)
