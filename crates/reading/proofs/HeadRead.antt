@@ -7,7 +7,7 @@ use native.Mathlib.Omega.{arith}
 use borrow.Author.Tests.{le-leb, lt-leb}
 use lib.Dec.{leb}
 use lib.ListN.{length, take, drop}
-use Rattle.lines.specs.Keys.{aKey, stepsKey, refsKey, refKey}
+use Rattle.lines.specs.Keys.{aKey, refsKey, refKey}
 use Rattle.model.specs.Sheets.{HeadValue, largestA, mostSegs, mostRows, mostSteps}
 use Rattle.model.specs.Values.{zeros, zeroRows, headValueOf, emptyHead}
 use Rattle.model.specs.declared.Head.{Head}
@@ -17,16 +17,16 @@ use Rattle.sheet.specs.Lines.{Parsed, read, andThen, numberLine}
 use Rattle.sheet.specs.Order.{numberPart, numbersPart, sizesPart, pricesPart, tablesPart, kindFor, headPart}
 use Rattle.sheet.specs.Order.{refsPart, plainPart, stepsPart, entriesPart}
 use Rattle.sheet.specs.Parts.{counted}
-use Rattle.sheet.specs.Touches.{Entries, entryLines}
+use Rattle.sheet.specs.Touches.{Entries}
 use Rattle.sheet.proofs.SheetLines.{tables-segs, head-segs}
 use Rattle.scan.specs.AtPlace.{parsedLines, movedOn, Filled}
 use Rattle.reading.specs.inner.AtPlace.{withWarm, HeadFilled}
-use Rattle.reading.specs.inner.TouchesAtPlace.{entriesWith, markCount}
+use Rattle.touchlines.specs.TouchesAtPlace.{entriesWith, markCount}
 use Rattle.scan.specs.declared.numbers.LinesRead.{LinesRead}
 use Rattle.scan.specs.declared.numbers.LinesRead.the-variants.{Done, Refused as NoLines}
 use Rattle.scan.proofs.Blanks.{filled-length, filled-start}
-use Rattle.scan.proofs.Stages.{stage-read, moved, then-part, counted-most}
-use Rattle.scan.proofs.Tails.{tail, tail-tail}
+use Rattle.scan.proofs.Stages.{then-part, after-two, counted-most}
+use Rattle.scan.proofs.Tails.{tail}
 
 -- what is made of a value that was read
 made : {A B : Type 0} (g : A → B) (s : List ℕ) (l : LinesRead) (y : A)
@@ -65,15 +65,6 @@ warm-read h warm holds s l p e =
     let g : List ℕ → HeadValue = λ ws. record { kind = h .kind; a = h .a; sizes = take (h .segs) (h .sizes); rows = take (h .rows) (h .prices); warm = ws } in
     made g s l (take warm holds) ∙ ap (λ p. andThen p (withWarm (headValueOf h))) e
 
--- two parts, and what was read after them
-after-two : {A B C : Type 0} (p : Parsed A) (g : A → List ℕ → Parsed B) (f : A → B → List ℕ → Parsed C) (s : List ℕ) (i j : ℕ)
-    (x : A) (y : B) (l q : LinesRead) (v : C) → p ≡ read x (drop i s) → g x (tail s i) ≡ read y (drop j (tail s i))
-    → parsedLines (tail s (i + j)) l v ≡ f x y (tail s (i + j)) → q ≡ movedOn (i + j) l
-    → parsedLines s q v ≡ andThen p (λ x rest. andThen (g x rest) (λ y end. f x y end))
-after-two p g f s i j x y l q v e₁ e₂ h m =
-    let r = ap (λ k. parsedLines s k v) m ∙ (moved s (i + j) l v ∙ (h ∙ ap (f x y) (sym (tail-tail s i j)))) in
-    stage-read (λ p. p) _ _ x s i (parsedLines s q v) (stage-read (λ p. p) _ _ y (tail s i) j (parsedLines s q v) r e₂) e₁
-
 -- kind and a, then the sizes, the rows and the warm segments
 pub head-read : (taken later : Bool) (s : List ℕ) (i j : ℕ) (kind : Kind) (a : ℕ) (l q : LinesRead) (v : HeadValue)
     → kindFor taken .reads s ≡ read kind (drop i s) → numberLine aKey 0 largestA (tail s i) ≡ read a (drop j (tail s i))
@@ -82,15 +73,6 @@ pub head-read : (taken later : Bool) (s : List ℕ) (i j : ℕ) (kind : Kind) (a
 unfolding headPart
 head-read taken later s i j kind a l q v =
     after-two (kindFor taken .reads s) (λ _. numberLine aKey 0 largestA) (λ k n. tablesPart later k n .reads) s i j kind a l q v
-
--- the number of steps and that of references, then the touches
-pub steps-read : (letters : Bool) (segs : ℕ) (s : List ℕ) (i j steps n : ℕ) (l q : LinesRead) (e : Entries)
-    → numberLine stepsKey 0 mostSteps s ≡ read steps (drop i s) → numberLine refsKey 0 steps (tail s i) ≡ read n (drop j (tail s i))
-    → parsedLines (tail s (i + j)) l e ≡ entryLines letters segs steps n (tail s (i + j)) → q ≡ movedOn (i + j) l
-    → parsedLines s q e ≡ stepsPart letters segs .reads s
-unfolding stepsPart
-steps-read letters segs s i j steps n l q e =
-    after-two (numberLine stepsKey 0 mostSteps s) (λ m. numberLine refsKey 0 m) (λ m k. entryLines letters segs m k) s i j steps n l q e
 
 -- the entries of form 2 on
 pub entries-later : (form segs : ℕ) (s : List ℕ) (q : Parsed Entries) → 2 ≤ form → q ≡ stepsPart (leb 4 form) segs .reads s

@@ -20,7 +20,7 @@ use Rattle.model.specs.Values.{zeros, idles, zeroRows, blankMarks, headOf, head
 use Rattle.sheet.specs.Answers.{answerOf}
 use Rattle.scan.specs.AtPlace.{Filled}
 use Rattle.reading.specs.inner.AtPlace.{HeadFilled, formLine}
-use Rattle.reading.specs.inner.TouchesAtPlace.{markCount}
+use Rattle.touchlines.specs.TouchesAtPlace.{markCount}
 use Rattle.sheet.specs.declared.SheetAnswer.{SheetAnswer}
 use Rattle.scan.proofs.Blanks.{filled-length, filled-padded}
 use Rattle.scan.proofs.NumberLines.{number-bounds}

@@ -2,7 +2,6 @@
 // function reads from the head of the bytes that it is lent, and gives the place of what follows. Nothing is assumed.
 pub mod head;
 pub mod rows;
-pub mod touching;
 pub mod warming;
 
 use model::Head;
@@ -26,7 +25,7 @@ ghost use Rattle.sheet.specs.Order.{entriesPart, runPart};
 ghost use Rattle.sheet.specs.Reading.{atEnd, namedForm, readForms, readSheet, rejected};
 ghost use Rattle.scan.specs.AtPlace.{parsedNumber, numberNext, parsedLines, linesNext, Filled};
 ghost use Rattle.reading.specs.inner.AtPlace.{HeadFilled, formLine};
-ghost use Rattle.reading.specs.inner.TouchesAtPlace.{entriesWith, markCount};
+ghost use Rattle.touchlines.specs.TouchesAtPlace.{entriesWith, markCount};
 
 // The answer where the bytes are refused.
 fn refused(why: Refusal) -> SheetAnswer
@@ -75,7 +74,7 @@ fn entry_lines(s: &[u8], form: u8, segs: usize, out: &mut [u16], marks: &mut [bo
     ensures { λ r. ⌜ Filled (markCount (leb 4 form) (r .count)) (now (marks .exit)) (now (marks .entry)) ⌝ }
 {
     if 2 <= form {
-        return touching::step_lines(s, 4 <= form, segs, out, marks);
+        return touchlines::step_lines(s, 4 <= form, segs, out, marks);
     }
     let last = (segs - 1) as u32;
     numbers::counted_lines(s, b"refs=", 0, b"ref=", 0, last, out)

@@ -1,5 +1,5 @@
 -- Laws of parts that are read one after another: what was read so far, then the next part. Assumes nothing.
-use Prim.Native.Nat.{ℕ, _≤_}
+use Prim.Native.Nat.{ℕ, _+_, _≤_}
 use mathlib.Core.Path.{_≡_, refl, sym, ap, _∙_}
 use mathlib.Core.List.{List}
 use native.Mathlib.Omega.{arith}
@@ -12,7 +12,7 @@ use Rattle.sheet.specs.Parts.{counted}
 use Rattle.scan.specs.AtPlace.{parsedLines, linesNext, movedOn}
 use Rattle.scan.specs.declared.numbers.LinesRead.{LinesRead}
 use Rattle.scan.specs.declared.numbers.LinesRead.the-variants.{Done, Refused as NoLines}
-use Rattle.scan.proofs.Tails.{tail, tail-is, tail-place}
+use Rattle.scan.proofs.Tails.{tail, tail-is, tail-tail, tail-place}
 
 -- what g makes of a part p and of what is left after it, f: where p was read up to the place next, it is what g makes of what is left
 -- from there; where p was refused, it is what g makes of the refusal
@@ -40,6 +40,15 @@ pub then-part : {A B : Type 0} (f : A → List ℕ → Parsed B) (p : Parsed A) 
     → p ≡ read x (drop at s) → parsedLines (tail s at) l y ≡ f x (tail s at) → q ≡ movedOn at l → parsedLines s q y ≡ andThen p f
 then-part f p x s at l q y e h m =
     stage-read (λ r. r) f p x s at (parsedLines s q y) (ap (λ k. parsedLines s k y) m ∙ (moved s at l y ∙ h)) e
+
+-- two parts, and what was read after them
+pub after-two : {A B C : Type 0} (p : Parsed A) (g : A → List ℕ → Parsed B) (f : A → B → List ℕ → Parsed C) (s : List ℕ) (i j : ℕ)
+    (x : A) (y : B) (l q : LinesRead) (v : C) → p ≡ read x (drop i s) → g x (tail s i) ≡ read y (drop j (tail s i))
+    → parsedLines (tail s (i + j)) l v ≡ f x y (tail s (i + j)) → q ≡ movedOn (i + j) l
+    → parsedLines s q v ≡ andThen p (λ x rest. andThen (g x rest) (λ y end. f x y end))
+after-two p g f s i j x y l q v e₁ e₂ h m =
+    let r = ap (λ k. parsedLines s k v) m ∙ (moved s (i + j) l v ∙ (h ∙ ap (f x y) (sym (tail-tail s i j)))) in
+    stage-read (λ p. p) _ _ x s i (parsedLines s q v) (stage-read (λ p. p) _ _ y (tail s i) j (parsedLines s q v) r e₂) e₁
 
 -- a count up to the length of a list, where that is the most
 pub counted-most : (count key : List ℕ) (least lo hi m most : ℕ) (s : List ℕ) (q : Parsed (List ℕ)) → m ≡ most

@@ -12,14 +12,14 @@ use Rattle.sheet.specs.Answers.{answerOf}
 use Rattle.sheet.specs.Order.{runPart}
 use Rattle.sheet.specs.Reading.{atEnd}
 use Rattle.scan.specs.AtPlace.{parsedLines}
-use Rattle.reading.specs.inner.TouchesAtPlace.{entriesWith}
+use Rattle.touchlines.specs.TouchesAtPlace.{entriesWith}
 use Rattle.scan.specs.declared.numbers.LinesRead.the-variants.{Done}
 use Rattle.model.proofs.Values.{zeros-length, idles-length, blank-marks-length}
 use Rattle.scan.proofs.Blanks.{lent-filled}
 use Rattle.reading.proofs.HeadRead.{entries-read}
 use Rattle.scan.proofs.Stages.{stage-read, stage-refused}
 use Rattle.reading.proofs.ReadStages.{more-bytes, no-bytes, finished}
-use Rattle.reading.proofs.ReadTouches.{entries-lent}
+use Rattle.touchlines.proofs.ReadTouches.{entries-lent}
 use Rattle.reading.proofs.run_lines.Statement.{statement}
 use Rattle.reading.proofs.run_lines.Tie as tie
 

@@ -1,0 +1,2 @@
+pub mod ReadTouches
+pub mod ShortTouches

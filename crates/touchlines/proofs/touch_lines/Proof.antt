@@ -1,0 +1,129 @@
+-- `touchlines::touch_lines` meets its contract. The loop's invariant: the touches of the lines passed are put into the entries and
+-- the marks. Assumes nothing.
+use Prim.Native.Nat.{_-_, _≤_}
+use mathlib.Core.Path.{_≡_, refl, sym, ap, _∙_}
+use mathlib.Core.Bool.{false}
+use native.Mathlib.Omega.{arith}
+use borrow.Author.Needs.{needs}
+use lib.ListN.{length, length-replicate}
+use Rattle.touchlines.specs.TouchesAtPlace.{parsedTouch, touchNext}
+use Rattle.touchlines.proofs.ReadTouches.{touch-fits, PassedTouches, touches-start, touches-step, touches-stop, touches-end}
+use Rattle.scan.proofs.Tails.{tail-place}
+use Rattle.touchlines.proofs.touch_lines.Statement.{statement}
+use Rattle.touchlines.proofs.touch_lines.Tie as tie
+
+abbrev Inv-loop : tie.InvT-loop
+Inv-loop s n letters segs entries₀ marks₀ steps before₀ at₀ i₀ entries marks before at i =
+    PassedTouches letters segs (length entries₀) n s entries marks before at i
+
+abbrev μ-loop : tie.MeasureT-loop
+μ-loop s n letters segs entries₀ marks₀ steps before₀ at₀ i₀ entries marks before at i = n - i
+
+-- there are as many marks as entries
+as-many : (c : tie.Start Inv-loop μ-loop) → length (c .args .marks .now) ≡ length (c .args .entries .now)
+as-many c = ap length (c .pre .1 .1) ∙ length-replicate (length (c .args .entries .now)) false
+
+-- the step of a touch lies within the steps
+step-within : (c : tie.After-segment Inv-loop μ-loop) → (1 ≤ c .segment .given .0 .1 .0)
+    × (c .segment .given .0 .1 .0 ≤ length (c .before .before .before .before .before .before .before .before .before .args .entries .now))
+step-within c =
+    let f = touch-fits _ _ _ _ _ _ _ (sym (c .before .before .touch-at .ensures .0) ∙ ap (parsedTouch _) (c .segment .given .1)) in
+    (omega (arith, f .step-above), f .step-within)
+
+loop-holds : tie.Need-loop-holds Inv-loop μ-loop
+loop-holds c = let p = c .before .before .before .pre in touches-start _ _ _ _ _ _ _ refl (p .1 .0) (p .1 .1)
+
+returns : tie.Need-returns Inv-loop μ-loop
+returns c =
+    let w = c .before in
+    let l = w .before .before .before .before .before in
+    let line = sym (w .before .before .touch-at .ensures .0) ∙ ap (parsedTouch _) (w .why .given .1) in (
+      sym (touches-stop _ _ _ _ _ _ _ _ _ _ (l .loop .inv) _ (omega arith) line),
+      (omega arith, λ t. l .loop .inv .unmarked t ∙ sym (l .before .before .before .before .pre .1 .1)),
+    )
+
+same-length-2 : tie.Need-same-length-2 Inv-loop μ-loop
+same-length-2 c =
+    let l = c .before .before .before .before .before .before in
+    l .loop .inv .marks-whole ∙ sym (as-many (l .before .before .before .before))
+
+sub-entries : tie.Need-sub-entries Inv-loop μ-loop
+sub-entries c = omega (arith, step-within (c .before))
+
+mul-entries : tie.Need-mul-entries Inv-loop μ-loop
+mul-entries c =
+    omega (arith, step-within (c .before), c .before .before .before .before .before .before .before .before .before .before .pre)
+
+slice-write-entries : tie.Need-slice-write-entries Inv-loop μ-loop
+slice-write-entries c =
+    omega (arith, step-within (c .before), c .before .before .before .before .before .before .loop .inv .whole)
+
+sub-marks : tie.Need-sub-marks Inv-loop μ-loop
+sub-marks c = omega (arith, step-within (c .before))
+
+slice-write-marks : tie.Need-slice-write-marks Inv-loop μ-loop
+slice-write-marks c =
+    omega (arith, step-within (c .before), c .before .before .before .before .before .before .loop .inv .marks-whole)
+
+add-at : tie.Need-add-at Inv-loop μ-loop
+add-at c =
+    let w = c .before in
+    let l = w .before .before .before .before .before in
+    omega (
+      arith,
+      tail-place (l .before .before .before .before .args .s .now) (l .loop .at) (w .segment .given .0 .1 .1 .1 .0) (l .loop .inv .place)
+          (omega (arith, w .before .before .touch-at .ensures .1, ap touchNext (w .segment .given .1))),
+    )
+
+loop-again : tie.Need-loop-again Inv-loop μ-loop
+loop-again c =
+    let w = c .before in
+    let l = w .before .before .before .before in
+    let line = sym (w .before .before .touch-at .ensures .0) ∙ ap (parsedTouch _) (w .segment .given .1) in
+    touches-step _ _ _ _ _ _ _ _ _ _ (l .before .loop .inv) _ _ _ _ (omega arith) line
+    (omega (arith, w .before .before .touch-at .ensures .1, ap touchNext (w .segment .given .1)))
+
+same-length-4 : tie.Need-same-length-4 Inv-loop μ-loop
+same-length-4 c =
+    let l = c .before in
+    l .loop .inv .marks-whole ∙ sym (as-many (l .before .before .before .before))
+
+returns-2 : tie.Need-returns-2 Inv-loop μ-loop
+returns-2 c =
+    let l = c .before in
+    let e = l .loop .inv in (
+      sym (touches-end _ _ _ _ _ _ _ _ _ _ e (c .loop-test .left)),
+      (e .place, λ t. e .unmarked t ∙ sym (l .before .before .before .before .pre .1 .1)),
+    )
+
+pub touch-lines-spec : {M : Type 1} → statement M
+touch-lines-spec =
+    tie.close
+    (tie.spec
+    Inv-loop
+    μ-loop
+    loop-holds
+    (λ c. search needs)
+    (λ c. search needs)
+    (λ c. search needs)
+    (λ c. search needs)
+    (λ c. search needs)
+    (λ c. search needs)
+    (λ c κs. search needs)
+    (λ c. search needs)
+    (λ c. search needs)
+    same-length-2
+    returns
+    (λ c. search needs)
+    sub-entries
+    mul-entries
+    slice-write-entries
+    sub-marks
+    slice-write-marks
+    add-at
+    (λ c. search needs)
+    (λ c. search needs)
+    loop-again
+    (λ c. search needs)
+    same-length-4
+    returns-2)
