@@ -1,3 +1,5 @@
-pub mod Inserted
+pub mod Fine
+pub mod Keys
 pub mod Passing
-pub mod Searching
+pub mod Quotients
+pub mod Steps

@@ -1,2 +1,3 @@
-pub mod Sorted
+pub mod Held
+pub mod Keys
 pub mod inner

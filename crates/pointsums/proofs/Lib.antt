@@ -1,3 +1,5 @@
-pub mod Charging
-pub mod Groups
+pub mod Along
+pub mod Ordered
 pub mod Running
+pub mod Totals
+pub mod Writing

@@ -1,11 +1,11 @@
 -- `pointsums::no_numbers` meets its contract. Assumes nothing.
 use mathlib.Core.Path.{refl}
-use Rattle.pointsums.specs.inner.Sums.{noSums}
+use Rattle.pointsums.specs.inner.Walk.{nothing}
 use Rattle.pointsums.proofs.no_numbers.Statement.{statement}
 use Rattle.pointsums.proofs.no_numbers.Tie as tie
 
 returns : tie.Need-returns
-unfolding noSums
+unfolding nothing
 returns c = refl
 
 pub no-numbers-spec : {M : Type 1} → statement M

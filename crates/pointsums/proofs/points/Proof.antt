@@ -1,76 +1,83 @@
 -- `pointsums::points` meets its contract: a place too short for the numbers is refused and stays, else they stand at its head.
 -- Assumes nothing.
+use Prim.Native.Nat.{_*_, _^_, _<_}
 use native.Mathlib.Omega.{arith}
 use denote.Ref.{now}
-use borrow.Author.Needs.{needs}
 use Rattle.model.specs.Sheets.{runOf}
 use Rattle.model.specs.Traces.{Trace}
-use Rattle.model.proofs.Places.{text-short, text-fits}
-use Rattle.points.specs.Points.{operatingPoints}
-use Rattle.pointsums.proofs.Charging.{thresholds-few}
-use Rattle.pointsums.proofs.Running.{numbers-held, runs-of, all-points}
+use Rattle.pointsort.proofs.Fine.{held-few, held-quotable}
+use Rattle.pointsums.proofs.Totals.{points-short, points-placed, all-summable}
+use Rattle.pointsums.proofs.Writing.{ended-most}
+use borrow.Author.Needs.{needs}
 use Rattle.pointsums.proofs.points.Statement.{statement}
 use Rattle.pointsums.proofs.points.Tie as tie
 
--- where the function begins, from the thresholds; where the place is known to have room, and the thresholds, from the sums; and the run
-abbrev Begin : tie.After-thresholds → tie.Start
+-- where the function begins, from the reuses; and the run
+abbrev Begin : tie.After-reuses → tie.Start
 Begin c = c .before .before .before .before .before .before .before .before .before
-
-abbrev Enough : tie.After-group-sums → tie.Else1
-Enough c = c .before .before .before .before .before .before .before
-
-abbrev Sorted : tie.After-group-sums → tie.After-thresholds
-Sorted c = Enough c .before .before .before
 
 abbrev runIn : tie.Start → Trace
 runIn s = runOf (s .args .kind) (s .args .a) (now (s .args .sizes)) (now (s .args .warm)) (now (s .args .refs))
 
+-- the points are few
+few-points : (c : tie.After-count-points) → 4 * c .count-points .result < 2 ^ 64
+few-points c =
+    let r = c .before .before .before .before .before .before .before .before .before .before .before .before .before in
+    let s = Begin r in
+    let few = held-few (runIn s) (s .pre) _ _ _ (r .reuses .ensures .0) in
+    let most = ended-most (c .before .before .before .before .sorted-keys .last .1 .1 .1 .1 .0) (r .reuses .result .count) in
+    omega (arith, c .count-points .ensures)
+
+sorted-keys-requires : tie.Need-sorted-keys-requires
+sorted-keys-requires c κs =
+    let r = c .before .before .before .before .before .before .before .before in
+    let s = Begin r in
+    let held = r .reuses .ensures .0 in
+    let few = held-few (runIn s) (s .pre) _ _ _ held in
+    (held-quotable (runIn s) (s .pre) _ _ _ held (omega arith) (omega arith), (omega arith, omega arith))
+
+count-points-requires : tie.Need-count-points-requires
+count-points-requires c κs =
+    let r = c .before .before .before .before .before .before .before .before .before .before .before .before in
+    let s = Begin r in
+    let held = r .reuses .ensures .0 in
+    let few = held-few (runIn s) (s .pre) _ _ _ held in
+    (omega arith, few)
+
 mul-if1 : tie.Need-mul-if1
-mul-if1 c =
-    let s = c .before .before .before .before .before .before .before .before .before .before .before in
-    omega (arith, thresholds-few (runIn s) _ _ _ (c .before .before .thresholds .ensures) (s .pre .steps-within))
+mul-if1 c = omega (arith, few-points c)
 
 returns : tie.Need-returns
 returns c =
-    let s = c .before .before .before .before .before .before .before .before .before .before .before .before in
-    let held = c .before .before .before .thresholds .ensures in
-    text-short (operatingPoints (runIn s)) (now (s .args .out)) (omega (arith, numbers-held (runIn s) _ _ _ held, c .if1 .taken))
-
-group-sums-requires : tie.Need-group-sums-requires
-group-sums-requires c κs =
-    let s = Begin (c .before .before .before .before .before .before .before .before .before) in
-    let held = c .before .before .before .before .before .before .before .before .before .thresholds .ensures in
-    let first = c .before .before .before .before .before .no-sums .ensures in
-    let few = thresholds-few (runIn s) _ _ _ held (s .pre .steps-within) in
-    (s .pre, (held, (omega arith, omega arith, first, c .before .before .before .before .no-sums2 .ensures)))
+    let r = c .before .before .before .before .before .before .before .before .before .before .before .before .before .before in
+    let s = Begin r in
+    let held = r .reuses .ensures .0 in
+    let few = held-few (runIn s) (s .pre) _ _ _ held in
+    points-short (runIn s) (s .pre) _ _ _ _ held (c .before .before .before .before .before .sorted-keys .ensures) _ _ (r .reuses .ensures .1 .0) (r .reuses .ensures .1 .1)
+    (now (s .args .out)) _ (c .before .count-points .ensures) (c .if1 .taken)
 
 write-points-requires : tie.Need-write-points-requires
 write-points-requires c κs =
-    let s = Begin (Sorted (c .before .before .before .before .before .before .before)) in
-    let held = Sorted (c .before .before .before .before .before .before .before) .thresholds .ensures in
-    let sums = c .before .before .before .before .before .before .before .group-sums .ensures in
-    let few = thresholds-few (runIn s) _ _ _ held (s .pre .steps-within) in (
-      runs-of (runIn s) _ _ _ _ _ _ _ held (sums .1 .0) (sums .0 .0) (sums .0 .1) (s .pre) (omega arith) (omega arith) (sums .1 .1 .0)
-          (sums .1 .1 .1),
-      omega arith,
+    let r = c .before .before .before .before .before .before .before .before .before .before .before .before .before .before .before .before .before .before in
+    let s = Begin r in
+    let held = r .reuses .ensures .0 in
+    let few = held-few (runIn s) (s .pre) _ _ _ held in (
+      all-summable (runIn s) (s .pre) _ _ _ _ held (c .before .before .before .before .before .before .before .before .before .sorted-keys .ensures) _ _ (r .reuses .ensures .1 .0) (r .reuses .ensures .1 .1)
+          (omega arith) (omega arith) (omega arith),
+      omega (arith, c .before .before .before .before .before .count-points .ensures, c .before .before .before .before .if1 .left),
     )
 
-mul-t18 : tie.Need-mul-t18
-mul-t18 c =
-    let s = Begin (Sorted (c .before .before .before .before .before .before .before .before .before .before)) in
-    let held = Sorted (c .before .before .before .before .before .before .before .before .before .before) .thresholds .ensures in
-    omega (arith, thresholds-few (runIn s) _ _ _ held (s .pre .steps-within))
+mul-t31 : tie.Need-mul-t31
+mul-t31 c = omega (arith, few-points (c .before .before .before .before .before .before .before .before))
 
 returns-2 : tie.Need-returns-2
 returns-2 c =
-    let s = Begin (Sorted (c .before .before .before .before .before .before .before .before .before .before)) in
-    let held = Sorted (c .before .before .before .before .before .before .before .before .before .before) .thresholds .ensures in
-    let sums = c .before .before .before .before .before .before .before .before .before .before .group-sums .ensures in
-    rw (
-      c .before .before .write-points .ensures,
-      all-points (runIn s) _ _ _ _ _ _ _ held (sums .1 .0) (sums .0 .0) (sums .0 .1),
-    ) (text-fits (operatingPoints (runIn s)) (now (s .args .out)) (numbers-held (runIn s) _ _ _ held)
-    (omega (arith, Enough (c .before .before .before .before .before .before .before .before .before .before) .if1 .left)))
+    let r = c .before .before .before .before .before .before .before .before .before .before .before .before .before .before .before .before .before .before .before .before .before in
+    let s = Begin r in
+    let held = r .reuses .ensures .0 in
+    let few = held-few (runIn s) (s .pre) _ _ _ held in
+    points-placed (runIn s) (s .pre) _ _ _ _ held (c .before .before .before .before .before .before .before .before .before .before .before .before .sorted-keys .ensures) _ _ (r .reuses .ensures .1 .0) (r .reuses .ensures .1 .1)
+    (now (s .args .out)) _ _ (c .before .before .before .before .before .before .before .before .count-points .ensures) (c .before .before .write-points .ensures) (c .before .before .before .before .before .before .before .if1 .left)
 
 pub points-spec : {M : Type 1} → statement M
 points-spec =
@@ -81,20 +88,21 @@ points-spec =
     (λ c. search needs)
     (λ c. search needs)
     (λ c κs. search needs)
+    (λ c κs. search needs)
+    (λ c κs. search needs)
+    (λ c. search needs)
+    (λ c. search needs)
+    (λ c. search needs)
+    (λ c. search needs)
+    sorted-keys-requires
+    (λ c. search needs)
+    count-points-requires
     mul-if1
     returns
-    (λ c κs. search needs)
-    (λ c κs. search needs)
-    (λ c. search needs)
-    (λ c. search needs)
-    (λ c. search needs)
-    (λ c. search needs)
-    group-sums-requires
-    (λ c. search needs)
     (λ c. search needs)
     (λ c. search needs)
     (λ c. search needs)
     write-points-requires
-    mul-t18
+    mul-t31
     (λ c. search needs)
     returns-2)

@@ -1,95 +1,121 @@
--- `pointsums::write_points` meets its contract: the invariant of its loop is `Running`, the measure the points that are left.
+-- `pointsums::write_points` meets its contract: the invariant of its loop is `Writing`, the measure the keys that are left.
 -- Assumes nothing.
-use Prim.Native.Nat.{_+_, _-_, _*_, _<_}
-use mathlib.Core.Path.{_≡_}
+use Prim.Native.Nat.{_-_, _+_}
+use mathlib.Core.Path.{_∙_}
+use mathlib.Core.Logic.{⊎-elim}
 use native.Mathlib.Omega.{arith}
-use lib.ListN.{length, getD, set}
+use lib.ListN.{set, length-set}
 use denote.Ref.{now}
+use Rattle.pointsums.specs.inner.Walk.{reuseAt}
+use Rattle.pointsums.proofs.Writing.{Writing, writing-start, point-room, memory-fits, load-fits, writing-new, writing-same, writing-done}
 use borrow.Author.Needs.{needs}
-use Rattle.pointsums.proofs.Running.{inside, Running, running-start, running-step, memory-fits, load-fits}
 use Rattle.pointsums.proofs.write_points.Statement.{statement}
 use Rattle.pointsums.proofs.write_points.Tie as tie
 
 abbrev Inv-loop : tie.InvT-loop
-Inv-loop rs ws mem cost memory load n out₀ m₀ l₀ k₀ out m l k = Running rs ws mem cost memory load n out₀ out m l k
+Inv-loop rs ws keys memory load n out₀ r₀ w₀ m₀ l₀ q₀ at₀ k₀ out r w m l q at k =
+    Writing rs ws keys memory load n out₀ out r w m l q at k
 
 abbrev μ-loop : tie.MeasureT-loop
-μ-loop rs ws mem cost memory load n out₀ m₀ l₀ k₀ out m l k = n - k
+μ-loop rs ws keys memory load n out₀ r₀ w₀ m₀ l₀ q₀ at₀ k₀ out r w m l q at k = n - k
 
 loop-holds : tie.Need-loop-holds Inv-loop μ-loop
 loop-holds c =
-    let a = c .args in
-    running-start (now (a .rs)) (now (a .ws)) (now (a .mem)) (now (a .cost)) (a .memory) (a .load) (a .n) (now (a .out))
+    let s = c .before .before .before .before .before in
+    let a = s .args in
+    writing-start (now (a .rs)) (now (a .ws)) (now (a .keys)) (a .memory) (a .load) (a .n) (now (a .out)) (c .first-cost .result)
+    (c .first-cost .ensures)
+
+put-point-requires : tie.Need-put-point-requires Inv-loop μ-loop
+put-point-requires c κs =
+    let s = c .before .before .before .before .before .before .before .before .before .before in
+    let a = s .args in
+    let v = c .before .before .before .before .loop in
+    point-room (now (a .rs)) (now (a .ws)) (now (a .keys)) (a .memory) (a .load) (a .n) (s .pre .0) (now (a .out)) (s .pre .1) (v .out)
+    (v .r) (v .w) (v .m) (v .l) (v .q) (v .at) (v .k) (v .inv)
+
+add-at : tie.Need-add-at Inv-loop μ-loop
+add-at c =
+    let s = c .before .before .before .before .before .before .before .before .before .before .before .before .before in
+    let a = s .args in
+    let v = c .before .before .before .before .before .before .before .loop in
+    omega (
+      arith,
+      point-room (now (a .rs)) (now (a .ws)) (now (a .keys)) (a .memory) (a .load) (a .n) (s .pre .0) (now (a .out)) (s .pre .1) (v .out)
+          (v .r) (v .w) (v .m) (v .l) (v .q) (v .at) (v .k) (v .inv),
+    )
+
+cast-m : tie.Need-cast-m Inv-loop μ-loop
+cast-m c =
+    omega (arith, c .shared-slice-known7 .given (reuseAt (now (c .before .before .before .before .before .before .before .before .before .before .args .keys)) (c .before .before .before .before .loop .k)))
 
 add-m : tie.Need-add-m Inv-loop μ-loop
 add-m c =
-    let s = c .before .before .before in
+    let s = c .before .before .before .before .before .before .before .before .before .before in
     let a = s .args in
-    let v = c .before .before .loop in
+    let v = c .before .before .before .before .loop in
     omega (
       arith,
-      memory-fits (now (a .rs)) (now (a .ws)) (now (a .mem)) (now (a .cost)) (a .memory) (a .load) (a .n) (now (a .out)) (v .out) (v .m)
-          (v .l) (v .k)
-          (s .pre .0) (s .pre .1) (v .inv) (omega arith),
+      memory-fits (now (a .rs)) (now (a .ws)) (now (a .keys)) (a .memory) (a .load) (a .n) (s .pre .0) (now (a .out)) (s .pre .1) (v .out)
+          (v .r) (v .w) (v .m) (v .l) (v .q) (v .at) (v .k) (v .inv) (c .before .before .before .loop-test .taken),
     )
+
+cast-l : tie.Need-cast-l Inv-loop μ-loop
+cast-l c =
+    omega (arith, c .shared-slice-known8 .given (reuseAt (now (c .before .before .before .before .before .before .before .before .before .before .before .args .keys)) (c .before .before .before .before .before .loop .k)))
 
 sub-l : tie.Need-sub-l Inv-loop μ-loop
 sub-l c =
-    let s = c .before .before .before .before in
+    let s = c .before .before .before .before .before .before .before .before .before .before .before in
     let a = s .args in
-    let v = c .before .before .before .loop in
-    load-fits (now (a .rs)) (now (a .ws)) (now (a .mem)) (now (a .cost)) (a .memory) (a .load) (a .n) (now (a .out)) (v .out) (v .m)
-    (v .l) (v .k)
-    (s .pre .0) (s .pre .1) (v .inv) (omega arith)
-
-cast-out : tie.Need-cast-out Inv-loop μ-loop
-cast-out c = omega (arith, c .shared-slice-known3 .given (c .before .before .before .before .loop .k))
-
-cast-out-2 : tie.Need-cast-out-2 Inv-loop μ-loop
-cast-out-2 c = omega (arith, c .shared-slice-known4 .given (c .before .before .before .before .before .loop .k))
-
-slice-write-out-2 : tie.Need-slice-write-out-2 Inv-loop μ-loop
-slice-write-out-2 c =
-    let a = c .before .before .before .before .before .before .args in
-    let l = c .before .before .before .before .before .loop in
-    let at = 4 * l .k in
-    let lt : at + 1 < length (l .out) = omega (arith, l .inv .whole, c .before .before .before .before .before .before .pre .1) in
-    inside (l .out) at (getD (now (a .rs)) (l .k) 0) (at + 1) lt
-
-slice-write-out-3 : tie.Need-slice-write-out-3 Inv-loop μ-loop
-slice-write-out-3 c =
-    let a = c .before .before .before .before .before .before .args in
-    let l = c .before .before .before .before .before .loop in
-    let at = 4 * l .k in
-    let lt : at + 2 < length (l .out) = omega (arith, l .inv .whole, c .before .before .before .before .before .before .pre .1) in
-    inside (set (l .out) at (getD (now (a .rs)) (l .k) 0)) (at + 1) (getD (now (a .ws)) (l .k) 0) (at + 2)
-    (inside (l .out) at (getD (now (a .rs)) (l .k) 0) (at + 2) lt)
-
-slice-write-out-4 : tie.Need-slice-write-out-4 Inv-loop μ-loop
-slice-write-out-4 c =
-    let a = c .before .before .before .before .before .before .args in
-    let l = c .before .before .before .before .before .loop in
-    let at = 4 * l .k in
-    let lt : at + 3 < length (l .out) = omega (arith, l .inv .whole, c .before .before .before .before .before .before .pre .1) in
-    inside (set (set (l .out) at (getD (now (a .rs)) (l .k) 0)) (at + 1) (getD (now (a .ws)) (l .k) 0)) (at + 2)
-    (l .m + getD (now (a .mem)) (l .k) 0) (at + 3)
-    (inside (set (l .out) at (getD (now (a .rs)) (l .k) 0)) (at + 1) (getD (now (a .ws)) (l .k) 0) (at + 3)
-    (inside (l .out) at (getD (now (a .rs)) (l .k) 0) (at + 3) lt))
+    let v = c .before .before .before .before .before .loop in
+    load-fits (now (a .rs)) (now (a .ws)) (now (a .keys)) (a .memory) (a .load) (a .n) (s .pre .0) (now (a .out)) (s .pre .1) (v .out)
+    (v .r) (v .w) (v .m) (v .l) (v .q) (v .at) (v .k) (v .inv) (c .before .before .before .before .loop-test .taken)
 
 loop-again : tie.Need-loop-again Inv-loop μ-loop
 loop-again c =
-    let s = c .before .before .before .before .before .before in
+    let s = c .before .before .before .before .before .before .before .before .before .before .before in
     let a = s .args in
     let v = c .before .before .before .before .before .loop in
-    running-step (now (a .rs)) (now (a .ws)) (now (a .mem)) (now (a .cost)) (a .memory) (a .load) (a .n) (now (a .out)) (v .out) (v .m)
-    (v .l) (v .k)
-    (s .pre .0) (s .pre .1) (v .inv) (omega arith)
+    let lt = c .before .before .before .before .loop-test .taken in
+    ⊎-elim
+    (λ w. rw (w .7, w .8, w .9, w .10)
+    (writing-new (now (a .rs)) (now (a .ws)) (now (a .keys)) (a .memory) (a .load) (a .n) (s .pre .0) (now (a .out)) (s .pre .1) (v .out)
+    (v .r) (v .w) (v .m) (v .l) (v .q) (v .at) (v .k) (v .inv) lt (w .0 .taken) (w .2 .last .0) (w .2 .ensures)))
+    (λ w. rw (w .1, w .2, w .3, w .4)
+    (writing-same (now (a .rs)) (now (a .ws)) (now (a .keys)) (a .memory) (a .load) (a .n) (s .pre .0) (now (a .out)) (s .pre .1) (v .out)
+    (v .r) (v .w) (v .m) (v .l) (v .q) (v .at) (v .k) (v .inv) lt (w .0 .left)))
+    (c .before .before .if1 .came)
+
+put-point-requires-2 : tie.Need-put-point-requires-2 Inv-loop μ-loop
+put-point-requires-2 c κs =
+    let s = c .before .before .before .before .before .before .before .before in
+    let a = s .args in
+    let v = c .before .before .loop in
+    point-room (now (a .rs)) (now (a .ws)) (now (a .keys)) (a .memory) (a .load) (a .n) (s .pre .0) (now (a .out)) (s .pre .1) (v .out)
+    (v .r) (v .w) (v .m) (v .l) (v .q) (v .at) (v .k) (v .inv)
+
+same-length : tie.Need-same-length Inv-loop μ-loop
+same-length c =
+    let s = c .before .before .before .before .before .before .before .before .before .before .before in
+    let a = s .args in
+    let v = c .before .before .before .before .before .loop in
+    rw (
+      c .before .before .put-point2 .ensures,
+      length-set (set (set (set (v .out) (v .at) (v .r)) (v .at + 1) (v .w)) (v .at + 2) (v .m)) (v .at + 3) (v .l),
+      length-set (set (set (v .out) (v .at) (v .r)) (v .at + 1) (v .w)) (v .at + 2) (v .m),
+      length-set (set (v .out) (v .at) (v .r)) (v .at + 1) (v .w),
+      length-set (v .out) (v .at) (v .r),
+    ) (v .inv .whole)
 
 returns : tie.Need-returns Inv-loop μ-loop
 returns c =
-    let l = c .before .loop in
-    let done : l .k ≡ c .before .before .args .n = omega (arith, l .inv .within) in
-    rw (← done) (l .inv .out-is)
+    let s = c .before .before .before .before .before .before .before .before .before .before .before in
+    let a = s .args in
+    let v = c .before .before .before .before .before .loop in
+    c .before .before .put-point2 .ensures
+    ∙ writing-done (now (a .rs)) (now (a .ws)) (now (a .keys)) (a .memory) (a .load) (a .n) (s .pre .0) (now (a .out)) (s .pre .1) (v .out)
+    (v .r) (v .w) (v .m) (v .l) (v .q) (v .at) (v .k) (v .inv) (c .before .before .before .before .loop-test .left)
 
 pub write-points-spec : {M : Type 1} → statement M
 write-points-spec =
@@ -97,33 +123,27 @@ write-points-spec =
     (tie.spec
     Inv-loop
     μ-loop
+    (λ c κs. search needs)
     loop-holds
     (λ c. search needs)
     (λ c. search needs)
+    put-point-requires
+    add-at
+    (λ c. search needs)
+    (λ c. search needs)
+    (λ c. search needs)
+    (λ c. search needs)
+    (λ c. search needs)
+    (λ c. search needs)
+    cast-m
     add-m
     (λ c. search needs)
     (λ c. search needs)
+    cast-l
     sub-l
     (λ c. search needs)
     (λ c. search needs)
-    (λ c. search needs)
-    cast-out
-    (λ c. search needs)
-    (λ c. search needs)
-    (λ c. search needs)
-    (λ c. search needs)
-    cast-out-2
-    (λ c. search needs)
-    (λ c. search needs)
-    slice-write-out-2
-    (λ c. search needs)
-    (λ c. search needs)
-    slice-write-out-3
-    (λ c. search needs)
-    (λ c. search needs)
-    slice-write-out-4
-    (λ c. search needs)
-    (λ c. search needs)
     loop-again
-    (λ c. c .before .loop .inv .whole)
+    put-point-requires-2
+    same-length
     returns)
