@@ -1,5 +1,7 @@
 // The misses with every number of frames in one pass: a recency list, and how many touches there are at each stack distance.
 // What they are is written in crate `lru`; nothing is assumed.
+use crate::recency::index_of;
+use crate::recency::put_first;
 use model::Sheet;
 ghost use mathlib.Core.Path.{_≡_};
 ghost use Prim.Native.Nat.{_≤_};
@@ -33,26 +35,16 @@ fn no_touches() -> [u64; Sheet::MAX_SEGS]
     [0u64; Sheet::MAX_SEGS]
 }
 
-// Brings x to the front of the first n entries, in one walk from the front that moves what it passes one further. The result says how many
-// stood before x; n where it was not among them, and then the list is one longer.
+// Brings x to the front of the first n entries. The result says how many stood before x; n where it was not among them, and then the list
+// is one longer.
 fn bring(list: &mut [u16; ENTRIES], n: usize, x: u16) -> usize
     requires { ⌜ (n ≤ mostSegs) × (length (now list) ≡ mostEntries) ⌝ }
     ensures { λ r. ⌜ r ≡ indexIn x (take n (now (list .entry))) ⌝ }
     ensures { λ r. ⌜ now (list .exit) ≡ moved r x (now (list .entry)) ⌝ }
 {
-    let mut carry = x;
-    let mut i: usize = 0;
-    while i < n {
-        let y = list[i];
-        list[i] = carry;
-        if y == x {
-            return i;
-        }
-        carry = y;
-        i += 1;
-    }
-    list[n] = carry;
-    n
+    let p = index_of(list, n, x);
+    put_first(list, p, x);
+    p
 }
 
 // One pass over the touches with a recency list, the first n entries of `list`.

@@ -2,6 +2,7 @@
 // of frames in turn. What they are is written in crate `lru`; nothing is assumed.
 pub mod distances;
 pub mod plain;
+mod recency;
 
 use model::Refusal;
 use model::Verdict;

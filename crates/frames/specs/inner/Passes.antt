@@ -1,6 +1,6 @@
 -- What the engines keep: a list of segments at the front of an array, the place of a segment in it, and the touches at each distance.
 -- Assumes nothing.
-use Prim.Native.Nat.{ℕ, suc, _<_}
+use Prim.Native.Nat.{ℕ, suc, _+_, _<_}
 use mathlib.Core.Path.{_≡_}
 use mathlib.Core.Bool.{cond}
 use mathlib.Core.List.{List, [], _∷_, _++_}
@@ -26,6 +26,10 @@ touchesOf sizes refs = runOf Time 0 sizes [] refs
 unfoldable pub indexIn : ℕ → List ℕ → ℕ
 indexIn x [] = 0
 indexIn x (y ∷ ys) = cond (eqb y x) 0 (suc (indexIn x ys))
+
+-- x is not among the first i entries
+abbrev pub PassedBy : ℕ → List ℕ → ℕ → Type 0
+PassedBy x l i = indexIn x l ≡ i + indexIn x (drop i l)
 
 -- the list with x at its front, the first p entries one further, and entry p given up
 abbrev pub moved : ℕ → ℕ → List ℕ → List ℕ

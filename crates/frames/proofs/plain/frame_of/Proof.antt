@@ -4,7 +4,8 @@ use native.Mathlib.Numerals.{add-one}
 use native.Mathlib.Omega.{arith}
 use borrow.Author.Needs.{needs}
 use lib.ListN.{length}
-use Rattle.frames.proofs.Indexes.{PassedBy, index-next, index-here, index-none}
+use Rattle.frames.specs.inner.Passes.{PassedBy}
+use Rattle.frames.proofs.Indexes.{index-next, index-here, index-none}
 use Rattle.frames.proofs.plain.frame_of.Statement.{statement}
 use Rattle.frames.proofs.plain.frame_of.Tie as tie
 
