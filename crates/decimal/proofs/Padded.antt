@@ -2,14 +2,14 @@
 -- Assumes nothing.
 use mathlib.Core.Path.{_≡_, refl, sym, ap, _∙_}
 use mathlib.Core.List.{List, _∷_, _++_, append-assoc}
-use Prim.Native.Nat.{ℕ, zero, suc, _+_, _*_, _/_, _%_, _^_, _≤_, _<_}
-use native.Mathlib.Nat.{add-zero, add-suc, pow-suc}
+use Prim.Native.Nat.{ℕ, zero, suc, _+_, _*_, _/_, _%_, _≤_, _<_}
+use native.Mathlib.Nat.{add-zero, add-suc}
 use native.Mathlib.Numerals.{add-one}
 use native.Mathlib.Omega.{arith}
 use lib.ListN.{length, take, drop, set, length-append, length-set, take-append-drop}
 use lib.Seq.{length-take-le, set-split, drop-at, take-set-le}
 use Rattle.decimal.specs.Decimal.{written}
-use Rattle.decimal.proofs.Written.{by-digits, written-low, written-high}
+use Rattle.decimal.proofs.Written.{by-digits, written-low, written-high, written-some, written-exact, written-width}
 
 -- the last k digits of n, and then s
 unfoldable pub padded : ℕ → ℕ → List ℕ → List ℕ
@@ -108,6 +108,51 @@ pub fill-last-three : (at : ℕ) (t out : List ℕ) (n k : ℕ) {o : List ℕ} �
     → o ≡ withPair out (at + 1) (n % 100) → set o at (48 + n / 100) ≡ t
 fill-last-three at t out n k c e h w = rw w (fill-last at t _ (n / 100) 1 (fill-pair at t out n k 1 c e) refl (omega arith))
 
--- what is left of a number below 10 ^ k once its last four digits are written
-pub rest-below : (n k j : ℕ) → n < 10 ^ k → k ≡ suc (suc (suc (suc j))) → n / 10000 < 10 ^ j
-rest-below n k j h e = omega (arith, rw e at h, pow-suc 10 (suc (suc (suc j))), pow-suc 10 (suc (suc j)), pow-suc 10 (suc j), pow-suc 10 j)
+-- with as many digits left as n is written with, their write is the last
+pub fill-whole : (at : ℕ) (t out : List ℕ) (n k : ℕ) {o : List ℕ} → Filling at t out n k → k ≡ length (written n)
+    → o ≡ take at out ++ (written n ++ drop (at + length (written n)) out) → o ≡ t
+fill-whole at t out n k c e w =
+    w ∙ rw (← padded-written n (drop (at + length (written n)) out)) (rw e at (c .whole))
+
+-- ---- a number of at most four digits
+
+-- its digits are written from the place at on: the place after them, and what out becomes
+module _ (at n : ℕ) (out : List ℕ) (h : at + length (written n) ≤ length out) where
+  abbrev become : List ℕ
+  become = take at out ++ (written n ++ drop (at + length (written n)) out)
+
+  -- by two pairs
+  pub short-four : {o q : List ℕ} → 10 ≤ n / 100 → n < 10000 → o ≡ withPair out (at + 2) (n % 100) → q ≡ withPair o at (n / 100)
+      → (at + 4 ≡ at + length (written n)) × (q ≡ become)
+  short-four {o} {q} l b w v =
+      let e = written-width 3 n (omega arith) b in
+      let all : n % 10000 ≡ n = omega arith in
+      let low : o ≡ withPair out (at + 0 + 2) (n % 10000 % 100) = rw (all, add-zero) w in
+      let high : q ≡ withPair o (at + 0) (n % 10000 / 100) = rw (all, add-zero) v in
+      let f = fill-four at become out n (length (written n)) 0 (fill-start at n out h) (sym e) low high in
+      (omega (arith, e), fill-end at become q (n / 10000) 0 f refl)
+
+  -- by a digit and a pair
+  pub short-three : {o : List ℕ} → 0 < n / 100 → n / 100 < 10 → o ≡ withPair out (at + 1) (n % 100)
+      → (at + 3 ≡ at + length (written n)) × (set o at (48 + n / 100) ≡ become)
+  short-three l b w =
+      let e = written-width 2 n (omega arith) (omega arith) in
+      (omega (arith, e), fill-last-three at become out n (length (written n)) (fill-start at n out h) (sym e) (omega arith) w)
+
+  -- by a pair
+  pub short-two : {o : List ℕ} → n / 100 ≡ 0 → 10 ≤ n % 100 → o ≡ withPair out at (n % 100)
+      → (at + 2 ≡ at + length (written n)) × (o ≡ become)
+  short-two l b w =
+      let e = written-width 1 n (omega arith) (omega arith) in
+      let all : n % 100 ≡ n = omega arith in
+      (
+        omega (arith, e),
+        fill-last-two at become out n (length (written n)) (fill-start at n out h) (sym e) (omega arith) (rw all at w),
+      )
+
+  -- by a digit
+  pub short-one : n / 100 ≡ 0 → n % 100 < 10 → (at + 1 ≡ at + length (written n)) × (set out at (48 + n % 100) ≡ become)
+  short-one l b =
+      let all : n % 100 ≡ n = omega arith in
+      let e = written-exact 1 n (omega arith) (written-some n) (omega arith) in
+      (omega (arith, e), rw all (fill-last at become out n (length (written n)) (fill-start at n out h) (sym e) (omega arith)))

@@ -5,7 +5,6 @@ use mathlib.Core.Bool.{Bool, true, false, false≢true, not}
 use mathlib.Core.List.{List, [], _∷_, _++_, append-assoc, append-nil}
 use Prim.Native.Nat.{ℕ, zero, suc, _+_, _*_, _-_, _/_, _%_, _^_, _≤_, _<_}
 use native.Mathlib.Nat.{not-suc-le-zero, pow-suc, one-le-pow}
-use native.Mathlib.Numerals.{add-one}
 use native.Mathlib.Omega.{arith}
 use borrow.Author.Tests.{ltb-true, ltb-false, lt-ltb, le-ltb, eqb-false, ne-eqb, not-true}
 use lib.Dec.{ltb, eqb}
@@ -158,9 +157,22 @@ pub written-exact : (k n : ℕ) → 1 ≤ k → k ≤ length (written n) → n <
 written-exact zero n p h l = absurd (not-suc-le-zero p)
 written-exact (suc k) n p h l = omega (arith, written-length k n l)
 
--- and a number with k digits is below 10 ^ k
-pub written-below : (n : ℕ) → n < 10 ^ length (written n)
-written-below =
-    by-digits (λ n. n < 10 ^ length (written n))
-    (λ n h. rw (written-low n h) (omega arith))
-    (λ n h e. rw (written-high n h, length-append, add-one) (omega (arith, pow-suc 10 (length (written (n / 10))))))
+-- and a number from 10 ^ k on and below 10 ^ suc k has suc k
+pub written-width : (k n : ℕ) → 10 ^ k ≤ n → n < 10 ^ suc k → suc k ≡ length (written n)
+written-width k n l h = written-exact (suc k) n (omega arith) (written-longer k n l) h
+
+-- a number from 10,000 on has four digits more than its ten-thousands
+pub written-fours : (n : ℕ) → 10000 ≤ n → length (written n) ≡ 4 + length (written (n / 10000))
+written-fours n h =
+    let rest : n / 10 / 10 / 10 / 10 ≡ n / 10000 = omega arith in
+    omega (
+      arith,
+      one-more n (omega arith),
+      one-more (n / 10) (omega arith),
+      one-more (n / 10 / 10) (omega arith),
+      one-more (n / 10 / 10 / 10) (omega arith),
+      ap (λ m. length (written m)) rest,
+    )
+  where
+    one-more : (n : ℕ) → 10 ≤ n → length (written n) ≡ 1 + length (written (n / 10))
+    one-more n h = rw (written-high n h, length-append) (omega arith)
