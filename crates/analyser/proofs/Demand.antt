@@ -1,5 +1,5 @@
--- Demand 3 holds of every run of bytes that reads as an accepted sheet of form 1, 2 or 3, and of every row of it. What holds of form 4 is in
--- Modified.antt. Assumes nothing.
+-- Demand 3 holds of every run of bytes that reads as an accepted sheet of form 1, 2 or 3, and of every row of it. What holds of form 4 is
+-- in Modified.antt. Assumes nothing.
 use Prim.Native.Nat.{ℕ, _*_, _≤_, _<_}
 use mathlib.Core.Path.{_≡_, refl, sym, ap, _∙_}
 use mathlib.Core.Bool.{false}
@@ -73,7 +73,8 @@ module _ (s : List ℕ) (v : SheetValue) (reads : readForms 1 3 s ≡ accepted v
   -- the bytes at the front are the optimal schedule
   front-is : (place : List ℕ) → 32 * length (v .refs) ≤ length place → leftSchedule s v r place ≡ rowSchedule v r
   front-is place fits =
-      rw (← placed-at place fits .place-is, ← schedule-length v r) (take-append-seam (rowSchedule v r) (drop (length (rowSchedule v r)) place))
+      rw (← placed-at place fits .place-is, ← schedule-length v r)
+      (take-append-seam (rowSchedule v r) (drop (length (rowSchedule v r)) place))
 
   -- which has the optimum
   optimum-of : HasOptimum s v r (rowSchedule v r)

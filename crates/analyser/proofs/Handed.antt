@@ -22,7 +22,8 @@ use Rattle.recorder.specs.declared.TouchAnswer.{TouchAnswer}
 use Rattle.recorder.proofs.Bulk.{takable, all-valid, one-accepted}
 use Rattle.recorder.proofs.Recorded.{counts-are}
 use Rattle.recorder.proofs.Standing.{started-valid, later-valid, rested-valid, idle-room}
-use Rattle.analyser.specs.Recording.{startAnswer, takenOf, Handed, begun, touched, touched-all, idled, recordedOf, emptyAfter, Recorded}
+use Rattle.analyser.specs.Recording.{startAnswer, takenOf, Handed, begun, touched, touched-all, idled, recordedOf, emptyAfter}
+use Rattle.analyser.specs.Recording.{Recorded}
 
 -- a recorder that stands for a valid sheet
 record Stands (v : SheetValue) (R : Recorder) : Type 0 where
@@ -136,7 +137,8 @@ unfolding recorderOf
 steps-of v = refl
 
 handed-counted : {s taken : List ℕ} {R : Recorder} → Handed s taken R → (o : Outcome) → readForms 1 3 s ≡ o → R .steps ≡ length taken
-handed-counted {s} {taken} {R} h (accepted v) e = ap (λ (Q : Recorder). Q .steps) (handed-stands h v e .stands) ∙ steps-of (recordedOf v taken)
+handed-counted {s} {taken} {R} h (accepted v) e = ap (λ (Q : Recorder). Q .steps) (handed-stands h v e .stands)
+    ∙ steps-of (recordedOf v taken)
 handed-counted {s} {taken} {R} h (rejected why) e = ap (λ (Q : Recorder). Q .steps) (handed-empty h why e .empty)
 
 -- the theorem

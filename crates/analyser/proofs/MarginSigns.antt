@@ -26,13 +26,18 @@ module _ (s : List ℕ) (v : SheetValue) (reads : readSheet s ≡ accepted v) (r
   -- a reuse is answered with its margin
   pub reuse-answered : Reuse
       → marginAnswer s r n
-      ≡ record { verdict = Accepted; margin = marginAt (traceOf v) (rowAt v r .h) (rowAt v r .d) (placeOf (traceOf v) n) (entry (traceOf v) (placeOf (traceOf v) n)) }
+      ≡ record {
+        verdict = Accepted;
+        margin = marginAt (traceOf v) (rowAt v r .h) (rowAt v r .d) (placeOf (traceOf v) n)
+            (entry (traceOf v) (placeOf (traceOf v) n));
+      }
   unfolding marginAnswer touchMargin
   reuse-answered e = rw reads (margin-at v r n row some within ∙ rw e)
 
   -- which is 0 or more exactly when the reuse is kept
   pub answered-sign : Reuse
-      → nonNeg (marginAnswer s r n .margin) ≡ kept (traceOf v) (rowAt v r .h) (rowAt v r .d) (placeOf (traceOf v) n) (entry (traceOf v) (placeOf (traceOf v) n))
+      → nonNeg (marginAnswer s r n .margin)
+      ≡ kept (traceOf v) (rowAt v r .h) (rowAt v r .d) (placeOf (traceOf v) n) (entry (traceOf v) (placeOf (traceOf v) n))
   answered-sign e =
       ap (λ m. nonNeg (m .margin)) (reuse-answered e)
       ∙ reuse-margin (traceOf v) (rowAt v r .h) (rowAt v r .d) (placeOf (traceOf v) n) (entry (traceOf v) (placeOf (traceOf v) n)) e

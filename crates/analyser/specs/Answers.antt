@@ -27,7 +27,8 @@ use Rattle.rows.specs.declared.billing.BillAnswer.{BillAnswer}
 abbrev pub writeResult : Sheet → Result
 writeResult sheet = gives (sheetText (valueOf sheet))
 
--- the sheet of form 1 that the bytes stand for, in form 2: the sheet's refusals, where any other form is 4, then 11 by the place (request F-3)
+-- the sheet of form 1 that the bytes stand for, in form 2: the sheet's refusals, where any other form is 4, then 11 by the place (request
+-- F-3)
 unfoldable pub toForm2Result : List ℕ → Result
 toForm2Result s = onSheet (readForms 1 1 s) refuses toForm2
 
@@ -52,8 +53,8 @@ printedText s = onSheet (readSheet s) refusedText listingOf
 unfoldable pub pageResult : List ℕ → Result
 pageResult s = onSheet (readSheet s) refuses (λ v. gives (pagesOf v))
 
--- the optimal schedule of row r of the sheet that the bytes stand for: the sheet's refusals, where form 4 is 4 (request F-13), 7, then 11 by
--- the place
+-- the optimal schedule of row r of the sheet that the bytes stand for: the sheet's refusals, where form 4 is 4 (request F-13), 7, then 11
+-- by the place
 unfoldable pub scheduleResult : List ℕ → ℕ → Result
 scheduleResult s r = onSheet (readForms 1 3 s) refuses (λ v. scheduleFor v r)
 
@@ -62,7 +63,8 @@ scheduleResult s r = onSheet (readForms 1 3 s) refuses (λ v. scheduleFor v r)
 unfoldable pub modifiedResult : List ℕ → ℕ → Result
 modifiedResult s r = onSheet (readForms 4 4 s) refuses (λ v. modifiedFor v r)
 
--- the price of a schedule p at row r of the sheet that the bytes stand for, in form 4 with stores counted: the sheet's refusals, 7, 8, 9, 10
+-- the price of a schedule p at row r of the sheet that the bytes stand for, in form 4 with stores counted: the sheet's refusals, 7, 8, 9,
+-- 10
 unfoldable pub pricing : List ℕ → ℕ → List ℕ → PriceAnswer
 pricing s r p = onSheet (readSheet s) noPrice (λ v. priceFor v r p)
 

@@ -1,5 +1,5 @@
--- What the calls for the misses of least-recently-used replacement answer for a run of bytes, and what holds of the misses (request F-9) and
--- of the entries looked at (request F-10). Assumes nothing.
+-- What the calls for the misses of least-recently-used replacement answer for a run of bytes, and what holds of the misses (request F-9)
+-- and of the entries looked at (request F-10). Assumes nothing.
 use Prim.Native.Nat.{ℕ, _-_, _*_, _≤_}
 use mathlib.Core.Path.{_≡_}
 use mathlib.Core.List.{List}

@@ -1,5 +1,5 @@
--- Demand 3 of document 01 for a sheet of form 4 (request F-13), from bytes: what holds of row r of the sheet v of form 4 that a run of bytes s
--- reads as, and of the calls on s. The optimum is there modtotal. Assumes nothing.
+-- Demand 3 of document 01 for a sheet of form 4 (request F-13), from bytes: what holds of row r of the sheet v of form 4 that a run of
+-- bytes s reads as, and of the calls on s. The optimum is there modtotal. Assumes nothing.
 use Prim.Native.Nat.{ℕ, suc, _*_, _≤_, _<_}
 use mathlib.Core.Path.{_≡_}
 use mathlib.Core.Bool.{true, false}

@@ -80,7 +80,8 @@ pub fn printed(bytes: &[u8], out: &mut [u8]) -> PlaceAnswer
     }
 }
 
-// The page for the binder into a lent place, two where there are more than 58 rows, then its old contents: refused with the sheet's refusals, 11.
+// The page for the binder into a lent place, two where there are more than 58 rows, then its old contents: refused with the sheet's
+// refusals, 11.
 pub fn page(bytes: &[u8], out: &mut [u8]) -> PlaceAnswer
     ensures { λ r. ⌜ PlaceLeft (pageResult (now (bytes .entry))) (now (out .entry)) (now (out .exit)) r ⌝ }
 {

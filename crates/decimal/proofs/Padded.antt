@@ -144,8 +144,7 @@ module _ (at n : ℕ) (out : List ℕ) (h : at + length (written n) ≤ length o
       → (at + 2 ≡ at + length (written n)) × (o ≡ become)
   short-two l b w =
       let e = written-width 1 n (omega arith) (omega arith) in
-      let all : n % 100 ≡ n = omega arith in
-      (
+      let all : n % 100 ≡ n = omega arith in (
         omega (arith, e),
         fill-last-two at become out n (length (written n)) (fill-start at n out h) (sym e) (omega arith) (rw all at w),
       )

@@ -109,5 +109,6 @@ examples =
     ∷ []
 
 pub examples-hold : allHold examples ≡ true
-unfolding bytes numbered comesTo holds allHold downFrom examples sameBytes imported touchedWith touchedBy touchedFrom tooMany segmentsOf firsts firstsAfter withPage placeIn linesOf digitOf allDigits valueFrom addressOf
+unfolding bytes numbered comesTo holds allHold downFrom examples sameBytes imported touchedWith touchedBy touchedFrom tooMany segmentsOf
+    firsts firstsAfter withPage placeIn linesOf digitOf allDigits valueFrom addressOf
 examples-hold = refl

@@ -41,7 +41,8 @@ rows-counted : (v : SheetValue) → length (figureLists (rowRecords v)) ≡ 11 *
 rows-counted v = rows-length (rowRecords v) ∙ ap (λ n. 11 * n) (length-tabulate (length (v .head .rows)) (figuresAt v))
 
 module _ (s place : List ℕ) (v : SheetValue) (e : readSheet s ≡ accepted v) where
-  sheet-fits : (b : Bool) → leb (length (v .head .rows)) (length place / 11) ≡ b → recordsFor v (length place / 11) .answer .verdict ≡ Accepted
+  sheet-fits : (b : Bool) → leb (length (v .head .rows)) (length place / 11) ≡ b → recordsFor v (length place / 11) .answer .verdict
+      ≡ Accepted
       → Fitting s place (recordsFor v (length place / 11))
   unfolding recordsFor sheetAnswer noRecords rowsResult
   sheet-fits true t a =

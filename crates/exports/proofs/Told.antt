@@ -42,7 +42,8 @@ pub place-refused : {result : Result} {place : List ℕ} {written returned : ℕ
 place-refused e h = rw e (record { returned-is = h; place-is = refl; written-is = refl })
 
 -- the call for the misses by stack distances, which tells the entries looked at beside
-pub lru-call : {s place place' : List ℕ} {written written' looked looked' returned : ℕ} (answer : CurveAnswer) → LruLeft s place place' answer
+pub lru-call : {s place place' : List ℕ} {written written' looked looked' returned : ℕ} (answer : CurveAnswer)
+    → LruLeft s place place' answer
     → (returned ≡ verdictNumber (answer .placed .verdict)) × (written' ≡ orOld (answer .placed .verdict) (answer .placed .length) written)
     → looked' ≡ orOld (answer .placed .verdict) (answer .looked) looked → LruCall s place place' written written' looked looked' returned
 lru-call {s} {place} {looked = looked} answer l t o =

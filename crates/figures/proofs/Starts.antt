@@ -25,7 +25,8 @@ pub starts-are : (kind : Kind) (a : ℕ) (sizes warm refs : List ℕ)
     → startSwaps a sizes warm
     ≡ record {
       swap = started (runOf kind a sizes warm refs) (λ i. swapOf (runOf kind a sizes warm refs) i);
-      swapz = started (runOf kind a sizes warm refs) (λ i. swapOf (runOf kind a sizes warm refs) i * sizeOf (runOf kind a sizes warm refs) i);
+      swapz = started (runOf kind a sizes warm refs)
+          (λ i. swapOf (runOf kind a sizes warm refs) i * sizeOf (runOf kind a sizes warm refs) i);
     }
 unfolding swapsUpTo warmSum
 starts-are kind a sizes warm refs = refl
@@ -63,7 +64,14 @@ module _ (a : ℕ) (sizes warm : List ℕ) where
   swaps-more i lt swap swapz w e is =
       let z = getD sizes i 0 in
       let one : w ≡ cond (listed warm i) (swapCost a z) 0 = is ∙ marked i (swapCost a z) lt in
-      rw (add-one i, ap (λ (s : StartSwaps). s .swap) e, ap (λ (s : StartSwaps). s .swapz) e, one, times (listed warm i) (swapCost a z) z) refl
+      rw (
+        add-one i,
+        ap (λ (s : StartSwaps). s .swap) e,
+        ap (λ (s : StartSwaps). s .swapz) e,
+        one,
+        times (listed warm i)
+            (swapCost a z) z,
+      ) refl
     where
       times : (b : Bool) (x z : ℕ) → cond b x 0 * z ≡ cond b (x * z) 0
       times true x z = refl

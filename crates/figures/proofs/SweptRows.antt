@@ -5,7 +5,8 @@ use mathlib.Core.Path.{_≡_, refl, ap, _∙_}
 use mathlib.Core.Bool.{Bool, cond}
 use native.Mathlib.Omega.{arith}
 use Rattle.model.specs.Traces.{Trace, steps, sizeOf, swapOf, overTouches, overSegments, unreferenced}
-use Rattle.model.specs.Figures.{refCost, refVolume, retentionOf, spaceOf, kept, smaller, misses, volume, load, optmem, opttotal, optocc, wsmem, wsspace, wsocc, mean}
+use Rattle.model.specs.Figures.{refCost, refVolume, retentionOf, spaceOf, kept, smaller, misses, volume, load, optmem, opttotal, optocc}
+use Rattle.model.specs.Figures.{wsmem, wsspace, wsocc, mean}
 use Rattle.model.specs.Rows.{rowFigures}
 use Rattle.model.specs.declared.Kind.{Kind}
 use Rattle.model.specs.declared.Kind.the-variants.{Time, Space}

@@ -117,7 +117,8 @@ there-and-back s v e =
     let c = accepted-valid 1 1 (omega arith) s v e in
     let one = form-1 s v e in (
       written-then-read 2 2 (inForm 2 v) (omega arith) (omega arith) (valid-in-2 v c (c .cold (omega (arith, one)))),
-      rw (whole-in-1 v c one) (ap gives (ap sheetText (in-and-back 1 2 v one (c .unmarked (omega (arith, one)))) ∙ read-then-written 1 1 s v e)),
+      rw (whole-in-1 v c one)
+          (ap gives (ap sheetText (in-and-back 1 2 v one (c .unmarked (omega (arith, one)))) ∙ read-then-written 1 1 s v e)),
     )
 
 -- from form 2, where no step is idle: the same the other way round

@@ -39,7 +39,8 @@ module _ (v : SheetValue) (ok : Valid v) where
   -- it is a segment or idle
   pub entry-within : (t : ℕ) → (entryOf v t < segs (traceOf v)) ⊎ (entryOf v t ≡ idle)
   entry-within t =
-      ⊎-elim (λ lt. rw (entry-run t lt) (ok .run .entry-within t lt)) (λ le. inr (entry-beyond v t le)) (below-or-beyond t (length (v .refs)))
+      ⊎-elim (λ lt. rw (entry-run t lt) (ok .run .entry-within t lt)) (λ le. inr (entry-beyond v t le))
+      (below-or-beyond t (length (v .refs)))
 
   -- what it touches
   pub touched-by : (t i : ℕ) → i < segs (traceOf v) → touched (traceOf v) t i ≡ eqb (entryOf v t) i
@@ -89,7 +90,8 @@ module _ (n x y : ℕ) where
           ne-eqb (n + y) i (λ same. omega arith) ∙ sym (ne-eqb x i (λ same. omega arith))
 
   -- of the second's
-  pub second-touch : (j : ℕ) → n + j < mostSegs → ((x < n) ⊎ (x ≡ idle)) → ((x ≡ idle) ⊎ (y ≡ idle)) → eqb (jointEntry n x y) (n + j) ≡ eqb y j
+  pub second-touch : (j : ℕ) → n + j < mostSegs → ((x < n) ⊎ (x ≡ idle)) → ((x ≡ idle) ⊎ (y ≡ idle)) → eqb (jointEntry n x y) (n + j)
+      ≡ eqb y j
   second-touch j few within one = go (eqb x idle) refl (eqb y idle) refl
     where
       go : (b : Bool) → eqb x idle ≡ b → (c : Bool) → eqb y idle ≡ c → eqb (cond b (cond c idle (n + y)) x) (n + j) ≡ eqb y j

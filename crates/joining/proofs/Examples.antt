@@ -1,11 +1,13 @@
--- Two sheets joined by hand, the figures of a row beside those of the two, and pairs of sheets that are refused, in one table. Assumes nothing.
+-- Two sheets joined by hand, the figures of a row beside those of the two, and pairs of sheets that are refused, in one table. Assumes
+-- nothing.
 use Prim.Native.Nat.{ℕ}
 use mathlib.Core.Path.{_≡_, refl}
 use mathlib.Core.Bool.{Bool, true, _&&_}
 use mathlib.Core.List.{List, [], _∷_}
 use lib.Dec.{eqb}
 use lib.ListN.{replicate}
-use Rattle.model.specs.Figures.{misses, volume, load, optmem, opttotal, optocc, wsmem, wsocc, mean, kept, refCost, refVolume, smaller, wsspace}
+use Rattle.model.specs.Figures.{misses, volume, load, optmem, opttotal, optocc, wsmem, wsocc, mean, kept, refCost, refVolume, smaller}
+use Rattle.model.specs.Figures.{wsspace}
 use Rattle.model.specs.Refusals.{numberOf}
 use Rattle.model.specs.Rows.{rowFigures}
 use Rattle.model.specs.Sheets.{SheetValue, idle, listed, traceOf}
@@ -75,16 +77,19 @@ figures q v l m t o ws wo mean =
 
 -- of the two: segment 0 of the first is kept over its 3 steps, and segment 1 of the second, warm, over 1
 pub first-figures : rowFigures (traceOf first) 3 1 ≡ figures 2 5 7 13 34 13 19 19 3800
-unfolding rowFigures misses volume load optmem opttotal optocc wsmem wsocc wsspace mean kept refCost refVolume smaller sum touching later unreferenced listed
+unfolding rowFigures misses volume load optmem opttotal optocc wsmem wsocc wsspace mean kept refCost refVolume smaller sum touching later
+    unreferenced listed
 first-figures = refl
 
 pub second-figures : rowFigures (traceOf second) 3 1 ≡ figures 1 4 5 6 21 6 8 8 2000
-unfolding rowFigures misses volume load optmem opttotal optocc wsmem wsocc wsspace mean kept refCost refVolume smaller sum touching later unreferenced listed
+unfolding rowFigures misses volume load optmem opttotal optocc wsmem wsocc wsspace mean kept refCost refVolume smaller sum touching later
+    unreferenced listed
 second-figures = refl
 
 -- of the joint sheet: the sums, but for wsmem, where the second's end intervals reach one step further, 4 + 1 more than 19 + 8
 pub joint-row : rowFigures (jointRun first second) 3 1 ≡ figures 3 9 12 19 55 19 32 32 6400
-unfolding joined jointHead jointRefs tabulate rowFigures misses volume load optmem opttotal optocc wsmem wsocc wsspace mean kept refCost refVolume smaller sum touching later unreferenced listed
+unfolding joined jointHead jointRefs tabulate rowFigures misses volume load optmem opttotal optocc wsmem wsocc wsspace mean kept refCost
+    refVolume smaller sum touching later unreferenced listed
 joint-row = refl
 
 -- ---- refusals

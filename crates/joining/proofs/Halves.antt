@@ -1,4 +1,5 @@
--- A run U in which two runs T and S stand, the segments of S after those of T: sums over touches and end intervals split in two. Assumes nothing.
+-- A run U in which two runs T and S stand, the segments of S after those of T: sums over touches and end intervals split in two. Assumes
+-- nothing.
 use Prim.Native.Nat.{ℕ, zero, suc, _+_, _-_, _*_, _≤_, max, min}
 use mathlib.Core.Path.{_≡_, refl, sym, ap, _∙_}
 use mathlib.Core.Bool.{Bool, false, cond}
@@ -66,7 +67,8 @@ module _ (U T S : Trace) (two : Halves U T S) where
       ap (λ n. sum n (localOf g U (steps U))) (two .segs-add)
       ∙ sum-parts (segs T) (segs S) (localOf g U (steps U))
       ∙ ap (λ x. x + sum (segs S) (λ i. localOf g U (steps U) (segs T + i)))
-      (sum-eq (segs T) (λ i. localOf g U (steps U) (0 + i)) (localOf g T (steps U)) (λ i lt. same-local U T 0 (two .first) g (steps U) i lt))
+      (sum-eq (segs T) (λ i. localOf g U (steps U) (0 + i)) (localOf g T (steps U))
+      (λ i lt. same-local U T 0 (two .first) g (steps U) i lt))
       ∙ ap (λ x. overSegments T (localOf g T (steps U)) + x)
       (sum-eq (segs S) (λ i. localOf g U (steps U) (segs T + i)) (localOf g S (steps U))
       (λ i lt. same-local U S (segs T) (two .second) g (steps U) i lt))

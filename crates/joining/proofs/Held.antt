@@ -35,7 +35,8 @@ module _ (kind : Kind) (a segs segs' rows rows' warm warm' : ℕ) (sizes sizes' 
       (record { kind = kind; a = a; segs = segs'; sizes = sizes'; rows = rows'; prices = prices'; warm = warm'; holds = holds' })
   head-parts e f g h i j = rw (e, f, g, h, i, j)
 
-module _ (p q : Head) (segs-in : p .segs ≤ length (p .sizes)) (more-segs-in : q .segs ≤ length (q .sizes)) (warm-in : p .warm ≤ length (p .holds))
+module _ (p q : Head) (segs-in : p .segs ≤ length (p .sizes)) (more-segs-in : q .segs ≤ length (q .sizes))
+    (warm-in : p .warm ≤ length (p .holds))
     (more-warm-in : q .warm ≤ length (q .holds)) (rows-in : p .rows ≤ length (p .prices)) where
   -- the head of the joint sheet, by the sizes, warm segments and rows that were put together
   pub joint-held : (sizes holds : List ℕ) (prices : List PriceRow)
@@ -85,7 +86,8 @@ module _ (first second : Sheet) (p : Standing first) (q : Standing second) where
   -- the sheet by its head, steps and entries
   pub sheet-held : (head : Head) (steps : ℕ) (touches : List ℕ)
       → head ≡ headOf (jointHead (headValueOf (first .head)) (headValueOf (second .head))) → steps ≡ max (first .steps) (second .steps)
-      → touches ≡ padded (entriesOf (first .head .segs) (take (first .steps) (first .touches)) (take (second .steps) (second .touches)) steps) (idles mostSteps)
+      → touches ≡ padded (entriesOf (first .head .segs) (take (first .steps) (first .touches))
+      (take (second .steps) (second .touches)) steps) (idles mostSteps)
       → _≡_ {A = Sheet}
       (record { form = 3; head = head; steps = steps; touches = touches; marked = 0; marks = blankMarks mostSteps })
       (sheetOf (joined (valueOf first) (valueOf second)))

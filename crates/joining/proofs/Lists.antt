@@ -94,7 +94,8 @@ module _ (n m : ℕ) (xs ys : List ℕ) (first : WarmWithin n xs) (second : Warm
 
       ascending : (k : ℕ) → suc k < length both → getD both k 0 < getD both (suc k) 0
       ascending k lt =
-          ⊎-elim (λ l. omega (arith, first-number xs n ys k (omega arith), first-number xs n ys (suc k) l, first .ascending k l)) (λ le. upper le)
+          ⊎-elim (λ l. omega (arith, first-number xs n ys k (omega arith), first-number xs n ys (suc k) l, first .ascending k l))
+          (λ le. upper le)
           (below-or-beyond (suc k) (length xs))
         where
           upper : length xs ≤ suc k → getD both k 0 < getD both (suc k) 0

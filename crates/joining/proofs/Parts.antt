@@ -49,7 +49,8 @@ module _ (ps qs : List PriceRow) (m n r : ℕ) (d : PriceRow) (first : m ≤ len
       )
 
   -- so they are alike where row r is and those after it are, and not where row r is not
-  pub rows-next : b ≡ true → sameRows (drop r (take m ps)) (drop r (take n qs)) ≡ sameRows (drop (r + 1) (take m ps)) (drop (r + 1) (take n qs))
+  pub rows-next : b ≡ true → sameRows (drop r (take m ps)) (drop r (take n qs))
+      ≡ sameRows (drop (r + 1) (take m ps)) (drop (r + 1) (take n qs))
   rows-next e = rows-from ∙ ap (λ c. c && sameRows (drop (r + 1) (take m ps)) (drop (r + 1) (take n qs))) e
 
   pub rows-off : b ≡ false → sameRows (drop r (take m ps)) (drop r (take n qs)) ≡ false

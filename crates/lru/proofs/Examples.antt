@@ -60,5 +60,6 @@ table =
     ∷ []
 
 pub table-holds : allHold table ≡ true
-unfolding allHold same table listed tabulate sum touching later unreferenced has placeOf without recency distance lruMisses entriesLooked distinct refsBy reloaded memory lruSimulated
+unfolding allHold same table listed tabulate sum touching later unreferenced has placeOf without recency distance lruMisses entriesLooked
+    distinct refsBy reloaded memory lruSimulated
 table-holds = refl

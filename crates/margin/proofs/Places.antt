@@ -47,7 +47,8 @@ module _ (s : Sheet) (c : Standing s) (n : ℕ) where
     one-more = omega arith
 
     -- one step more, which is not that of the reference
-    pub look-next : (b : Bool) → ltb (getD (s .touches) t 0) (s .head .segs) ≡ b → b && eqb left 1 ≡ false → Looking s n (leftAfter b left) (t + 1)
+    pub look-next : (b : Bool) → ltb (getD (s .touches) t 0) (s .head .segs) ≡ b → b && eqb left 1 ≡ false
+        → Looking s n (leftAfter b left) (t + 1)
     look-next true e f =
         let h = ltb-true (entry (runIn s) t) (segs (runIn s)) (sym (touched-is t lt) ∙ e) in
         let m = eqb-false left 1 f in
@@ -58,7 +59,8 @@ module _ (s : Sheet) (c : Standing s) (n : ℕ) where
           passed = rw add-one (omega (arith, l .passed, rw (sym (touched-is t lt) ∙ e) at r));
           same =
               let p : left - 1 ≡ pred left = omega arith in
-              rw (add-one t, p) (sym (search-on (runIn s) (s .steps - suc t) t left h (omega (arith, l .some-left))) ∙ (ap (λ k. refPlace (runIn s) k t left) (sym one-more) ∙ l .same));
+              rw (add-one t, p) (sym (search-on (runIn s) (s .steps - suc t) t left h (omega (arith, l .some-left)))
+              ∙ (ap (λ k. refPlace (runIn s) k t left) (sym one-more) ∙ l .same));
         }
     look-next false e f =
         let h = ltb-false (entry (runIn s) t) (segs (runIn s)) (sym (touched-is t lt) ∙ e) in
@@ -67,11 +69,13 @@ module _ (s : Sheet) (c : Standing s) (n : ℕ) where
           within = omega arith;
           some-left = l .some-left;
           passed = rw add-one (omega (arith, l .passed, rw (sym (touched-is t lt) ∙ e) at r));
-          same = rw (add-one t) (sym (search-idle (runIn s) (s .steps - suc t) t left h) ∙ (ap (λ k. refPlace (runIn s) k t left) (sym one-more) ∙ l .same));
+          same = rw (add-one t)
+              (sym (search-idle (runIn s) (s .steps - suc t) t left h) ∙ (ap (λ k. refPlace (runIn s) k t left) (sym one-more) ∙ l .same));
         }
 
     -- the step of the reference
-    pub look-found : (b : Bool) → ltb (getD (s .touches) t 0) (s .head .segs) ≡ b → b && eqb left 1 ≡ true → PlaceFound (runIn s) n t × HasTouch s t
+    pub look-found : (b : Bool) → ltb (getD (s .touches) t 0) (s .head .segs) ≡ b → b && eqb left 1 ≡ true → PlaceFound (runIn s) n t
+        × HasTouch s t
     look-found true e f =
         let h = ltb-true (entry (runIn s) t) (segs (runIn s)) (sym (touched-is t lt) ∙ e) in
         let one = eqb-true left 1 f in
@@ -80,7 +84,8 @@ module _ (s : Sheet) (c : Standing s) (n : ℕ) where
           record {
             found = λ _. (
               omega (arith, l .passed, r, rw more at (refs-rise (runIn s) (suc t) (s .steps - suc t))),
-              sym (search-found (runIn s) (s .steps - suc t) t left h (omega arith)) ∙ (ap (λ k. refPlace (runIn s) k t left) (sym one-more) ∙ l .same),
+              sym (search-found (runIn s) (s .steps - suc t) t left h (omega arith))
+                  ∙ (ap (λ k. refPlace (runIn s) k t left) (sym one-more) ∙ l .same),
             );
             none = λ g. absurd (omega (arith, steps-counted s c));
           },

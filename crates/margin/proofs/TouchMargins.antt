@@ -33,7 +33,8 @@ retention-time : (kind : Kind) (z : ℕ) (o : Option ℕ) → ofTime (retention 
 retention-time kind z none = omega arith
 retention-time kind z (some k) = refl
 
-margin-eq : (h₁ h₂ d₁ d₂ R₁ R₂ w₁ w₂ : ℕ) → h₁ ≡ h₂ → d₁ ≡ d₂ → R₁ ≡ R₂ → w₁ ≡ w₂ → marginOf (d₁ * R₁) (h₁ * w₁) ≡ marginOf (d₂ * R₂) (h₂ * w₂)
+margin-eq : (h₁ h₂ d₁ d₂ R₁ R₂ w₁ w₂ : ℕ) → h₁ ≡ h₂ → d₁ ≡ d₂ → R₁ ≡ R₂ → w₁ ≡ w₂ → marginOf (d₁ * R₁) (h₁ * w₁)
+    ≡ marginOf (d₂ * R₂) (h₂ * w₂)
 margin-eq h₁ h₂ d₁ d₂ R₁ R₂ w₁ w₂ h d R w = cc
 
 -- row r, and the size of the segment touched at place t, by the arrays
@@ -47,7 +48,8 @@ touchedSize s t = getD (s .head .sizes) (getD (s .touches) t 0) 0
 abbrev pub touchedTime : Sheet → ℕ → Option ℕ
 touchedTime s t = unreferenced (traceOf (valueOf s)) t (entry (traceOf (valueOf s)) t)
 
-module _ (s : Sheet) (c : Standing s) (r t : ℕ) (row : r < s .head .rows) (touch : HasTouch s t) (u : Unreferenced) (e : u ≡ timeOf (touchedTime s t)) where
+module _ (s : Sheet) (c : Standing s) (r t : ℕ) (row : r < s .head .rows) (touch : HasTouch s t) (u : Unreferenced)
+    (e : u ≡ timeOf (touchedTime s t)) where
   reuse-here : isReuse (touchedTime s t) ≡ u .reuse
   reuse-here = reuse-time (touchedTime s t) ∙ ap (λ x. x .reuse) (sym e)
 
@@ -91,7 +93,8 @@ module _ (s : Sheet) (c : Standing s) (r t : ℕ) (row : r < s .head .rows) (tou
   swap-room = swap-within (s .head .a) (touchedSize s t) (omega (arith, c .valid .run .a-within)) size-room
 
   -- the priced costs, as the calls give them
-  module _ (R w dR hw : ℕ) (is-R : R ≡ retentionHere) (is-w : w ≡ swapHere) (is-dR : dR ≡ priceAt s r .d * R) (is-hw : hw ≡ priceAt s r .h * w) where
+  module _ (R w dR hw : ℕ) (is-R : R ≡ retentionHere) (is-w : w ≡ swapHere) (is-dR : dR ≡ priceAt s r .d * R)
+      (is-hw : hw ≡ priceAt s r .h * w) where
     -- neither exceeds what a margin may be taken of
     pub priced-room : (dR < 2 ^ 62) × (hw < 2 ^ 62)
     priced-room =

@@ -9,8 +9,10 @@ use lib.Dec.{eqb, lit<}
 use lib.IntN.{ℤ, pos, negsuc}
 use Rattle.model.specs.Sums.{sum, tabulate}
 use Rattle.model.specs.Traces.{Trace, entry, touching, later, unreferenced, refsBy, refsOf, refPlace, placeOf}
-use Rattle.model.specs.Figures.{misses, volume, load, optmem, opttotal, optocc, wsmem, wsocc, mean, kept, marginAt, refCost, refVolume, smaller, wsspace}
-use Rattle.model.specs.Schedules.{Permitted, held, scheduleMemory, scheduleLoad, scheduleTotal, optimalSchedule, nextKept, optimalHeld, optimalByte}
+use Rattle.model.specs.Figures.{misses, volume, load, optmem, opttotal, optocc, wsmem, wsocc, mean, kept, marginAt, refCost}
+use Rattle.model.specs.Figures.{refVolume, smaller, wsspace}
+use Rattle.model.specs.Schedules.{Permitted, held, scheduleMemory, scheduleLoad, scheduleTotal, optimalSchedule, nextKept}
+use Rattle.model.specs.Schedules.{optimalHeld, optimalByte}
 use Rattle.model.specs.Sheets.{idle, listed, runOf}
 use Rattle.model.specs.declared.Kind.{Kind}
 use Rattle.model.specs.declared.Kind.the-variants.{Time, Space}
@@ -124,7 +126,8 @@ distant = runOf Time 0 (replicate 10 1) [] (9 ∷ 0 ∷ 9 ∷ [])
 idling : Trace
 idling = runOf Space 1 (1 ∷ 3 ∷ []) [] (0 ∷ 1 ∷ idle ∷ 0 ∷ 1 ∷ 1 ∷ 0 ∷ idle ∷ [])
 
--- the listing's run with segment 1 warm (F-6): its first touch, in step 2, is a reuse with R = 3; the row 1/1 keeps it, the row 1/2 does not
+-- the listing's run with segment 1 warm (F-6): its first touch, in step 2, is a reuse with R = 3; the row 1/1 keeps it, the row 1/2 does
+-- not
 warmed : Trace
 warmed = runOf Space 1 (1 ∷ 3 ∷ []) (1 ∷ []) (0 ∷ 1 ∷ 0 ∷ 1 ∷ 1 ∷ 0 ∷ [])
 
@@ -143,39 +146,62 @@ resting refs = runOf Time 3 (7 ∷ 2 ∷ []) (0 ∷ []) refs
 -- P1 to P10, then the further ones
 pub table : List Example
 table =
-    at listing 1 2 (Misses is 4 ∷ Volume is 8 ∷ Load is 12 ∷ Optmem is 13 ∷ Opttotal is 38 ∷ Optocc is 13 ∷ Wsmem is 36 ∷ Wsocc is 36 ∷ Mean is 3000 ∷ [])
-    ∷ at listing 1 1 (Misses is 2 ∷ Volume is 4 ∷ Load is 6 ∷ Optmem is 18 ∷ Opttotal is 24 ∷ Optocc is 18 ∷ Wsmem is 21 ∷ Wsocc is 21 ∷ Mean is 3500 ∷ [])
-    ∷ at listing 1 2 (ScheduleByte 0 is 1 ∷ ScheduleByte 32 is 3 ∷ ScheduleByte 64 is 1 ∷ ScheduleByte 96 is 2 ∷ ScheduleByte 128 is 2 ∷ ScheduleByte 160 is 1 ∷ [])
+    at listing 1 2 (Misses is 4 ∷ Volume is 8 ∷ Load is 12 ∷ Optmem is 13 ∷ Opttotal is 38 ∷ Optocc is 13 ∷ Wsmem is 36 ∷ Wsocc is 36 ∷
+    Mean is 3000 ∷ [])
+    ∷ at listing 1 1 (Misses is 2 ∷ Volume is 4 ∷ Load is 6 ∷ Optmem is 18 ∷ Opttotal is 24 ∷ Optocc is 18 ∷ Wsmem is 21 ∷ Wsocc is 21 ∷
+    Mean is 3500 ∷ [])
+    ∷ at listing 1 2 (ScheduleByte 0 is 1 ∷ ScheduleByte 32 is 3 ∷ ScheduleByte 64 is 1 ∷ ScheduleByte 96 is 2 ∷ ScheduleByte 128 is 2 ∷
+    ScheduleByte 160 is 1 ∷ [])
     ∷ at (paper Space) 0 1 (Misses is 13 ∷ Volume is 41 ∷ Optmem is 43 ∷ Wsmem is 43 ∷ [])
     ∷ at (paper Space) 4 1 (Misses is 10 ∷ Volume is 33 ∷ Optmem is 53 ∷ Wsmem is 89 ∷ [])
     ∷ at (paper Space) 10 1 (Misses is 7 ∷ Volume is 23 ∷ Optmem is 80 ∷ Wsmem is 135 ∷ [])
     ∷ at (paper Space) 25 1 (Misses is 5 ∷ Volume is 15 ∷ Optmem is 120 ∷ Wsmem is 175 ∷ [])
     ∷ at (paper Time) 2 1 (Misses is 9 ∷ Volume is 28 ∷ Optocc is 63 ∷ Wsocc is 115 ∷ [])
     ∷ at (paper Time) 5 1 (Misses is 5 ∷ Volume is 15 ∷ Optocc is 120 ∷ Wsocc is 171 ∷ [])
-    ∷ at (runOf Time 3 (7 ∷ 2 ∷ []) [] []) 5 2 (Misses is 0 ∷ Volume is 0 ∷ Load is 0 ∷ Optmem is 0 ∷ Opttotal is 0 ∷ Optocc is 0 ∷ Wsmem is 0 ∷ Wsocc is 0 ∷ Mean is 0 ∷ [])
-    ∷ at untouched 5 1 (Misses is 1 ∷ Volume is 1 ∷ Load is 1 ∷ Optmem is 2 ∷ Opttotal is 7 ∷ Optocc is 2 ∷ Wsmem is 2 ∷ Wsocc is 2 ∷ Mean is 1000 ∷ [])
-    ∷ at weighted 1 1 (Misses is 1 ∷ Volume is 2 ∷ Load is 7 ∷ Optmem is 1 ∷ Opttotal is 8 ∷ Optocc is 2 ∷ Wsmem is 1 ∷ Wsocc is 2 ∷ Mean is 2000 ∷ [])
-    ∷ at rounded 1 1 (Misses is 2 ∷ Volume is 3 ∷ Load is 2 ∷ Optmem is 3 ∷ Opttotal is 5 ∷ Optocc is 4 ∷ Wsmem is 4 ∷ Wsocc is 5 ∷ Mean is 1666 ∷ [])
-    ∷ at timed 1 2 (Misses is 3 ∷ Volume is 5 ∷ Load is 8 ∷ Optmem is 8 ∷ Opttotal is 24 ∷ Optocc is 16 ∷ Wsmem is 20 ∷ Wsocc is 40 ∷ Mean is 3333 ∷ [])
-    ∷ at listing 1 2 (MarginAbove 2 is 0 ∷ MarginBelow 2 is 0 ∷ MarginAbove 3 is 0 ∷ MarginBelow 3 is 2 ∷ MarginAbove 4 is 4 ∷ MarginBelow 4 is 0 ∷ [])
+    ∷ at (runOf Time 3 (7 ∷ 2 ∷ []) [] []) 5 2
+    (Misses is 0 ∷ Volume is 0 ∷ Load is 0 ∷ Optmem is 0 ∷ Opttotal is 0 ∷ Optocc is 0 ∷ Wsmem is 0 ∷ Wsocc is 0 ∷ Mean is 0 ∷ [])
+    ∷ at untouched 5 1 (Misses is 1 ∷ Volume is 1 ∷ Load is 1 ∷ Optmem is 2 ∷ Opttotal is 7 ∷ Optocc is 2 ∷ Wsmem is 2 ∷ Wsocc is 2 ∷
+    Mean is 1000 ∷ [])
+    ∷ at weighted 1 1 (Misses is 1 ∷ Volume is 2 ∷ Load is 7 ∷ Optmem is 1 ∷ Opttotal is 8 ∷ Optocc is 2 ∷ Wsmem is 1 ∷ Wsocc is 2 ∷ Mean
+    is 2000 ∷ [])
+    ∷ at rounded 1 1 (Misses is 2 ∷ Volume is 3 ∷ Load is 2 ∷ Optmem is 3 ∷ Opttotal is 5 ∷ Optocc is 4 ∷ Wsmem is 4 ∷ Wsocc is 5 ∷ Mean
+    is 1666 ∷ [])
+    ∷ at timed 1 2 (Misses is 3 ∷ Volume is 5 ∷ Load is 8 ∷ Optmem is 8 ∷ Opttotal is 24 ∷ Optocc is 16 ∷ Wsmem is 20 ∷ Wsocc is 40 ∷
+    Mean is 3333 ∷ [])
+    ∷ at listing 1 2 (MarginAbove 2 is 0 ∷ MarginBelow 2 is 0 ∷ MarginAbove 3 is 0 ∷ MarginBelow 3 is 2 ∷ MarginAbove 4 is 4 ∷
+    MarginBelow 4 is 0 ∷ [])
     ∷ at timed 1 2 (MarginAbove 3 is 2 ∷ MarginBelow 3 is 0 ∷ MarginAbove 5 is 0 ∷ MarginBelow 5 is 2 ∷ [])
-    ∷ at distant 1 1 (ScheduleByte 0 is 0 ∷ ScheduleByte 1 is 2 ∷ ScheduleByte 32 is 1 ∷ ScheduleByte 33 is 2 ∷ ScheduleByte 64 is 0 ∷ ScheduleByte 65 is 2 ∷ [])
+    ∷ at distant 1 1 (ScheduleByte 0 is 0 ∷ ScheduleByte 1 is 2 ∷ ScheduleByte 32 is 1 ∷ ScheduleByte 33 is 2 ∷ ScheduleByte 64 is 0 ∷
+    ScheduleByte 65 is 2 ∷ [])
     ∷ at distant 1 1 (MemoryOf (512 ∷ 513 ∷ 512 ∷ []) is 4 ∷ LoadOf (512 ∷ 513 ∷ 512 ∷ []) is 2 ∷ TotalOf (512 ∷ 513 ∷ 512 ∷ []) is 6 ∷ [])
     ∷ at distant 1 1 (MemoryOf (512 ∷ 1 ∷ 512 ∷ []) is 3 ∷ LoadOf (512 ∷ 1 ∷ 512 ∷ []) is 3 ∷ TotalOf (512 ∷ 1 ∷ 512 ∷ []) is 6 ∷ [])
-    ∷ at idling 1 2 (Misses is 5 ∷ Volume is 9 ∷ Load is 14 ∷ Optmem is 12 ∷ Opttotal is 38 ∷ Optocc is 12 ∷ Wsmem is 38 ∷ Wsocc is 38 ∷ Mean is 2375 ∷ [])
-    ∷ at idling 1 1 (Misses is 3 ∷ Volume is 7 ∷ Load is 10 ∷ Optmem is 16 ∷ Opttotal is 26 ∷ Optocc is 16 ∷ Wsmem is 25 ∷ Wsocc is 25 ∷ Mean is 3125 ∷ [])
-    ∷ at idling 1 1 (ScheduleByte 0 is 1 ∷ ScheduleByte 32 is 3 ∷ ScheduleByte 64 is 1 ∷ ScheduleByte 96 is 1 ∷ ScheduleByte 128 is 3 ∷ ScheduleByte 160 is 3 ∷ ScheduleByte 192 is 1 ∷ ScheduleByte 224 is 0 ∷ [])
+    ∷ at idling 1 2 (Misses is 5 ∷ Volume is 9 ∷ Load is 14 ∷ Optmem is 12 ∷ Opttotal is 38 ∷ Optocc is 12 ∷ Wsmem is 38 ∷ Wsocc is 38 ∷
+    Mean is 2375 ∷ [])
+    ∷ at idling 1 1 (Misses is 3 ∷ Volume is 7 ∷ Load is 10 ∷ Optmem is 16 ∷ Opttotal is 26 ∷ Optocc is 16 ∷ Wsmem is 25 ∷ Wsocc is 25 ∷
+    Mean is 3125 ∷ [])
+    ∷ at idling 1 1 (ScheduleByte 0 is 1 ∷ ScheduleByte 32 is 3 ∷ ScheduleByte 64 is 1 ∷ ScheduleByte 96 is 1 ∷ ScheduleByte 128 is 3 ∷
+    ScheduleByte 160 is 3 ∷ ScheduleByte 192 is 1 ∷ ScheduleByte 224 is 0 ∷ [])
     ∷ at idling 1 1 (References is 6 ∷ PlaceOf 1 is 0 ∷ PlaceOf 2 is 1 ∷ PlaceOf 3 is 3 ∷ PlaceOf 6 is 6 ∷ [])
-    ∷ at warmed 1 2 (Misses is 4 ∷ Volume is 8 ∷ Load is 12 ∷ Optmem is 13 ∷ Opttotal is 38 ∷ Optocc is 13 ∷ Wsmem is 40 ∷ Wsocc is 40 ∷ Mean is 3333 ∷ [])
-    ∷ at warmed 1 1 (Misses is 1 ∷ Volume is 1 ∷ Load is 2 ∷ Optmem is 21 ∷ Opttotal is 23 ∷ Optocc is 21 ∷ Wsmem is 24 ∷ Wsocc is 24 ∷ Mean is 4000 ∷ [])
-    ∷ at bothWarm 1 2 (Misses is 3 ∷ Volume is 7 ∷ Load is 10 ∷ Optmem is 13 ∷ Opttotal is 36 ∷ Optocc is 13 ∷ Wsmem is 40 ∷ Wsocc is 40 ∷ Mean is 3333 ∷ [])
-    ∷ at bothWarm 1 1 (Misses is 0 ∷ Volume is 0 ∷ Load is 0 ∷ Optmem is 21 ∷ Opttotal is 21 ∷ Optocc is 21 ∷ Wsmem is 24 ∷ Wsocc is 24 ∷ Mean is 4000 ∷ [])
-    ∷ at lingering 5 1 (Misses is 1 ∷ Volume is 1 ∷ Load is 1 ∷ Optmem is 2 ∷ Opttotal is 7 ∷ Optocc is 2 ∷ Wsmem is 4 ∷ Wsocc is 4 ∷ Mean is 2000 ∷ [])
-    ∷ at (resting []) 5 2 (Misses is 0 ∷ Volume is 0 ∷ Load is 0 ∷ Optmem is 0 ∷ Opttotal is 0 ∷ Optocc is 0 ∷ Wsmem is 0 ∷ Wsocc is 0 ∷ Mean is 0 ∷ [])
-    ∷ at (resting (idle ∷ idle ∷ [])) 5 2 (Misses is 0 ∷ Volume is 0 ∷ Load is 0 ∷ Optmem is 0 ∷ Opttotal is 0 ∷ Optocc is 0 ∷ Wsmem is 4 ∷ Wsocc is 28 ∷ Mean is 7000 ∷ [])
-    ∷ at warmed 1 1 (ScheduleByte 0 is 3 ∷ ScheduleByte 32 is 3 ∷ ScheduleByte 64 is 3 ∷ ScheduleByte 96 is 3 ∷ ScheduleByte 128 is 3 ∷ ScheduleByte 160 is 1 ∷ [])
-    ∷ at warmed 1 2 (ScheduleByte 0 is 1 ∷ ScheduleByte 32 is 3 ∷ ScheduleByte 64 is 1 ∷ ScheduleByte 96 is 2 ∷ ScheduleByte 128 is 2 ∷ ScheduleByte 160 is 1 ∷ [])
-    ∷ at warmed 1 1 (MemoryOf (3 ∷ 3 ∷ 3 ∷ 3 ∷ 3 ∷ 1 ∷ []) is 21 ∷ LoadOf (3 ∷ 3 ∷ 3 ∷ 3 ∷ 3 ∷ 1 ∷ []) is 2 ∷ TotalOf (3 ∷ 3 ∷ 3 ∷ 3 ∷ 3 ∷ 1 ∷ []) is 23 ∷ [])
+    ∷ at warmed 1 2 (Misses is 4 ∷ Volume is 8 ∷ Load is 12 ∷ Optmem is 13 ∷ Opttotal is 38 ∷ Optocc is 13 ∷ Wsmem is 40 ∷ Wsocc is 40 ∷
+    Mean is 3333 ∷ [])
+    ∷ at warmed 1 1 (Misses is 1 ∷ Volume is 1 ∷ Load is 2 ∷ Optmem is 21 ∷ Opttotal is 23 ∷ Optocc is 21 ∷ Wsmem is 24 ∷ Wsocc is 24 ∷
+    Mean is 4000 ∷ [])
+    ∷ at bothWarm 1 2 (Misses is 3 ∷ Volume is 7 ∷ Load is 10 ∷ Optmem is 13 ∷ Opttotal is 36 ∷ Optocc is 13 ∷ Wsmem is 40 ∷ Wsocc is 40
+    ∷ Mean is 3333 ∷ [])
+    ∷ at bothWarm 1 1 (Misses is 0 ∷ Volume is 0 ∷ Load is 0 ∷ Optmem is 21 ∷ Opttotal is 21 ∷ Optocc is 21 ∷ Wsmem is 24 ∷ Wsocc is 24 ∷
+    Mean is 4000 ∷ [])
+    ∷ at lingering 5 1 (Misses is 1 ∷ Volume is 1 ∷ Load is 1 ∷ Optmem is 2 ∷ Opttotal is 7 ∷ Optocc is 2 ∷ Wsmem is 4 ∷ Wsocc is 4 ∷
+    Mean is 2000 ∷ [])
+    ∷ at (resting []) 5 2
+    (Misses is 0 ∷ Volume is 0 ∷ Load is 0 ∷ Optmem is 0 ∷ Opttotal is 0 ∷ Optocc is 0 ∷ Wsmem is 0 ∷ Wsocc is 0 ∷ Mean is 0 ∷ [])
+    ∷ at (resting (idle ∷ idle ∷ [])) 5 2
+    (Misses is 0 ∷ Volume is 0 ∷ Load is 0 ∷ Optmem is 0 ∷ Opttotal is 0 ∷ Optocc is 0 ∷ Wsmem is 4 ∷ Wsocc is 28 ∷ Mean is 7000 ∷ [])
+    ∷ at warmed 1 1 (ScheduleByte 0 is 3 ∷ ScheduleByte 32 is 3 ∷ ScheduleByte 64 is 3 ∷ ScheduleByte 96 is 3 ∷ ScheduleByte 128 is 3 ∷
+    ScheduleByte 160 is 1 ∷ [])
+    ∷ at warmed 1 2 (ScheduleByte 0 is 1 ∷ ScheduleByte 32 is 3 ∷ ScheduleByte 64 is 1 ∷ ScheduleByte 96 is 2 ∷ ScheduleByte 128 is 2 ∷
+    ScheduleByte 160 is 1 ∷ [])
+    ∷ at warmed 1 1 (MemoryOf (3 ∷ 3 ∷ 3 ∷ 3 ∷ 3 ∷ 1 ∷ []) is 21 ∷ LoadOf (3 ∷ 3 ∷ 3 ∷ 3 ∷ 3 ∷ 1 ∷ []) is 2 ∷ TotalOf
+    (3 ∷ 3 ∷ 3 ∷ 3 ∷ 3 ∷ 1 ∷ []) is 23 ∷ [])
     ∷ at warmed 1 1 (MarginAbove 1 is 1 ∷ MarginBelow 1 is 0 ∷ [])
     ∷ at warmed 1 2 (MarginAbove 1 is 0 ∷ MarginBelow 1 is 2 ∷ [])
     ∷ at between 3 1 (Optmem is 6 ∷ Load is 2 ∷ Opttotal is 12 ∷ [])
@@ -185,7 +211,10 @@ table =
     ∷ []
 
 pub table-holds : allHold table ≡ true
-unfolding allHold claims valueOf bytesOf above below _is_ table listing paper untouched weighted rounded between timed distant idling warmed bothWarm lingering resting held scheduleMemory scheduleLoad scheduleTotal misses volume load optmem opttotal optocc wsmem wsocc mean optimalSchedule sum tabulate touching refsBy refPlace later unreferenced kept refCost refVolume smaller wsspace nextKept optimalHeld optimalByte listed
+unfolding allHold claims valueOf bytesOf above below _is_ table listing paper untouched weighted rounded between timed distant idling
+    warmed bothWarm lingering resting held scheduleMemory scheduleLoad scheduleTotal misses volume load optmem opttotal optocc wsmem
+    wsocc mean optimalSchedule sum tabulate touching refsBy refPlace later unreferenced kept refCost refVolume smaller wsspace
+    nextKept optimalHeld optimalByte listed
 table-holds = refl
 
 -- the last schedule of the table drops segment 0 in step 2 and lets it enter again, untouched, in step 3. It would cost less than the

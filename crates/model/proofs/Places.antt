@@ -29,14 +29,16 @@ text-fits text place e fits =
     record { answer-is = rw (h, e); place-is = rw (h, e) }
 
 -- the length that is told lies within the place
-pub left-length : {text place place' : List ℕ} {answer : PlaceAnswer} → PlaceLeft (gives text) place place' answer → answer .length ≤ length place
+pub left-length : {text place place' : List ℕ} {answer : PlaceAnswer} → PlaceLeft (gives text) place place' answer
+    → answer .length ≤ length place
 unfolding placeAnswer
 left-length {text} {place} {place'} {answer} left =
     let e : answer .length ≡ placeAnswer text place .length = ap (λ a. a .length) (left .answer-is) in
     omega (arith, e, go (leb (length text) (length place)) refl)
   where
     go : (b : Bool) → leb (length text) (length place) ≡ b
-        → cond (leb (length text) (length place)) (record { verdict = Accepted; length = length text }) (nothingPlaced PlaceTooShort) .length
+        → cond (leb (length text) (length place)) (record { verdict = Accepted; length = length text })
+        (nothingPlaced PlaceTooShort) .length
         ≤ length place
     go true t = rw t (leb-true (length text) (length place) t)
     go false t = rw t (omega arith)

@@ -63,7 +63,8 @@ module _ (s : Sheet) (c : Standing s) where
     pub entry-of : entry (traceOf (valueOf s)) t ≡ getD (s .touches) t 0
     unfolding valueOf
     entry-of =
-        getD-any (valueOf s .refs) t (length (valueOf s .head .sizes)) 0 (omega (arith, steps-counted)) ∙ getD-take (s .steps) (s .touches) t 0 lt
+        getD-any (valueOf s .refs) t (length (valueOf s .head .sizes)) 0 (omega (arith, steps-counted))
+        ∙ getD-take (s .steps) (s .touches) t 0 lt
 
     -- and the number of a segment, or idle
     pub entry-segment : (getD (s .touches) t 0 < s .head .segs) ⊎ (getD (s .touches) t 0 ≡ idle)

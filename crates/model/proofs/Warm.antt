@@ -12,7 +12,8 @@ use Rattle.model.specs.Sheets.{WarmWithin, listed}
 -- a listed number stands at some place
 pub listed-at : (xs : List ℕ) (i : ℕ) → listed xs i ≡ true → (k : ℕ) × (k < length xs) × (getD xs k 0 ≡ i)
 unfolding listed
-listed-at [] i e = let z : _≡_ {A = Bool} false true = e in absurd (let w : _≡_ {A = ℕ} (cond false 1 0) (cond true 1 0) = cc in omega arith)
+listed-at [] i e = let z : _≡_ {A = Bool} false true = e in absurd
+    (let w : _≡_ {A = ℕ} (cond false 1 0) (cond true 1 0) = cc in omega arith)
 listed-at (x ∷ xs) i e = go (eqb x i) refl (listed-at xs i)
   where
     go : (b : Bool) → eqb x i ≡ b → (listed xs i ≡ true → (k : ℕ) × (k < length xs) × (getD xs k 0 ≡ i))

@@ -3,9 +3,12 @@ use Prim.Native.Nat.{ℕ}
 use Rattle.model.specs.declared.Refusal.{Refusal}
 use Rattle.model.specs.declared.Verdict.{Verdict}
 use Rattle.model.specs.declared.Verdict.the-variants.{Accepted, Refused}
-use Rattle.model.specs.declared.Refusal.the-variants.{SheetTooLong, LineMalformed, ValueMalformed, OutOfRange, ThresholdNotAbove, BytesAfterEnd, NoSuchRow, ScheduleLength, TouchedNotHeld}
-use Rattle.model.specs.declared.Refusal.the-variants.{HeldNotBefore, PlaceTooShort, NoRowFits, RecorderFull, NoSuchReference, FirstTouch, StepNotAbove, IdleStep, TariffOutOfRange}
-use Rattle.model.specs.declared.Refusal.the-variants.{HoldNotAbove, HeadsDiffer, BothTouch, TooManySegments, PageOutOfRange, TraceMalformed, TraceTooLong, SizeNotOne, WarmSegment, NotTimeZero}
+use Rattle.model.specs.declared.Refusal.the-variants.{SheetTooLong, LineMalformed, ValueMalformed, OutOfRange, ThresholdNotAbove}
+use Rattle.model.specs.declared.Refusal.the-variants.{BytesAfterEnd, NoSuchRow, ScheduleLength, TouchedNotHeld}
+use Rattle.model.specs.declared.Refusal.the-variants.{HeldNotBefore, PlaceTooShort, NoRowFits, RecorderFull, NoSuchReference}
+use Rattle.model.specs.declared.Refusal.the-variants.{FirstTouch, StepNotAbove, IdleStep, TariffOutOfRange}
+use Rattle.model.specs.declared.Refusal.the-variants.{HoldNotAbove, HeadsDiffer, BothTouch, TooManySegments, PageOutOfRange}
+use Rattle.model.specs.declared.Refusal.the-variants.{TraceMalformed, TraceTooLong, SizeNotOne, WarmSegment, NotTimeZero}
 
 -- the number of a refusal
 abbrev pub numberOf : Refusal → ℕ

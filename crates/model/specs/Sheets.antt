@@ -19,8 +19,8 @@ pub record HeadValue : Type 0 where
   pub rows : List PriceRow
   pub warm : List ℕ
 
--- a sheet's value: its form, its head, the entry of each step, a segment or `idle` (request F-3), and in form 4 for each step whether its touch
--- modifies the segment (request F-13). Every step of a sheet of form 1 has a touch
+-- a sheet's value: its form, its head, the entry of each step, a segment or `idle` (request F-3), and in form 4 for each step whether its
+-- touch modifies the segment (request F-13). Every step of a sheet of form 1 has a touch
 pub record SheetValue : Type 0 where
   pub form : ℕ
   pub head : HeadValue
@@ -35,7 +35,8 @@ idle = 65535
 abbrev pub newestForm : ℕ
 newestForm = 4
 
--- the limits: the most bytes by the form, the largest a, the most segments, the largest size, the most rows, the largest price, the most steps
+-- the limits: the most bytes by the form, the largest a, the most segments, the largest size, the most rows, the largest price, the most
+-- steps
 abbrev pub formBytes : ℕ → ℕ
 formBytes form = cond (eqb form 2) 29163 (cond (eqb form 3) 31366 (cond (eqb form 4) 33414 20012))
 
@@ -114,8 +115,8 @@ pub record WarmWithin (n : ℕ) (warm : List ℕ) : Type 0 where
   pub below : (k : ℕ) → k < length warm → getD warm k 0 < n
   pub ascending : (k : ℕ) → suc k < length warm → getD warm k 0 < getD warm (suc k) 0
 
--- a sheet's value within the limits: its form is known, its rows, its run, a sheet of form 1 has a touch in every step, its warm segments, of
--- which forms 1 and 2 have none, and its marks, one for each step, on touches alone, of which forms 1 to 3 have none
+-- a sheet's value within the limits: its form is known, its rows, its run, a sheet of form 1 has a touch in every step, its warm segments,
+-- of which forms 1 and 2 have none, and its marks, one for each step, on touches alone, of which forms 1 to 3 have none
 pub record Valid (s : SheetValue) : Type 0 where
   pub some-form : 1 ≤ s .form
   pub form-within : s .form ≤ newestForm

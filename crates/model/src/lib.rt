@@ -43,9 +43,9 @@ pub struct Head {
     pub holds: [u16; Sheet::MAX_SEGS],
 }
 
-// A sheet by value: its form, its head, for each of the first `steps` steps the segment that it touches or `Sheet::IDLE`, and for each of the
-// first `marked` steps whether the touch modifies it: of all steps in form 4, of none in the others. In a sheet that was read, what stands
-// beyond the counts is `Sheet::IDLE` and false.
+// A sheet by value: its form, its head, for each of the first `steps` steps the segment that it touches or `Sheet::IDLE`, and for each of
+// the first `marked` steps whether the touch modifies it: of all steps in form 4, of none in the others. In a sheet that was read, what
+// stands beyond the counts is `Sheet::IDLE` and false.
 pub struct Sheet {
     pub form: u8,
     pub head: Head,

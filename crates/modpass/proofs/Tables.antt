@@ -43,7 +43,8 @@ module _ (T : Trace) (marks : ℕ → Bool) (row : PriceRow) where
   unfolding sinceTable sinceMark
   since-touch t lt few =
       ap (λ (x : ℕ). set (sinceTable T marks row t) (entry T t) x) here
-      ∙ tabulate-set 256 (λ i. codeOf (sinceMark T marks (row .h) (row .d) t i)) (λ i. codeOf (sinceMark T marks (row .h) (row .d) (suc t) i))
+      ∙ tabulate-set 256 (λ i. codeOf (sinceMark T marks (row .h) (row .d) t i))
+      (λ i. codeOf (sinceMark T marks (row .h) (row .d) (suc t) i))
       (entry T t) (omega arith) (λ i l other. rw (touched-is T t i lt ∙ ne-eqb (entry T t) i (λ same. other (sym same))))
     where
       here : codeAfter (marks t) (codeOf (sinceThrough T marks (row .h) (row .d) t (entry T t)))

@@ -1,5 +1,5 @@
-// Modified segments: what the modifying touches of a run add to opttotal at a row, in one pass over the references. What they add is written
-// in crate `stores`; nothing is assumed.
+// Modified segments: what the modifying touches of a run add to opttotal at a row, in one pass over the references. What they add is
+// written in crate `stores`; nothing is assumed.
 pub mod touching;
 
 use model::Kind;

@@ -57,7 +57,8 @@ module _ (T : Trace) (marks : ℕ → Bool) (row : PriceRow) (ok : RunWithin T) 
         found = record { kept-are = λ t lt touch. absurd (omega arith); joined-are = λ t lt touch. absurd (omega arith) };
       }
 
-  module _ (keeps joins : List Bool) (last since : List ℕ) (t : ℕ) (v : Finding T marks row keeps joins last since t) (lt : t < steps T) where
+  module _ (keeps joins : List Bool) (last since : List ℕ) (t : ℕ) (v : Finding T marks row keeps joins last since t)
+      (lt : t < steps T) where
     -- a touch of segment i
     pub finding-touch : (i : ℕ) (x : Touched) → i ≡ getD (T .refs) t 0 → i < segs T
         → x ≡ touchBy (T .kind) (T .a) row (sizeOf T i) (getD last i 0) (getD since i 0) t (marks t)

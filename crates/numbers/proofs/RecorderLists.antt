@@ -27,7 +27,8 @@ use Rattle.numbers.specs.inner.Stored.{HeadStored, TakenStored}
 use Rattle.numbers.proofs.RecorderSums.{sums-whole}
 
 -- lists in which all of a recorder was stored are its lists
-pub all-stored : (R : Recorder) (head counts sizes holds h d last sums : List ℕ) → HeadStored R head sizes holds h d → TakenStored R counts last sums
+pub all-stored : (R : Recorder) (head counts sizes holds h d last sums : List ℕ) → HeadStored R head sizes holds h d
+    → TakenStored R counts last sums
     → lists head counts sizes holds h d last sums ≡ listsOf R
 unfolding listsOf
 all-stored R head counts sizes holds h d last sums s t =
@@ -108,7 +109,8 @@ pub record Idled (head counts sizes holds h d last sums : List ℕ) (w : Verdict
   pub answered : Rested (recorderIn (lists head counts sizes holds h d last sums)) answer
   pub verdict-is : answer .verdict ≡ w
   pub taken : w ≡ Accepted
-      → lists head (idleCounts counts) sizes holds h d last sums ≡ withTaken (lists head counts sizes holds h d last sums) (answer .recorder)
+      → lists head (idleCounts counts) sizes holds h d last sums
+      ≡ withTaken (lists head counts sizes holds h d last sums) (answer .recorder)
   pub unchanged : (why : Refusal) → w ≡ Refused why → idleCounts counts ≡ counts
 
 pub idled : (head counts sizes holds h d last sums : List ℕ) → length sums ≡ 390 → (w : Verdict) → w ≡ stepVerdict (getD counts 0 0)

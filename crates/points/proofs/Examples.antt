@@ -59,5 +59,6 @@ table =
     ∷ []
 
 table-holds : allHold table ≡ true
-unfolding allHold table equal listed _gives_ insert ratios thresholds pointNumbers operatingPoints sum touching later unreferenced misses volume load optmem kept refCost
+unfolding allHold table equal listed _gives_ insert ratios thresholds pointNumbers operatingPoints sum touching later unreferenced misses
+    volume load optmem kept refCost
 table-holds = refl

@@ -15,7 +15,8 @@ use Rattle.model.proofs.Sums.{last-or-below}
 use Rattle.model.proofs.Touches.{unreferenced-none}
 use Rattle.points.specs.Points.{Ratio, insert, reuses, ratioAt, ratios, zeroOne, thresholds, Has, Earliest}
 use Rattle.points.specs.Curve.{NoZero}
-use Rattle.points.proofs.Lists.{All, Ascending, Positive, same-trans, insert-all, insert-ascending, insert-has, insert-keeps, insert-length, insert-new, ZeroFirst, zero-inserted, zero-stays, zero-there}
+use Rattle.points.proofs.Lists.{All, Ascending, Positive, same-trans, insert-all, insert-ascending, insert-has, insert-keeps}
+use Rattle.points.proofs.Lists.{insert-length, insert-new, ZeroFirst, zero-inserted, zero-stays, zero-there}
 
 module _ (T : Trace) where
   -- the two cases of a step

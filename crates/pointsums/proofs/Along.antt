@@ -13,7 +13,8 @@ use Rattle.model.specs.Traces.{Trace, steps}
 use Rattle.points.specs.Points.{Ratio, reuses, ratioAt, zeroOne, thresholds, thresholdAt, Below, Same, Has, Earliest}
 use Rattle.points.specs.Curve.{NoZero}
 use Rattle.points.proofs.Lists.{below-same, same-below}
-use Rattle.points.proofs.Thresholds.{ratio-positive, thresholds-positive, thresholds-ascending, thresholds-have, thresholds-first, thresholds-of-run}
+use Rattle.points.proofs.Thresholds.{ratio-positive, thresholds-positive, thresholds-ascending, thresholds-have, thresholds-first}
+use Rattle.points.proofs.Thresholds.{thresholds-of-run}
 use Rattle.pointsort.specs.Held.{ratio, ratioIn, Holding, reuseRatios}
 use Rattle.pointsort.specs.Keys.{unitsOf, quotientOf, numbers, SortedKeys}
 use Rattle.pointsort.proofs.Steps.{OfStep}
@@ -125,7 +126,8 @@ module _ (T : Trace) (ok : RunWithin T) (rs ws keys : List ℕ) (n : ℕ) (held 
               let ne = eqb-false (x-has .place) k f in
               let low =
               thresholds-ascending T (x-has .place) k (omega (arith, ltb-false k (x-has .place) e)) (v .there) in
-              let q1 = below-quotient (T .a) (thresholdAt T (x-has .place)) (thresholdAt T k) (fine-threshold (x-has .place) (x-has .within))
+              let q1 = below-quotient (T .a) (thresholdAt T (x-has .place)) (thresholdAt T k)
+              (fine-threshold (x-has .place) (x-has .within))
               (fine-threshold k (v .there)) low in
               let q2 = quotient-same (T .a) (thresholdAt T (x-has .place)) x (fine-threshold (x-has .place) (x-has .within)) fine-x
               (x-has .equal) in
@@ -147,7 +149,8 @@ module _ (T : Trace) (ok : RunWithin T) (rs ws keys : List ℕ) (n : ℕ) (held 
           omega (arith, low, x-is, not-above fine-y (eqb (suc k) (x-has .place)) refl)
         where
           from : (key : KeyOf (thresholdAt T (suc k)))
-              → quot T ok rs ws keys n held sorted (thresholdAt T k) < quot T ok rs ws keys n held sorted (thresholdAt T (suc k)) → (b : Bool)
+              → quot T ok rs ws keys n held sorted (thresholdAt T k) < quot T ok rs ws keys n held sorted (thresholdAt T (suc k))
+              → (b : Bool)
               → ltb (key .at) i ≡ b → quotientAt keys i ≤ quot T ok rs ws keys n held sorted (thresholdAt T (suc k))
           from key over true e =
               absurd (omega (arith, over, key .quotient, v .quotient, before-most i (key .at) (omega arith) (ltb-true (key .at) i e)))
@@ -229,7 +232,8 @@ module _ (T : Trace) (ok : RunWithin T) (rs ws keys : List ℕ) (n : ℕ) (held 
           same-quotient (T .a) x (thresholdAt T 0) (key-fine T ok rs ws keys n held sorted 0 lt)
           (fine-threshold 0 (thresholds-first T .some-entry))
           (sym (key-at T ok rs ws keys n held sorted 0 lt .quotient) ∙ (q ∙ sym first-quotient)) in
-          z .no-reuse (o .step) (o .before) (o .reuse) (same-both x (ratioAt T (o .step)) (thresholdAt T 0) zeroOne (o .exact) (z .is-zero) same)
+          z .no-reuse (o .step) (o .before) (o .reuse)
+          (same-both x (ratioAt T (o .step)) (thresholdAt T 0) zeroOne (o .exact) (z .is-zero) same)
 
       some-there : Earliest T (steps T) (thresholdAt T 0) → (0 < n) × (quotientAt keys 0 ≡ 0)
       some-there e =

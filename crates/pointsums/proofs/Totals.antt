@@ -20,14 +20,16 @@ use Rattle.model.proofs.Loads.{overTouches-eq, overTouches-total, touching-le, 
 use Rattle.model.proofs.Places.{text-short, text-fits}
 use Rattle.model.proofs.Sums.{sum-suc, sum-eq, sum-le, sum-within}
 use Rattle.model.proofs.Touches.{entry-touched}
-use Rattle.points.specs.Points.{Ratio, reuses, ratioAt, zeroOne, thresholds, thresholdAt, pointMemory, pointLoad, pointNumbers, operatingPoints, Below}
+use Rattle.points.specs.Points.{Ratio, reuses, ratioAt, zeroOne, thresholds, thresholdAt, pointMemory, pointLoad, pointNumbers}
+use Rattle.points.specs.Points.{operatingPoints, Below}
 use Rattle.points.proofs.Between.{Within}
 use Rattle.points.proofs.Lines.{kept-within, kept-above, kept-first}
 use Rattle.pointsort.specs.Held.{ratioIn, Holding, reuseRatios, wholeLoad}
 use Rattle.pointsort.specs.Keys.{unitsOf, numbers, keyOf, SortedKeys}
 use Rattle.pointsort.proofs.Steps.{reuse-sum}
 use Rattle.pointsort.proofs.Fine.{Fine, fine-reuse, held-few, below-quotient, quotient-less}
-use Rattle.pointsums.specs.inner.Walk.{places, quotientAt, reuseAt, beforeAt, ended, leader, memoryTo, loadTo, pointAt, pointsTo, pointsOf, Summable}
+use Rattle.pointsums.specs.inner.Walk.{places, quotientAt, reuseAt, beforeAt, ended, leader, memoryTo, loadTo, pointAt, pointsTo}
+use Rattle.pointsums.specs.inner.Walk.{pointsOf, Summable}
 use Rattle.pointsums.proofs.Ordered.{atKey, quot, key-at, key-fine, quotients-rise}
 use Rattle.pointsums.proofs.Along.{fine-threshold, before-most, before-rises, Reached, Along, along, points-count}
 use Rattle.pointsums.proofs.Running.{numbers-length}

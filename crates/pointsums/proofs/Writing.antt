@@ -12,7 +12,8 @@ use lib.Seq.{drop-cons, set-at}
 use Rattle.model.specs.Sums.{sum}
 use Rattle.model.proofs.Sums.{sum-none, sum-suc}
 use Rattle.points.specs.Points.{Ratio}
-use Rattle.pointsums.specs.inner.Walk.{quotientAt, reuseAt, beforeAt, ended, firstCost, leader, memoryTo, loadTo, pointAt, pointsTo, pointsOf, Summable}
+use Rattle.pointsums.specs.inner.Walk.{quotientAt, reuseAt, beforeAt, ended, firstCost, leader, memoryTo, loadTo, pointAt, pointsTo}
+use Rattle.pointsums.specs.inner.Walk.{pointsOf, Summable}
 
 -- a place within a list stays within it
 pub inside : (l : List ℕ) (i x j : ℕ) → j < length l → j < length (set l i x)

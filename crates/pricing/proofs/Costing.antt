@@ -26,7 +26,8 @@ use Rattle.pricing.specs.Checking.{missing, enters, someEnters, stepVerd
 use Rattle.model.specs.Sheets.{RunWithin, listed}
 use Rattle.schedule.proofs.Segments.{by-segment}
 use Rattle.schedule.specs.inner.Segments.{segmentOf}
-use Rattle.pricing.specs.inner.Steps.{startCost, unitAt, leaving, SegmentsPassed, heldCost, memoryThrough, loadThrough, Through, Moved}
+use Rattle.pricing.specs.inner.Steps.{startCost, unitAt, leaving, SegmentsPassed, heldCost, memoryThrough, loadThrough, Through}
+use Rattle.pricing.specs.inner.Steps.{Moved}
 use Rattle.pricing.proofs.Verdicts.{none-enters, step-accepted, one-more, held-touched}
 use Rattle.pricing.proofs.Verdicts.{accepted-permitted, whole-verdict, accepted-answer, priced}
 

@@ -35,7 +35,8 @@ made g s (Done next) y = refl
 made g s (NoLines why) y = refl
 
 -- the sizes, then the rows, and no warm segments
-pub table-read : (kind : Kind) (a segs : ℕ) (sizes : List ℕ) (rows : ℕ) (prices : List PriceRow) (holds s : List ℕ) (at : ℕ) (l q : LinesRead)
+pub table-read : (kind : Kind) (a segs : ℕ) (sizes : List ℕ) (rows : ℕ) (prices : List PriceRow) (holds s : List ℕ) (at : ℕ)
+    (l q : LinesRead)
     → sizesPart .reads s ≡ read (take segs sizes) (drop at s)
     → parsedLines (tail s at) l (take rows prices) ≡ pricesPart .reads (tail s at) → q ≡ movedOn at l
     → parsedLines s q
@@ -62,7 +63,8 @@ pub warm-read : (h : Head) (warm : ℕ) (holds s : List ℕ) (l : LinesRead) (p 
     ≡ andThen p (withWarm (headValueOf h))
 unfolding headValueOf
 warm-read h warm holds s l p e =
-    let g : List ℕ → HeadValue = λ ws. record { kind = h .kind; a = h .a; sizes = take (h .segs) (h .sizes); rows = take (h .rows) (h .prices); warm = ws } in
+    let g : List ℕ → HeadValue = λ ws. record
+    { kind = h .kind; a = h .a; sizes = take (h .segs) (h .sizes); rows = take (h .rows) (h .prices); warm = ws } in
     made g s l (take warm holds) ∙ ap (λ p. andThen p (withWarm (headValueOf h))) e
 
 -- kind and a, then the sizes, the rows and the warm segments

@@ -23,7 +23,8 @@ use Rattle.figures.specs.Buckets.{allEmpty}
 use Rattle.model.specs.LastTouches.{startTable}
 use Rattle.figures.specs.Rows.{figuresAt, figuresOf}
 use Rattle.figures.proofs.Passing.{pass-start}
-use Rattle.recorder.specs.Recorders.{recorderOf, started, appended, taken, withStep, stepVerdict, refsVerdict, touchAllVerdict, idleVerdict}
+use Rattle.recorder.specs.Recorders.{recorderOf, started, appended, taken, withStep, stepVerdict, refsVerdict, touchAllVerdict}
+use Rattle.recorder.specs.Recorders.{idleVerdict}
 use Rattle.recorder.specs.Recorders.{Touched, TouchedAll, Rested, Figured}
 use Rattle.recorder.specs.inner.Passes.{begun}
 use Rattle.recorder.specs.declared.Recorder.{Recorder}

@@ -54,7 +54,8 @@ unfolding recorderOf headOf
 ends-of v valid rows segs steps qs b rows-are segs-are steps-are quoted ended =
     let all : length (v .refs) ≡ steps = omega (arith, valid .run .steps-within) in
     let sizes = front (v .head .sizes) (zeros mostSegs) segs mostSegs (valid .run .segs-within) segs-are in
-    (rw sizes at ended) (v .head .rows) (head-rows (v .head) (valid .rows) rows rows-are qs quoted) (v .head .warm) (v .refs) all (valid .run)
+    (rw sizes at ended) (v .head .rows) (head-rows (v .head) (valid .rows) rows rows-are qs quoted) (v .head .warm) (v .refs) all
+    (valid .run)
     (ap (lastTable (traceOf v)) all)
 
 pub ends-stand : (R : Recorder) (rows segs steps : ℕ) (qs : List ℕ) (b : List Bucket)

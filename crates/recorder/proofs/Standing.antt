@@ -178,7 +178,8 @@ unfolding recorderOf
 idle-room R v e a =
     go (ltb (length (v .refs)) mostSteps) refl (ap (λ (Q : Recorder). stepVerdict (Q .steps)) (sym e) ∙ a)
   where
-    go : (b : Bool) → ltb (length (v .refs)) mostSteps ≡ b → cond b Accepted (Refused RecorderFull) ≡ Accepted → length (v .refs) < mostSteps
+    go : (b : Bool) → ltb (length (v .refs)) mostSteps ≡ b → cond b Accepted (Refused RecorderFull) ≡ Accepted
+        → length (v .refs) < mostSteps
     go true l w = ltb-true (length (v .refs)) mostSteps l
     go false l w = let z : _≡_ {A = ℕ} 0 1 = cc in omega arith
 

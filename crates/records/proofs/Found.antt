@@ -41,7 +41,8 @@ module _ (v : SheetValue) (most : length (v .head .rows) ≤ mostRows) (list : L
   sheet-counted true e = rw e (record { within = leb-true _ _ e; most = most })
   sheet-counted false e = rw e (record { within = omega arith; most = omega arith })
 
-  sheet-answer : (b : Bool) → leb (length (v .head .rows)) (length list) ≡ b → recordsFor v (length list) .answer ≡ sheetAnswer v (length list)
+  sheet-answer : (b : Bool) → leb (length (v .head .rows)) (length list) ≡ b → recordsFor v (length list) .answer
+      ≡ sheetAnswer v (length list)
   unfolding recordsFor sheetAnswer noRecords
   sheet-answer true e = rw e
   sheet-answer false e = rw e
@@ -49,7 +50,8 @@ module _ (v : SheetValue) (most : length (v .head .rows) ≤ mostRows) (list : L
   sheet-after : (b : Bool) → leb (length (v .head .rows)) (length list) ≡ b → written (recordsFor v (length list)) list ≡ sheetAfter v list
   unfolding recordsFor sheetAnswer sheetAfter noRecords
   sheet-after true e =
-      rw e (ap (λ t. t ++ drop (length (v .head .rows)) list) (tabulate-eq (length (v .head .rows)) _ (figuresAt v) (λ j lt. figures-at v j zeroFigures lt most)))
+      rw e (ap (λ t. t ++ drop (length (v .head .rows)) list)
+      (tabulate-eq (length (v .head .rows)) _ (figuresAt v) (λ j lt. figures-at v j zeroFigures lt most)))
   sheet-after false e = rw e (sym (front-none _ list))
 
 module _ (s : List ℕ) (list : List RowFigures) where

@@ -51,8 +51,8 @@ fn sheet_records(s: Sheet, room: usize) -> Records
     }
 }
 
-// The records of the sheet that a run of bytes stands for, for a list of so many: refused with the sheet's refusals, then 11 where the list is shorter
-// than the rows.
+// The records of the sheet that a run of bytes stands for, for a list of so many: refused with the sheet's refusals, then 11 where the
+// list is shorter than the rows.
 pub fn all_records(bytes: &[u8], room: usize) -> Records
     ensures { λ r. ⌜ r ≡ recordsFound (now (bytes .entry)) room ⌝ }
 {
@@ -88,8 +88,8 @@ fn record_at(r: Records, i: usize) -> RowFigures
     figures[i]
 }
 
-// The figures of every row into a lent list of row records, one for each row: refused with the sheet's refusals, then 11 where the list is shorter than
-// the rows. Records beyond the rows stay; refused, no record changes.
+// The figures of every row into a lent list of row records, one for each row: refused with the sheet's refusals, then 11 where the list is
+// shorter than the rows. Records beyond the rows stay; refused, no record changes.
 pub fn row_records(bytes: &[u8], out: &mut [RowFigures]) -> PlaceAnswer
     ensures { λ r. ⌜ (r ≡ listAnswer (now (bytes .entry)) (now (out .entry)))
         × (now (out .exit) ≡ listAfter (now (bytes .entry)) (now (out .entry))) ⌝ }

@@ -36,4 +36,8 @@ module _ (v : SheetValue) (r : ℕ) (t : Tariff) where
     -- which are within what the tariff takes
     pub bill-within : Valid v → (f .optmem .0 < 2 ^ 40) × (f .load .0 < 2 ^ 40)
     unfolding rowFigures
-    bill-within c = rw e (optmem-within (traceOf v) (c .run) (rowAt v r .h) (rowAt v r .d), load-within (traceOf v) (c .run) (rowAt v r .h) (rowAt v r .d))
+    bill-within c = rw e (
+      optmem-within (traceOf v) (c .run) (rowAt v r .h) (rowAt v r .d),
+      load-within (traceOf v) (c .run)
+          (rowAt v r .h) (rowAt v r .d),
+    )

@@ -98,7 +98,8 @@ module _ (v : SheetValue) (c : Valid v) (ceiling : ℕ) (all : List RowFigures) 
   load-of q lt = ap (λ f. f .load .0) (row-of q lt)
 
   -- the pass ends at the rows' end or at a row beyond the ceiling
-  module _ (row i : ℕ) (p : RowsPassed ceiling all (length (v .head .rows)) row i) (end : i < length (v .head .rows) → ceiling < memoryAt all i) where
+  module _ (row i : ℕ) (p : RowsPassed ceiling all (length (v .head .rows)) row i)
+      (end : i < length (v .head .rows) → ceiling < memoryAt all i) where
     -- then every row from i on is beyond it
     later-beyond : (q : ℕ) → i ≤ q → q < length (v .head .rows) → ceiling < rowOptmem v q
     later-beyond q from lt =

@@ -118,7 +118,8 @@ readable-valid lo hi new v c =
             steps-within = steps;
             entry-within = entry;
           };
-      whole = λ e. entries-whole (leb 2 (v .form)) (length (v .head .sizes)) (v .refs) (ap (λ k. leb 2 k) e) (c .segs-fit .0) (c .entries-fit);
+      whole = λ e. entries-whole (leb 2 (v .form)) (length (v .head .sizes)) (v .refs) (ap (λ k. leb 2 k) e) (c .segs-fit .0)
+          (c .entries-fit);
       warm = warm-within (leb 3 (v .form)) (length (v .head .sizes)) (v .head .warm) (c .segs-fit .0) (c .warm-fits);
       cold = λ l. warm-none (leb 3 (v .form)) (length (v .head .sizes)) (v .head .warm) (lt-leb 3 (v .form) (omega arith)) (c .warm-fits);
       marked = λ l. marks (le-leb 4 (v .form) l) .0;

@@ -53,7 +53,8 @@ marks-few v c = go (leb 4 (v .form)) refl
 held-stands : (v : SheetValue) → Valid v → Standing (sheetOf v)
 unfolding sheetOf headOf
 held-stands v c =
-    let few : length (v .head .warm) ≤ mostSegs = omega (arith, warm-few (length (v .head .sizes)) (v .head .warm) (c .warm), c .run .segs-within) in
+    let few : length (v .head .warm) ≤ mostSegs = omega
+    (arith, warm-few (length (v .head .sizes)) (v .head .warm) (c .warm), c .run .segs-within) in
     let marks = marks-few v c in
     let blank = blank-marks-length mostSteps in
     record {
@@ -63,14 +64,16 @@ held-stands v c =
       warm-within = few;
       steps-within = c .run .steps-within;
       sizes-whole = padded-length (v .head .sizes) (zeros mostSegs) (omega (arith, zeros-length mostSegs)) ∙ zeros-length mostSegs;
-      prices-whole = padded-length (v .head .rows) (zeroRows mostRows) (omega (arith, zero-rows-length mostRows)) ∙ zero-rows-length mostRows;
+      prices-whole = padded-length (v .head .rows) (zeroRows mostRows) (omega (arith, zero-rows-length mostRows))
+          ∙ zero-rows-length mostRows;
       holds-whole = padded-length (v .head .warm) (zeros mostSegs) (omega (arith, zeros-length mostSegs)) ∙ zeros-length mostSegs;
       touches-whole = padded-length (v .refs) (idles mostSteps) (omega (arith, idles-length mostSteps)) ∙ idles-length mostSteps;
       marked-within = marks;
       marks-whole = padded-length (v .marks) (blankMarks mostSteps) (omega (arith, blank)) ∙ blank;
     }
 
-read-stands : (lo hi : ℕ) → hi ≤ newestForm → (s : List ℕ) (A : SheetAnswer) (o : Outcome) → readForms lo hi s ≡ o → A ≡ answerOf o → A .verdict ≡ Accepted → Standing (A .sheet)
+read-stands : (lo hi : ℕ) → hi ≤ newestForm → (s : List ℕ) (A : SheetAnswer) (o : Outcome) → readForms lo hi s ≡ o → A ≡ answerOf o
+    → A .verdict ≡ Accepted → Standing (A .sheet)
 unfolding answerOf
 read-stands lo hi new s A (accepted v) r e a = rw (ap (λ B. B .sheet) e) (held-stands v (accepted-valid lo hi new s v r))
 read-stands lo hi new s A (rejected p) r e a =

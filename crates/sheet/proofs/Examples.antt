@@ -13,7 +13,8 @@ use Rattle.model.specs.declared.Kind.the-variants.{Time, Space}
 use Rattle.model.specs.declared.PriceRow.{PriceRow}
 use Rattle.decimal.specs.Decimal.{allDigits, valueFrom, isNumber, written, writtenIn}
 use Rattle.sheet.specs.Lines.{splitAt, afterKey, valueLine, numberLine, sameBytes, numberLines}
-use Rattle.lines.specs.Keys.{formKey, kindKey, aKey, segsKey, sizeKey, rowsKey, rowKey, warmKey, holdKey, stepsKey, refsKey, refKey, kindWord}
+use Rattle.lines.specs.Keys.{formKey, kindKey, aKey, segsKey, sizeKey, rowsKey, rowKey, warmKey, holdKey, stepsKey, refsKey, refKey}
+use Rattle.lines.specs.Keys.{kindWord}
 use Rattle.sheet.specs.Reading.{Outcome, accepted, rejected, namedForm, readForms, readSheet}
 use Rattle.sheet.specs.Touches.{touchLine, touchLines, placedFrom, touchesFrom}
 use Rattle.sheet.specs.Values.{kindLine, rowLine, rowLines}
@@ -26,7 +27,11 @@ use Rattle.sheet.specs.Writing.{sheetText}
 -- the bytes of the sheet
 listing : List ℕ
 listing =
-    107 ∷ 105 ∷ 110 ∷ 100 ∷ 61 ∷ 115 ∷ 112 ∷ 97 ∷ 99 ∷ 101 ∷ 10 ∷ 97 ∷ 61 ∷ 49 ∷ 10 ∷ 115 ∷ 101 ∷ 103 ∷ 115 ∷ 61 ∷ 50 ∷ 10 ∷ 115 ∷ 105 ∷ 122 ∷ 101 ∷ 61 ∷ 49 ∷ 10 ∷ 115 ∷ 105 ∷ 122 ∷ 101 ∷ 61 ∷ 51 ∷ 10 ∷ 114 ∷ 111 ∷ 119 ∷ 115 ∷ 61 ∷ 50 ∷ 10 ∷ 114 ∷ 111 ∷ 119 ∷ 61 ∷ 49 ∷ 47 ∷ 50 ∷ 10 ∷ 114 ∷ 111 ∷ 119 ∷ 61 ∷ 49 ∷ 47 ∷ 49 ∷ 10 ∷ 114 ∷ 101 ∷ 102 ∷ 115 ∷ 61 ∷ 54 ∷ 10 ∷ 114 ∷ 101 ∷ 102 ∷ 61 ∷ 48 ∷ 10 ∷ 114 ∷ 101 ∷ 102 ∷ 61 ∷ 49 ∷ 10 ∷ 114 ∷ 101 ∷ 102 ∷ 61 ∷ 48 ∷ 10 ∷ 114 ∷ 101 ∷ 102 ∷ 61 ∷ 49 ∷ 10 ∷ 114 ∷ 101 ∷ 102 ∷ 61 ∷ 49 ∷ 10 ∷ 114 ∷ 101 ∷ 102 ∷ 61 ∷ 48 ∷ 10 ∷ []
+    107 ∷ 105 ∷ 110 ∷ 100 ∷ 61 ∷ 115 ∷ 112 ∷ 97 ∷ 99 ∷ 101 ∷ 10 ∷ 97 ∷ 61 ∷ 49 ∷ 10 ∷ 115 ∷ 101 ∷ 103 ∷ 115 ∷ 61 ∷ 50 ∷ 10 ∷ 115 ∷ 105 ∷
+    122 ∷ 101 ∷ 61 ∷ 49 ∷ 10 ∷ 115 ∷ 105 ∷ 122 ∷ 101 ∷ 61 ∷ 51 ∷ 10 ∷ 114 ∷ 111 ∷ 119 ∷ 115 ∷ 61 ∷ 50 ∷ 10 ∷ 114 ∷ 111 ∷ 119 ∷ 61 ∷
+    49 ∷ 47 ∷ 50 ∷ 10 ∷ 114 ∷ 111 ∷ 119 ∷ 61 ∷ 49 ∷ 47 ∷ 49 ∷ 10 ∷ 114 ∷ 101 ∷ 102 ∷ 115 ∷ 61 ∷ 54 ∷ 10 ∷ 114 ∷ 101 ∷ 102 ∷ 61 ∷
+    48 ∷ 10 ∷ 114 ∷ 101 ∷ 102 ∷ 61 ∷ 49 ∷ 10 ∷ 114 ∷ 101 ∷ 102 ∷ 61 ∷ 48 ∷ 10 ∷ 114 ∷ 101 ∷ 102 ∷ 61 ∷ 49 ∷ 10 ∷ 114 ∷ 101 ∷
+    102 ∷ 61 ∷ 49 ∷ 10 ∷ 114 ∷ 101 ∷ 102 ∷ 61 ∷ 48 ∷ 10 ∷ []
 
 -- its value
 value-of-listing : SheetValue
@@ -46,11 +51,13 @@ value-of-listing =
     }
 
 listing-read : readSheet listing ≡ accepted value-of-listing
-unfolding listing value-of-listing readForms namedForm sheetPart bodyPart headPart tablesPart runPart sizesPart pricesPart refsPart plainPart kindLine numberLines rowLine rowLines splitAt afterKey valueLine numberLine sameBytes allDigits valueFrom isNumber
+unfolding listing value-of-listing readForms namedForm sheetPart bodyPart headPart tablesPart runPart sizesPart pricesPart refsPart
+    plainPart kindLine numberLines rowLine rowLines splitAt afterKey valueLine numberLine sameBytes allDigits valueFrom isNumber
 listing-read = refl
 
 listing-written : sheetText value-of-listing ≡ listing
-unfolding listing value-of-listing sheetText sheetPart bodyPart headPart tablesPart runPart sizesPart pricesPart refsPart plainPart linesText written writtenIn
+unfolding listing value-of-listing sheetText sheetPart bodyPart headPart tablesPart runPart sizesPart pricesPart refsPart plainPart
+    linesText written writtenIn
 listing-written = refl
 
 -- ---- the limits
@@ -123,7 +130,9 @@ limits =
     ∷ []
 
 pub limits-hold : allRead limits ≡ true
-unfolding outcomeNumber _reads_ allRead price textOf toSegs toRows toRefs limits readForms namedForm sheetPart bodyPart headPart tablesPart runPart sizesPart pricesPart refsPart plainPart kindLine numberLines rowLine rowLines splitAt afterKey valueLine numberLine sameBytes allDigits valueFrom isNumber sheetText linesText written writtenIn
+unfolding outcomeNumber _reads_ allRead price textOf toSegs toRows toRefs limits readForms namedForm sheetPart bodyPart headPart
+    tablesPart runPart sizesPart pricesPart refsPart plainPart kindLine numberLines rowLine rowLines splitAt afterKey valueLine
+    numberLine sameBytes allDigits valueFrom isNumber sheetText linesText written writtenIn
 limits-hold = refl
 
 -- ---- the warm segments of form 3
@@ -166,15 +175,20 @@ warmed warm =
 
 -- a sheet of form 3 without warm segments and one with two, read and written
 cold-read : readSheet (sheetWith 3 (holding 0 [] ++ oneTouch)) ≡ accepted (warmed [])
-unfolding price sheetWith holding oneTouch warmed readForms namedForm sheetPart bodyPart headPart tablesPart runPart sizesPart pricesPart warmPart stepsPart kindLine numberLines rowLine rowLines holdLine holdLines touchLine touchLines placedFrom splitAt afterKey valueLine numberLine sameBytes allDigits valueFrom isNumber linesText written writtenIn
+unfolding price sheetWith holding oneTouch warmed readForms namedForm sheetPart bodyPart headPart tablesPart runPart sizesPart pricesPart
+    warmPart stepsPart kindLine numberLines rowLine rowLines holdLine holdLines touchLine touchLines placedFrom splitAt afterKey
+    valueLine numberLine sameBytes allDigits valueFrom isNumber linesText written writtenIn
 cold-read = refl
 
 warm-read : readSheet (sheetWith 3 (holding 2 (0 ∷ 2 ∷ []) ++ oneTouch)) ≡ accepted (warmed (0 ∷ 2 ∷ []))
-unfolding price sheetWith holding oneTouch warmed readForms namedForm sheetPart bodyPart headPart tablesPart runPart sizesPart pricesPart warmPart stepsPart kindLine numberLines rowLine rowLines holdLine holdLines touchLine touchLines placedFrom splitAt afterKey valueLine numberLine sameBytes allDigits valueFrom isNumber linesText written writtenIn
+unfolding price sheetWith holding oneTouch warmed readForms namedForm sheetPart bodyPart headPart tablesPart runPart sizesPart pricesPart
+    warmPart stepsPart kindLine numberLines rowLine rowLines holdLine holdLines touchLine touchLines placedFrom splitAt afterKey
+    valueLine numberLine sameBytes allDigits valueFrom isNumber linesText written writtenIn
 warm-read = refl
 
 warm-written : sheetText (warmed (0 ∷ 2 ∷ [])) ≡ sheetWith 3 (holding 2 (0 ∷ 2 ∷ []) ++ oneTouch)
-unfolding price sheetWith holding oneTouch warmed touchesFrom sheetText sheetPart bodyPart headPart tablesPart runPart sizesPart pricesPart warmPart stepsPart linesText written writtenIn
+unfolding price sheetWith holding oneTouch warmed touchesFrom sheetText sheetPart bodyPart headPart tablesPart runPart sizesPart
+    pricesPart warmPart stepsPart linesText written writtenIn
 warm-written = refl
 
 -- warm= from 0 to segs, and the lines hold=: 2, 3 and 4 as on every line, 19 for a number that is not above the one before. The first
@@ -204,16 +218,23 @@ warmings =
     ∷ []
 
 pub warmings-hold : allRead warmings ≡ true
-unfolding outcomeNumber _reads_ allRead sheetWith holding heldLetter heldZero oneTouch warmings readForms namedForm sheetPart bodyPart headPart tablesPart runPart sizesPart pricesPart warmPart stepsPart kindLine numberLines rowLine rowLines holdLine holdLines touchLine touchLines placedFrom splitAt afterKey valueLine numberLine sameBytes allDigits valueFrom isNumber linesText written writtenIn
+unfolding outcomeNumber _reads_ allRead sheetWith holding heldLetter heldZero oneTouch warmings readForms namedForm sheetPart bodyPart
+    headPart tablesPart runPart sizesPart pricesPart warmPart stepsPart kindLine numberLines rowLine rowLines holdLine holdLines
+    touchLine touchLines placedFrom splitAt afterKey valueLine numberLine sameBytes allDigits valueFrom isNumber linesText written
+    writtenIn
 warmings-hold = refl
 
 -- a call that is not made for form 3 refuses such a sheet with 4 on the form line, one made for it alone a sheet of form 2
 not-taken : outcomeNumber (readForms 1 2 (sheetWith 3 (holding 2 (1 ∷ 1 ∷ []) ++ oneTouch))) ≡ 4
-unfolding outcomeNumber sheetWith holding oneTouch readForms namedForm sheetPart bodyPart headPart tablesPart runPart sizesPart pricesPart warmPart stepsPart kindLine numberLines rowLine rowLines holdLine holdLines touchLine touchLines placedFrom splitAt afterKey valueLine numberLine sameBytes allDigits valueFrom isNumber linesText written writtenIn
+unfolding outcomeNumber sheetWith holding oneTouch readForms namedForm sheetPart bodyPart headPart tablesPart runPart sizesPart
+    pricesPart warmPart stepsPart kindLine numberLines rowLine rowLines holdLine holdLines touchLine touchLines placedFrom splitAt
+    afterKey valueLine numberLine sameBytes allDigits valueFrom isNumber linesText written writtenIn
 not-taken = refl
 
 taken-alone : outcomeNumber (readForms 3 3 (sheetWith 2 oneTouch)) ≡ 4
-unfolding outcomeNumber sheetWith oneTouch readForms namedForm sheetPart bodyPart headPart tablesPart runPart sizesPart pricesPart warmPart stepsPart kindLine numberLines rowLine rowLines holdLine holdLines touchLine touchLines placedFrom splitAt afterKey valueLine numberLine sameBytes allDigits valueFrom isNumber linesText written writtenIn
+unfolding outcomeNumber sheetWith oneTouch readForms namedForm sheetPart bodyPart headPart tablesPart runPart sizesPart pricesPart
+    warmPart stepsPart kindLine numberLines rowLine rowLines holdLine holdLines touchLine touchLines placedFrom splitAt afterKey
+    valueLine numberLine sameBytes allDigits valueFrom isNumber linesText written writtenIn
 taken-alone = refl
 
 -- ---- the letter w of form 4
@@ -250,21 +271,27 @@ marked refs marks =
 
 -- one touch that modifies; and two touches of four steps, of which the second does: read, with a mark for each step, and written
 one-read : readSheet (marking 4 1 (0 at 1 followed w ∷ [])) ≡ accepted (marked (0 ∷ []) (true ∷ []))
-unfolding w ww _at_followed_ price sheetWith holding touching marking marked readForms namedForm sheetPart bodyPart headPart tablesPart runPart sizesPart pricesPart warmPart stepsPart kindLine numberLines rowLine rowLines holdLine holdLines touchLine touchLines placedFrom splitAt afterKey valueLine numberLine sameBytes allDigits valueFrom isNumber linesText written writtenIn
+unfolding w ww _at_followed_ price sheetWith holding touching marking marked readForms namedForm sheetPart bodyPart headPart tablesPart
+    runPart sizesPart pricesPart warmPart stepsPart kindLine numberLines rowLine rowLines holdLine holdLines touchLine touchLines
+    placedFrom splitAt afterKey valueLine numberLine sameBytes allDigits valueFrom isNumber linesText written writtenIn
 one-read = refl
 
 one-written : sheetText (marked (0 ∷ []) (true ∷ [])) ≡ marking 4 1 (0 at 1 followed w ∷ [])
-unfolding w ww _at_followed_ price sheetWith holding touching marking marked touchesFrom sheetText sheetPart bodyPart headPart tablesPart runPart sizesPart pricesPart warmPart stepsPart linesText written writtenIn
+unfolding w ww _at_followed_ price sheetWith holding touching marking marked touchesFrom sheetText sheetPart bodyPart headPart tablesPart
+    runPart sizesPart pricesPart warmPart stepsPart linesText written writtenIn
 one-written = refl
 
 second-read : readSheet (marking 4 4 (2 at 2 followed [] ∷ 1 at 3 followed w ∷ []))
     ≡ accepted (marked (idle ∷ 2 ∷ 1 ∷ idle ∷ []) (false ∷ false ∷ true ∷ false ∷ []))
-unfolding w ww _at_followed_ price sheetWith holding touching marking marked readForms namedForm sheetPart bodyPart headPart tablesPart runPart sizesPart pricesPart warmPart stepsPart kindLine numberLines rowLine rowLines holdLine holdLines touchLine touchLines placedFrom splitAt afterKey valueLine numberLine sameBytes allDigits valueFrom isNumber linesText written writtenIn
+unfolding w ww _at_followed_ price sheetWith holding touching marking marked readForms namedForm sheetPart bodyPart headPart tablesPart
+    runPart sizesPart pricesPart warmPart stepsPart kindLine numberLines rowLine rowLines holdLine holdLines touchLine touchLines
+    placedFrom splitAt afterKey valueLine numberLine sameBytes allDigits valueFrom isNumber linesText written writtenIn
 second-read = refl
 
 second-written : sheetText (marked (idle ∷ 2 ∷ 1 ∷ idle ∷ []) (false ∷ false ∷ true ∷ false ∷ []))
     ≡ marking 4 4 (2 at 2 followed [] ∷ 1 at 3 followed w ∷ [])
-unfolding w ww _at_followed_ price sheetWith holding touching marking marked touchesFrom sheetText sheetPart bodyPart headPart tablesPart runPart sizesPart pricesPart warmPart stepsPart linesText written writtenIn
+unfolding w ww _at_followed_ price sheetWith holding touching marking marked touchesFrom sheetText sheetPart bodyPart headPart tablesPart
+    runPart sizesPart pricesPart warmPart stepsPart linesText written writtenIn
 second-written = refl
 
 -- the letter stands once, lower-case, right after the step's digits, and in form 4 alone: else 3. The step is read without it: 4 and 16
@@ -301,5 +328,8 @@ markings =
     ∷ []
 
 pub markings-hold : allRead markings ≡ true
-unfolding outcomeNumber _reads_ allRead toSegs toRows toRefs refsPart plainPart markings w ww _at_followed_ price sheetWith holding touching marking marked readForms namedForm sheetPart bodyPart headPart tablesPart runPart sizesPart pricesPart warmPart stepsPart kindLine numberLines rowLine rowLines holdLine holdLines touchLine touchLines placedFrom splitAt afterKey valueLine numberLine sameBytes allDigits valueFrom isNumber linesText written writtenIn
+unfolding outcomeNumber _reads_ allRead toSegs toRows toRefs refsPart plainPart markings w ww _at_followed_ price sheetWith holding
+    touching marking marked readForms namedForm sheetPart bodyPart headPart tablesPart runPart sizesPart pricesPart warmPart stepsPart
+    kindLine numberLines rowLine rowLines holdLine holdLines touchLine touchLines placedFrom splitAt afterKey valueLine numberLine
+    sameBytes allDigits valueFrom isNumber linesText written writtenIn
 markings-hold = refl

@@ -90,7 +90,8 @@ unfolding entriesText
 later-length v e =
     ap length (sheet-text v)
     ∙ rw (form-text (v .form) e, e, steps-text (leb 4 (v .form)) (length (v .head .sizes)) (entriesIn v))
-    (five (numberText formKey (v .form)) (textOf (headPart true (leb 3 (v .form)) .lines (v .head))) (numberText stepsKey (length (v .refs)))
+    (five (numberText formKey (v .form)) (textOf (headPart true (leb 3 (v .form)) .lines (v .head)))
+    (numberText stepsKey (length (v .refs)))
     (numberText refsKey (length (touchesOf (entriesIn v)))) (touchesText (touchesOf (entriesIn v))))
   where
     five : (a b c d e : List ℕ) → length (a ++ (b ++ (c ++ (d ++ e)))) ≡ length a + (length b + (length c + (length d + length e)))
@@ -139,7 +140,8 @@ warm-within true segs xs one h (l, c) =
     ))
 
 -- a head has at most 3,618, and its warm segments
-head-within : (v : SheetValue) → Valid v → length (textOf (headPart true (leb 3 (v .form)) .lines (v .head))) ≤ 3618 + cond (leb 3 (v .form)) 2203 0
+head-within : (v : SheetValue) → Valid v
+    → length (textOf (headPart true (leb 3 (v .form)) .lines (v .head))) ≤ 3618 + cond (leb 3 (v .form)) 2203 0
 head-within v c =
     let r = valid-readable 1 newestForm v (c .some-form) (c .form-within) c in
     rw (head-length (leb 3 (v .form)) (v .head))
@@ -393,7 +395,8 @@ ascent-lines k (suc n) h =
     let i = ascent-lines (suc k) n (omega arith) in
     let d = digits-next k (omega arith) in
     rw (length-append (numberText holdKey k) (linesText (numberText holdKey) (ascent (suc k) n)), hold-length k, e)
-    (together (length (written k)) (length (linesText (numberText holdKey) (ascent (suc k) n))) (digitsBelow k) (digitsBelow (suc k)) (digitsBelow (suc k + n)) n i d)
+    (together (length (written k)) (length (linesText (numberText holdKey) (ascent (suc k) n))) (digitsBelow k) (digitsBelow (suc k))
+    (digitsBelow (suc k + n)) n i d)
   where
     together : (w t b c e n : ℕ) → t + c ≡ 6 * n + e → b + w ≡ c → 6 + w + t + b ≡ 6 * suc n + e
     together w t b c e n i d = omega arith
@@ -402,13 +405,21 @@ ascent-lines k (suc n) h =
 warmestLength : Bool → ℕ → ℕ
 warmestLength later n = cond later (length (numberText warmKey n) + (6 * n + digitsBelow n)) 0
 
-filled-warm-length : (later : Bool) (segs n : ℕ) → n ≤ 10000 → length (textOf (warmFor later segs .lines (warmest later n))) ≡ warmestLength later n
+filled-warm-length : (later : Bool) (segs n : ℕ) → n ≤ 10000 → length (textOf (warmFor later segs .lines (warmest later n)))
+    ≡ warmestLength later n
 unfolding warmestLength linesText
 filled-warm-length false segs n h = refl
 filled-warm-length true segs n h =
     let e : 0 + n ≡ n = omega arith in
-    let l : length (linesText (numberText holdKey) (ascent 0 n)) ≡ 6 * n + digitsBelow n = omega (arith, rw e at (ascent-lines 0 n (omega arith))) in
-    rw (warm-text segs (ascent 0 n), length-append (numberText warmKey (length (ascent 0 n))) (linesText (numberText holdKey) (ascent 0 n)), ascent-length 0 n, l)
+    let l : length (linesText (numberText holdKey) (ascent 0 n))
+    ≡ 6 * n + digitsBelow n = omega (arith, rw e at (ascent-lines 0 n (omega arith))) in
+    rw (
+      warm-text segs (ascent 0 n),
+      length-append (numberText warmKey (length (ascent 0 n)))
+          (linesText (numberText holdKey) (ascent 0 n)),
+      ascent-length 0 n,
+      l,
+    )
 
 -- the length of such a value's head, by its counts
 filled-head : (form n m k : ℕ) → m ≤ mostRows → n ≤ 10000 → length (textOf (headPart true (leb 3 form) .lines (filled form n m k .head)))
@@ -480,7 +491,8 @@ filled-first : (n m k : ℕ) → m ≤ mostRows → n ≤ 10000 → length (shee
 unfolding filled
 filled-first n m k h g =
     first-length (filled 1 n m k) refl
-    ∙ (ap (λ x. x + (length (numberText refsKey (length {A = ℕ} (replicate k 255))) + length (linesText (numberText refKey) (replicate k 255))))
+    ∙ (ap (λ x. x + (length (numberText refsKey (length {A = ℕ} (replicate k 255))) + length
+    (linesText (numberText refKey) (replicate k 255))))
     (filled-head 1 n m k h g)
     ∙ rw (length-replicate {A = ℕ} k 255, same-lines refKey 255 8 k reference-length))
 

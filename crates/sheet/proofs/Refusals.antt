@@ -13,13 +13,15 @@ use lib.ListN.{length, take}
 use Rattle.decimal.specs.Decimal.{isNumber, value, readingOf}
 use Rattle.decimal.specs.declared.Reading.{Reading}
 use Rattle.decimal.specs.declared.Reading.the-variants.{NotNumber, OutOfRange as Beyond, Number}
-use Rattle.lines.specs.Keys.{lineFeed, slash, atSign, formKey, kindKey, aKey, segsKey, sizeKey, rowsKey, rowKey, warmKey, holdKey, stepsKey, refsKey, refKey, kindWord}
+use Rattle.lines.specs.Keys.{lineFeed, slash, atSign, formKey, kindKey, aKey, segsKey, sizeKey, rowsKey, rowKey, warmKey, holdKey}
+use Rattle.lines.specs.Keys.{stepsKey, refsKey, refKey, kindWord}
 use Rattle.model.specs.Refusals.{numberOf}
 use Rattle.model.specs.Sheets.{SheetValue, Valid, formBytes, newestForm, largestA, mostSegs, largestSize, mostRows, mostSteps}
 use Rattle.model.specs.declared.Kind.the-variants.{Time, Space}
 use Rattle.model.specs.declared.PriceRow.{PriceRow}
 use Rattle.model.specs.declared.Refusal.{Refusal}
-use Rattle.model.specs.declared.Refusal.the-variants.{SheetTooLong, LineMalformed, ValueMalformed, OutOfRange, ThresholdNotAbove, BytesAfterEnd, StepNotAbove, HoldNotAbove}
+use Rattle.model.specs.declared.Refusal.the-variants.{SheetTooLong, LineMalformed, ValueMalformed, OutOfRange, ThresholdNotAbove}
+use Rattle.model.specs.declared.Refusal.the-variants.{BytesAfterEnd, StepNotAbove, HoldNotAbove}
 use Rattle.sheet.specs.Lines.{Parsed, read, refused, andThen, Split, parts, none as unsplit, splitAt, sameBytes, afterKey, ofLine}
 use Rattle.sheet.specs.Lines.{valueLine, inRange, numberLine, numberLines}
 use Rattle.sheet.specs.Order.{sizesPart, pricesPart, warmPart, warmFor, tablesPart, headPart}
@@ -192,7 +194,8 @@ head-refuses taken later s =
     stepping _ _ (stepping (kindLine s) _ (kind-refuses s) (λ kind rest. testing taken _ _ (reading kind rest) beyond)) λ kind s₁.
     stepping (numberLine aKey 0 largestA s₁) _ (number-refuses aKey 0 largestA s₁) λ a s₂.
     stepping (sizesPart .reads s₂) _
-    (stepping (numberLine segsKey 1 mostSegs s₂) _ (number-refuses segsKey 1 mostSegs s₂) (numbers-refuse sizeKey 1 largestSize)) λ sizes s₃.
+    (stepping (numberLine segsKey 1 mostSegs s₂) _ (number-refuses segsKey 1 mostSegs s₂) (numbers-refuse sizeKey 1 largestSize)) λ sizes
+    s₃.
     stepping (pricesPart .reads s₃) _
     (stepping (numberLine rowsKey 1 mostRows s₃) _ (number-refuses rowsKey 1 mostRows s₃) rows-refuse) λ rows s₄.
     stepping (warmFor later (length sizes) .reads s₄) _ (warm-refuses later (length sizes) s₄) λ warm s₅.
@@ -249,7 +252,8 @@ rejected-by lo hi s r e =
 -- 1 is given exactly where the sheet is too long
 pub too-long : (lo hi : ℕ) (s : List ℕ) → readForms lo hi s ≡ rejected SheetTooLong → formBytes (namedForm s) < length s
 too-long lo hi s e =
-    ⊎-elim (λ w. w .0) (λ w. absurd (⊎-elim (λ o. omega (arith, o)) (⊎-elim (λ o. omega (arith, o)) (λ o. omega (arith, o))) (w .1))) (rejected-by lo hi s SheetTooLong e)
+    ⊎-elim (λ w. w .0) (λ w. absurd (⊎-elim (λ o. omega (arith, o)) (⊎-elim (λ o. omega (arith, o)) (λ o. omega (arith, o))) (w .1)))
+    (rejected-by lo hi s SheetTooLong e)
 
 -- and it is given there
 pub long-refused : (lo hi : ℕ) (s : List ℕ) → formBytes (namedForm s) < length s → readForms lo hi s ≡ rejected SheetTooLong

@@ -11,7 +11,8 @@ use borrow.Author.Tests.{le-leb, leb-true, leb-false}
 use lib.Dec.{eqb, leb}
 use lib.ListN.{length, take}
 use Rattle.decimal.specs.Decimal.{written}
-use Rattle.lines.specs.Keys.{lineFeed, formKey, kindKey, aKey, segsKey, sizeKey, rowsKey, rowKey, warmKey, holdKey, stepsKey, refsKey, refKey, kindWord}
+use Rattle.lines.specs.Keys.{lineFeed, formKey, kindKey, aKey, segsKey, sizeKey, rowsKey, rowKey, warmKey, holdKey, stepsKey, refsKey}
+use Rattle.lines.specs.Keys.{refKey, kindWord}
 use Rattle.lines.specs.Texts.{lineText, numberText, linesText}
 use Rattle.lines.proofs.Runs.{Each, lines-map}
 use Rattle.model.specs.Sheets.{HeadValue, SheetValue, idle, marksOf, newestForm, largestA, mostSegs, largestSize, mostRows, mostSteps}
@@ -19,7 +20,8 @@ use Rattle.model.specs.declared.Kind.{Kind}
 use Rattle.model.specs.declared.Kind.the-variants.{Time, Space}
 use Rattle.model.specs.declared.Refusal.the-variants.{LineMalformed, OutOfRange}
 use Rattle.sheet.specs.Lines.{read, refused, andThen, splitAt, sameBytes, afterKey, valueLine, numberLine}
-use Rattle.sheet.specs.Order.{kindFor, numberPart, numbersPart, rowsPart, holdsPart, sizesPart, pricesPart, warmPart, warmFor, tablesPart, headPart}
+use Rattle.sheet.specs.Order.{kindFor, numberPart, numbersPart, rowsPart, holdsPart, sizesPart, pricesPart, warmPart, warmFor}
+use Rattle.sheet.specs.Order.{tablesPart, headPart}
 use Rattle.sheet.specs.Order.{refsPart, plainPart, touchesPart, stepsPart, entriesPart}
 use Rattle.sheet.specs.Order.{runPart, bodyPart, formLines, sheetPart, linesOf}
 use Rattle.sheet.specs.Parts.{Line, textOf}
@@ -224,7 +226,8 @@ kind-kept : (taken : Bool) → Kept (kindFor taken) (λ k. taken ≡ true)
 kind-kept taken = line-kept kindKey kindWord _ _ (record { forth = forth; back = back })
   where
     forth : (k : Kind) (rest : List ℕ) → taken ≡ true
-        → andThen (kindLine (lineText kindKey (kindWord k) ++ rest)) (λ kind end. cond taken (read kind end) (refused OutOfRange)) ≡ read k rest
+        → andThen (kindLine (lineText kindKey (kindWord k) ++ rest)) (λ kind end. cond taken (read kind end) (refused OutOfRange))
+        ≡ read k rest
     forth k rest e = rw (kind-reads .forth k rest tt, e)
 
     back : (s : List ℕ) (k : Kind) (rest : List ℕ)
@@ -241,7 +244,8 @@ kind-kept taken = line-kept kindKey kindWord _ _ (record { forth = forth; back =
 abbrev TablesFit : Bool → Kind → ℕ → HeadValue → Type 0
 TablesFit later kind a h =
     Counted 1 mostSegs (From 1 largestSize) (h .sizes) × (Counted 1 mostRows RowFits (h .rows)
-    × (WarmFits later (length (h .sizes)) (h .warm) × (h ≡ record { kind = kind; a = a; sizes = h .sizes; rows = h .rows; warm = h .warm })))
+    × (WarmFits later (length (h .sizes)) (h .warm)
+    × (h ≡ record { kind = kind; a = a; sizes = h .sizes; rows = h .rows; warm = h .warm })))
 
 tables-kept : (later : Bool) (kind : Kind) (a : ℕ) → Kept (tablesPart later kind a) (TablesFit later kind a)
 unfolding tablesPart
@@ -358,7 +362,8 @@ module _ (lo hi : ℕ) where
   unfolding sheetPart
   first-reads s e = rw e
 
-  forth : (v : SheetValue) (rest : List ℕ) → Readable lo hi v → sheetPart lo hi .reads (textOf (sheetPart lo hi .lines v) ++ rest) ≡ read v rest
+  forth : (v : SheetValue) (rest : List ℕ) → Readable lo hi v → sheetPart lo hi .reads (textOf (sheetPart lo hi .lines v) ++ rest)
+      ≡ read v rest
   unfolding sheetPart
   forth v rest c = go (leb 2 (v .form)) refl
     where
@@ -387,7 +392,8 @@ module _ (lo hi : ℕ) where
       let q : form ≡ v .form = sym (ap (λ (x : SheetValue). x .form) (b .1 .1)) in
       let two : 2 ≤ v .form = omega (arith, q) in (
         t ∙ (ap (λ m. numberText formKey form ++ m) w
-            ∙ (ap (λ (k : ℕ). numberText formKey k ++ (textOf (bodyPart lo k .lines v) ++ rest)) q ∙ sym (later-text v rest (le-leb 2 (v .form) two)))),
+            ∙ (ap (λ (k : ℕ). numberText formKey k ++ (textOf (bodyPart lo k .lines v) ++ rest)) q
+            ∙ sym (later-text v rest (le-leb 2 (v .form) two)))),
         to v (omega arith) (λ _. omega (arith, q)) (subst (λ k. BodyFits lo k v) q b),
       ))
       (λ _ f.
@@ -423,7 +429,8 @@ body-no-form form v rest =
     ∙ kind-no-form (v .head .kind) _
 
 -- the form of a form line, and 1 where there is none, whatever follows the text
-pub named-later : (v : SheetValue) (rest : List ℕ) → leb 2 (v .form) ≡ true → v .form ≤ newestForm → namedForm (sheetText v ++ rest) ≡ v .form
+pub named-later : (v : SheetValue) (rest : List ℕ) → leb 2 (v .form) ≡ true → v .form ≤ newestForm → namedForm (sheetText v ++ rest)
+    ≡ v .form
 unfolding namedForm sheetText sheetPart
 named-later v rest e h =
     let body = textOf (bodyPart 1 (v .form) .lines v) in

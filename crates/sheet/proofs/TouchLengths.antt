@@ -132,7 +132,8 @@ holds-within segs one h xs c =
     omega (arith, ascending-within afterHold (numberText holdKey) (HoldFits segs) 6 segs fits xs none (omega arith) c .1)
   where
     fits : (prev : Option ℕ) (x : ℕ) → HoldFits segs prev x
-        → (afterHold prev < suc x) × (suc x ≤ segs) × (length (numberText holdKey x) + digitsBelow (afterHold prev) ≤ 6 + digitsBelow (suc x))
+        → (afterHold prev < suc x) × (suc x ≤ segs)
+        × (length (numberText holdKey x) + digitsBelow (afterHold prev) ≤ 6 + digitsBelow (suc x))
     fits prev x (f, a) =
         let l = hold-after prev x a in
         (omega arith, omega (arith, f .1), rw (hold-length x) (omega (arith, digits-above (afterHold prev) x l (omega (arith, f .1)))))

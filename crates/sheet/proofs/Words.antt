@@ -21,7 +21,8 @@ use Rattle.sheet.specs.Lines.{read, Split, parts, none as unsplit, split
 use Rattle.sheet.specs.Values.{kindOf, kindLine, above, inPrices, rowOf, rowParts, rowLine, rowWord, rowText}
 use Rattle.sheet.specs.Warm.{aboveHold, holdAfter, holdLine}
 use Rattle.lines.specs.Texts.{lineText, numberText}
-use Rattle.sheet.proofs.Parsing.{by-test, refused-read, passed, then-read, lacks, lacks-append, lacks-digits, split-forth, split-back, Reads, Words, line-reads}
+use Rattle.sheet.proofs.Parsing.{by-test, refused-read, passed, then-read, lacks, lacks-append, lacks-digits, split-forth}
+use Rattle.sheet.proofs.Parsing.{split-back, Reads, Words, line-reads}
 
 -- ---- a number
 

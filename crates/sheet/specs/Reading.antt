@@ -35,8 +35,8 @@ atEnd (read v []) = accepted v
 atEnd (read v (b ∷ rest)) = rejected BytesAfterEnd
 atEnd (refused r) = rejected r
 
--- reading a sheet for a call that takes the forms lo to hi: refusal 1, before all lines, where it is longer than a sheet of the form that its
--- first line names may be
+-- reading a sheet for a call that takes the forms lo to hi: refusal 1, before all lines, where it is longer than a sheet of the form that
+-- its first line names may be
 unfoldable pub readForms : ℕ → ℕ → List ℕ → Outcome
 readForms lo hi s = cond (ltb (formBytes (namedForm s)) (length s)) (rejected SheetTooLong) (atEnd (sheetLines lo hi s))
 

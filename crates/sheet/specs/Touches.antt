@@ -1,5 +1,5 @@
--- The touches of a sheet of form 2 on as their lines ref= say them, segment and step (request F-3) and in form 4 whether they modify (request
--- F-13), and the entry and the mark of each step that they come to. Assumes nothing.
+-- The touches of a sheet of form 2 on as their lines ref= say them, segment and step (request F-3) and in form 4 whether they modify
+-- (request F-13), and the entry and the mark of each step that they come to. Assumes nothing.
 use Prim.Native.Nat.{ℕ, zero, suc, _-_}
 use mathlib.Core.Bool.{Bool, true, false, cond, _&&_}
 use mathlib.Core.List.{List, [], _∷_, _++_}
@@ -47,7 +47,8 @@ touchOf segs steps before x y modifies rest =
     (refused OutOfRange))
     (refused ValueMalformed)
 
--- a touch's value is two numbers around "@", in form 4 with the letter w after the second where it modifies: refusal 3 where there is no "@"
+-- a touch's value is two numbers around "@", in form 4 with the letter w after the second where it modifies: refusal 3 where there is no
+-- "@"
 abbrev pub touchParts : Bool → ℕ → ℕ → ℕ → Split → List ℕ → Parsed Touch
 touchParts letters segs steps before (parts x y) rest = touchOf segs steps before x (stepPart letters y .0) (stepPart letters y .1) rest
 touchParts letters segs steps before unsplit rest = refused ValueMalformed

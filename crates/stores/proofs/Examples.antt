@@ -151,7 +151,8 @@ table =
     ∷ at interleaved 0 6 60 11 (1 ∷ 2 ∷ 2 ∷ 1 ∷ 2 ∷ 1 ∷ 2 ∷ 2 ∷ 0 ∷ 2 ∷ 2 ∷ [])
     (priced (3 ∷ 3 ∷ 2 ∷ 1 ∷ 2 ∷ 1 ∷ 2 ∷ 2 ∷ 0 ∷ 2 ∷ 2 ∷ []) 10 72 ∷ priced (1 ∷ 3 ∷ 2 ∷ 3 ∷ 2 ∷ 1 ∷ 3 ∷ 3 ∷ 2 ∷ 2 ∷ 2 ∷ []) 8 90 ∷ [])
     ∷ at interleaved 12842 42798 569242 11 (1 ∷ 2 ∷ 2 ∷ 1 ∷ 2 ∷ 1 ∷ 2 ∷ 2 ∷ 0 ∷ 2 ∷ 2 ∷ [])
-    (priced (3 ∷ 2 ∷ 2 ∷ 3 ∷ 3 ∷ 3 ∷ 3 ∷ 3 ∷ 0 ∷ 2 ∷ 2 ∷ []) 6 761820 ∷ priced (3 ∷ 3 ∷ 3 ∷ 1 ∷ 2 ∷ 3 ∷ 3 ∷ 3 ∷ 3 ∷ 3 ∷ 3 ∷ []) 6 933012 ∷ [])
+    (priced (3 ∷ 2 ∷ 2 ∷ 3 ∷ 3 ∷ 3 ∷ 3 ∷ 3 ∷ 0 ∷ 2 ∷ 2 ∷ []) 6 761820 ∷ priced
+    (3 ∷ 3 ∷ 3 ∷ 1 ∷ 2 ∷ 3 ∷ 3 ∷ 3 ∷ 3 ∷ 3 ∷ 3 ∷ []) 6 933012 ∷ [])
     ∷ at warmFirst 1 6 78 24 (0 ∷ 1 ∷ 1 ∷ 1 ∷ 3 ∷ 1 ∷ 0 ∷ [])
     (priced (1 ∷ 1 ∷ 1 ∷ 1 ∷ 2 ∷ 1 ∷ 0 ∷ []) 27 81 ∷ priced (1 ∷ 1 ∷ 1 ∷ 1 ∷ 2 ∷ 3 ∷ 1 ∷ []) 27 111 ∷ [])
     ∷ at warmFirst 1 9 102 30 (0 ∷ 1 ∷ 1 ∷ 1 ∷ 2 ∷ 1 ∷ 0 ∷ [])
@@ -185,5 +186,8 @@ table =
     ∷ []
 
 pub table-holds : allHold table ≡ true
-unfolding allHold holds allPriced same firstBytes bytesOf table run entriesOf marked entryOf markOf saved interleaved warmFirst waiting alone allWarm mixed listed held scheduleMemory scheduleLoad misses volume load optmem opttotal sum tabulate touching later unreferenced kept refCost nextKept heldByte heldBytes dirty storesOf storesAtEnds markedLoad markedTotal sinceMark storeCost modAdded modtotal joined nextMarked modHeld modSchedule
+unfolding allHold holds allPriced same firstBytes bytesOf table run entriesOf marked entryOf markOf saved interleaved warmFirst waiting
+    alone allWarm mixed listed held scheduleMemory scheduleLoad misses volume load optmem opttotal sum tabulate touching later
+    unreferenced kept refCost nextKept heldByte heldBytes dirty storesOf storesAtEnds markedLoad markedTotal sinceMark storeCost
+    modAdded modtotal joined nextMarked modHeld modSchedule
 table-holds = refl

@@ -8,8 +8,8 @@ use Rattle.model.specs.Traces.{Trace, steps, touched}
 use Rattle.stores.specs.Stores.{dirty}
 use Rattle.stores.specs.inner.Flags.{modifiedFlag}
 
--- one step of one segment: m says whether it is touched, g whether a touch modifies, b and c whether it is held before the step and in it, f
--- is its flag
+-- one step of one segment: m says whether it is touched, g whether a touch modifies, b and c whether it is held before the step and in it,
+-- f is its flag
 one-step : (m g b c f : Bool) → (m ≡ false → c ≡ true → b ≡ true) → c && ((m && g) || (b && f)) ≡ c && cond m (g || (b && f)) f
 one-step true g b true f stay = refl
 one-step true g b false f stay = refl

@@ -1,5 +1,5 @@
--- No permitted schedule with the total modtotal has a smaller load, stores counted, than the one written: at the prices M × h + 1 and M × d,
--- M large, the same schedule is written, and there its total is the least. Assumes nothing.
+-- No permitted schedule with the total modtotal has a smaller load, stores counted, than the one written: at the prices M × h + 1 and M ×
+-- d, M large, the same schedule is written, and there its total is the least. Assumes nothing.
 use Prim.Native.Nat.{ℕ, zero, suc, _+_, _-_, _*_, _≤_, _<_}
 use mathlib.Core.Path.{_≡_, refl, sym, _∙_}
 use mathlib.Core.Bool.{Bool, true, false, cond}
@@ -141,7 +141,8 @@ module _ (T : Trace) (marks : ℕ → Bool) (h d M : ℕ) (big : (i : ℕ) → i
           ∙ nextDecided-eq T (kept T (M * h + 1) (M * d)) (kept T h d) (λ t lt l. kept-same t (entry T t) l) k (suc t) i (omega arith)
           ∙ next-kept T h d k (suc t) i
 
-      marked-same : nextMarked T marks (joined T marks (M * h + 1) (M * d)) k (suc t) i ≡ nextMarked T marks (joined T marks h d) k (suc t) i
+      marked-same : nextMarked T marks (joined T marks (M * h + 1) (M * d)) k (suc t) i
+          ≡ nextMarked T marks (joined T marks h d) k (suc t) i
       marked-same =
           nextMarked-eq T marks (joined T marks (M * h + 1) (M * d)) (joined T marks h d) (λ t lt l. joined-same t (entry T t) lt l)
           k (suc t) i (omega arith)

@@ -1,6 +1,6 @@
--- Modified segments (request F-13): what a schedule costs with stores counted, the least such total, and the schedule that has it. `marks t`
--- says that the touch in the step at place t modifies, the letter w; S t i that segment i is held in step t, counted from 1, and S 0 i that
--- it is warm. Assumes nothing.
+-- Modified segments (request F-13): what a schedule costs with stores counted, the least such total, and the schedule that has it. `marks
+-- t` says that the touch in the step at place t modifies, the letter w; S t i that segment i is held in step t, counted from 1, and S 0 i
+-- that it is warm. Assumes nothing.
 use Prim.Native.Nat.{ℕ, zero, suc, _+_, _-_, _*_, min}
 use mathlib.Core.Bool.{Bool, false, cond, not, _&&_, _||_}
 use mathlib.Core.List.{List}
@@ -16,8 +16,8 @@ use Rattle.model.specs.Decisions.{heldBytes}
 abbrev pub modifies : Trace → (ℕ → Bool) → ℕ → ℕ → Bool
 modifies T marks t i = touched T t i && marks t
 
--- segment i is held in step t, in a stay that has had a modifying touch, in this step or before. A stay is an unbroken run of steps that hold
--- the segment, from step 0 on for a warm one held in step 1; no segment is modified before step 1
+-- segment i is held in step t, in a stay that has had a modifying touch, in this step or before. A stay is an unbroken run of steps that
+-- hold the segment, from step 0 on for a warm one held in step 1; no segment is modified before step 1
 unfoldable pub dirty : Trace → (ℕ → Bool) → (ℕ → ℕ → Bool) → ℕ → ℕ → Bool
 dirty T marks S zero i = false
 dirty T marks S (suc t) i = S (suc t) i && (modifies T marks t i || dirty T marks S t i)

@@ -114,6 +114,7 @@ module _ (v : SheetValue) where
 
     -- accepted, the list is written
     pub windows-given : {place place' : List ℕ} {answer : PlaceAnswer}
-        → PlaceLeft (gives (windowList (windowRun (v .head .sizes) (v .refs)))) place place' answer → PlaceLeft (windowsFor v) place place' answer
+        → PlaceLeft (gives (windowList (windowRun (v .head .sizes) (v .refs)))) place place' answer
+        → PlaceLeft (windowsFor v) place place' answer
     unfolding windowsFor
     windows-given left = rw e (rw list-is at left)

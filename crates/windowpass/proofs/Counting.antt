@@ -20,7 +20,8 @@ use Rattle.model.proofs.Tables.{length-tabulate, getD-tabulate, tabulate-eq, ta
 use Rattle.model.proofs.Touches.{touching-at, touching-idle}
 use Rattle.model.proofs.Loads.{touching-within}
 use Rattle.model.proofs.LastTouches.{length-lastTable, lastTable-at, startTable-is, lastTable-step, lastTable-idle, unreferenced-within}
-use Rattle.windowpass.specs.inner.Counts.{lengths, ofLength, noCounts, Room, withInterval, withEnds, reuseCount, endCount, reuseCounts, intervalCounts}
+use Rattle.windowpass.specs.inner.Counts.{lengths, ofLength, noCounts, Room, withInterval, withEnds, reuseCount, endCount}
+use Rattle.windowpass.specs.inner.Counts.{reuseCounts, intervalCounts}
 
 -- where g counts one interval more than f, the mark in the table of last touches tells which
 counted : (T : Trace) (t i : ℕ) (f g : ℕ → ℕ) → i < 256 → t ≤ 2048 → ((u : ℕ) → g u ≡ f u + ofTime (ofLength u) (unreferenced T t i))

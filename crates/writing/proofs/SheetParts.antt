@@ -18,7 +18,8 @@ use Rattle.sheet.specs.Order.{warmPart, warmFor, formLines, headPart, entriesPa
 use Rattle.sheet.specs.Parts.{textOf}
 use Rattle.sheet.specs.Touches.{Entries, touchesOf, touchesText}
 use Rattle.sheet.specs.Writing.{sheetText}
-use Rattle.sheet.proofs.PartTexts.{sizes-text, prices-text, warm-text, plain-text, steps-text, head-text, entriesText, entriesIn, sheet-text}
+use Rattle.sheet.proofs.PartTexts.{sizes-text, prices-text, warm-text, plain-text, steps-text, head-text, entriesText, entriesIn}
+use Rattle.sheet.proofs.PartTexts.{sheet-text}
 
 -- the lines from kind= to the sizes
 pub segments-length : (kind : Kind) (a : ℕ) (sizes : List ℕ) → length (segmentsText kind a sizes)

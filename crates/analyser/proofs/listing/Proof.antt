@@ -18,14 +18,16 @@ unfolding listingResult
 returns c =
     let r = c .before .before .before .before .before in
     let a = c .before .before .before .before .before .before .before .before .args in
-    result-refused (readSheet (a .bytes .now)) (r .read .result) (r .read .ensures) (a .out .now) (λ v. gives (listingOf v)) (c .refused .ensures) (cc)
+    result-refused (readSheet (a .bytes .now)) (r .read .result) (r .read .ensures) (a .out .now) (λ v. gives (listingOf v))
+    (c .refused .ensures) (cc)
 
 returns-2 : tie.Need-returns-2
 unfolding listingResult
 returns-2 c =
     let r = c .before .before .before .before .before .before .before in
     let a = c .before .before .before .before .before .before .before .before .before .before .args in
-    result-accepted (readSheet (a .bytes .now)) (r .read .result) (r .read .ensures) (λ v. gives (listingOf v)) (c .before .before .sheet-listing .ensures) (cc)
+    result-accepted (readSheet (a .bytes .now)) (r .read .result) (r .read .ensures) (λ v. gives (listingOf v))
+    (c .before .before .sheet-listing .ensures) (cc)
 
 pub listing-spec : {M : Type 1} → statement M
 listing-spec =

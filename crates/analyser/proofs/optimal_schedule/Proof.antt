@@ -18,7 +18,8 @@ unfolding scheduleResult
 returns c =
     let r = c .before .before .before .before .before in
     let a = c .before .before .before .before .before .before .before .before .args in
-    result-refused (readForms 1 3 (a .bytes .now)) (r .read-forms .result) (r .read-forms .ensures) (a .out .now) (λ v. scheduleFor v (a .row))
+    result-refused (readForms 1 3 (a .bytes .now)) (r .read-forms .result) (r .read-forms .ensures) (a .out .now)
+    (λ v. scheduleFor v (a .row))
     (c .refused .ensures) (cc)
 
 returns-2 : tie.Need-returns-2

@@ -18,14 +18,16 @@ unfolding pageResult
 returns c =
     let r = c .before .before .before .before .before in
     let a = c .before .before .before .before .before .before .before .before .args in
-    result-refused (readSheet (a .bytes .now)) (r .read .result) (r .read .ensures) (a .out .now) (λ v. gives (pagesOf v)) (c .refused .ensures) (cc)
+    result-refused (readSheet (a .bytes .now)) (r .read .result) (r .read .ensures) (a .out .now) (λ v. gives (pagesOf v))
+    (c .refused .ensures) (cc)
 
 returns-2 : tie.Need-returns-2
 unfolding pageResult
 returns-2 c =
     let r = c .before .before .before .before .before .before .before in
     let a = c .before .before .before .before .before .before .before .before .before .before .args in
-    result-accepted (readSheet (a .bytes .now)) (r .read .result) (r .read .ensures) (λ v. gives (pagesOf v)) (c .before .before .sheet-page .ensures) (cc)
+    result-accepted (readSheet (a .bytes .now)) (r .read .result) (r .read .ensures) (λ v. gives (pagesOf v))
+    (c .before .before .sheet-page .ensures) (cc)
 
 pub page-spec : {M : Type 1} → statement M
 page-spec =

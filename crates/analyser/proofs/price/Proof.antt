@@ -18,14 +18,16 @@ unfolding pricing
 returns c =
     let r = c .before .before .before .before .before in
     let a = r .before .before .before .args in
-    c .refused .ensures ∙ sym (on-refused _ (r .read .result) (r .read .ensures) _ (cc) noPrice (λ v. priceFor v (a .row) (a .schedule .now)))
+    c .refused .ensures ∙ sym
+    (on-refused _ (r .read .result) (r .read .ensures) _ (cc) noPrice (λ v. priceFor v (a .row) (a .schedule .now)))
 
 returns-2 : tie.Need-returns-2
 unfolding pricing
 returns-2 c =
     let r = c .before .before .before .before in
     let a = r .before .before .before .args in
-    c .sheet-price .ensures ∙ sym (on-accepted _ (r .read .result) (r .read .ensures) (cc) noPrice (λ v. priceFor v (a .row) (a .schedule .now)))
+    c .sheet-price .ensures
+    ∙ sym (on-accepted _ (r .read .result) (r .read .ensures) (cc) noPrice (λ v. priceFor v (a .row) (a .schedule .now)))
 
 pub price-spec : {M : Type 1} → statement M
 price-spec =

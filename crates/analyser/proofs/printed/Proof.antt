@@ -17,7 +17,8 @@ unfolding printedText
 returns c =
     let r = c .before .before .before .before .before .before .before .before in
     let a = r .before .before .before .args in
-    text-refused (readSheet (a .bytes .now)) (r .read .result) (r .read .ensures) refusedText listingOf (c .before .before .write-refusal .ensures)
+    text-refused (readSheet (a .bytes .now)) (r .read .result) (r .read .ensures) refusedText listingOf
+    (c .before .before .write-refusal .ensures)
     (c .before .before .before .before .before .verdict .given .1)
 
 returns-2 : tie.Need-returns-2

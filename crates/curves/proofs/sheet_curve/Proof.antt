@@ -66,7 +66,8 @@ returns-3 c =
     let a = e .before .before .before in
     let s = Begin a in
     let n = segs-counted (s .args .s) (s .pre) in
-    curve-placed (valueOf (s .args .s)) _ (sym (ones-are a) ∙ cc) _ (omega (arith, e .if1 .left)) _ (sym n) _ (c .before .before .curve .ensures)
+    curve-placed (valueOf (s .args .s)) _ (sym (ones-are a) ∙ cc) _ (omega (arith, e .if1 .left)) _ (sym n) _
+    (c .before .before .curve .ensures)
 
 pub sheet-curve-spec : {M : Type 1} → statement M
 sheet-curve-spec =

@@ -1,5 +1,5 @@
--- `curves::sheet_curve_plain` meets its contract: the sizes, the warm segments and the room are tested, and the list of the sheet's value is
--- written. Assumes nothing.
+-- `curves::sheet_curve_plain` meets its contract: the sizes, the warm segments and the room are tested, and the list of the sheet's value
+-- is written. Assumes nothing.
 use mathlib.Core.Path.{_≡_, sym, _∙_}
 use native.Mathlib.Omega.{arith}
 use borrow.Author.Needs.{needs}
@@ -66,7 +66,8 @@ returns-3 c =
     let a = e .before .before .before in
     let s = Begin a in
     let n = segs-counted (s .args .s) (s .pre) in
-    plain-placed (valueOf (s .args .s)) _ (sym (ones-are a) ∙ cc) _ (omega (arith, e .if1 .left)) _ (sym n) (c .before .before .curve .ensures)
+    plain-placed (valueOf (s .args .s)) _ (sym (ones-are a) ∙ cc) _ (omega (arith, e .if1 .left)) _ (sym n)
+    (c .before .before .curve .ensures)
 
 pub sheet-curve-plain-spec : {M : Type 1} → statement M
 sheet-curve-plain-spec =

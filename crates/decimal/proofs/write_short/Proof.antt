@@ -24,7 +24,8 @@ returns c =
     let p = q .before .before .before .before in
     let i = p .before .before in
     let s = i .before .before in
-    short-four (s .args .at) (s .args .n) (s .args .out .now) (s .pre .1) (i .if1 .taken) (s .pre .0) (p .put-pair .ensures) (q .put-pair2 .ensures)
+    short-four (s .args .at) (s .args .n) (s .args .out .now) (s .pre .1) (i .if1 .taken) (s .pre .0) (p .put-pair .ensures)
+    (q .put-pair2 .ensures)
 
 put-pair-requires-3 : tie.Need-put-pair-requires-3
 put-pair-requires-3 c κs =

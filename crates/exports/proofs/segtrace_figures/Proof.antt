@@ -13,7 +13,8 @@ returns c =
 returns-2 : tie.Need-returns-2
 returns-2 c =
     let r = c .before .before .before .before in
-    refused-tells (λ a. a .verdict) (λ a. figureList (a .figures)) (r .figures .result) _ (r .figures .ensures) _ (c .before .before .verdict .given .1) (c .number .ensures)
+    refused-tells (λ a. a .verdict) (λ a. figureList (a .figures)) (r .figures .result) _ (r .figures .ensures) _
+    (c .before .before .verdict .given .1) (c .number .ensures)
 
 pub segtrace-figures-spec : {M : Type 1} → statement M
 segtrace-figures-spec =

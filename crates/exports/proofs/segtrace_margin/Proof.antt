@@ -9,12 +9,14 @@ use Rattle.exports.proofs.segtrace_margin.Tie as tie
 returns : tie.Need-returns
 returns c =
     let r = c .before .before .before in
-    accepted-tells (λ a. a .verdict) (λ a. a .margin) (r .margin .result) _ (r .margin .ensures) _ (cc) (toZ-ofZ w64 _ (record { sfits = r .margin .ok .1 .1 .1 .0 .1 }))
+    accepted-tells (λ a. a .verdict) (λ a. a .margin) (r .margin .result) _ (r .margin .ensures) _ (cc)
+    (toZ-ofZ w64 _ (record { sfits = r .margin .ok .1 .1 .1 .0 .1 }))
 
 returns-2 : tie.Need-returns-2
 returns-2 c =
     let r = c .before .before .before .before .before in
-    refused-tells (λ a. a .verdict) (λ a. a .margin) (r .margin .result) _ (r .margin .ensures) _ (c .before .before .verdict .given .1) (c .number .ensures)
+    refused-tells (λ a. a .verdict) (λ a. a .margin) (r .margin .result) _ (r .margin .ensures) _ (c .before .before .verdict .given .1)
+    (c .number .ensures)
 
 pub segtrace-margin-spec : {M : Type 1} → statement M
 segtrace-margin-spec =

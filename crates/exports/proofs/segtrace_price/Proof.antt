@@ -14,7 +14,8 @@ returns c =
 returns-2 : tie.Need-returns-2
 returns-2 c =
     let r = c .before .before .before .before in
-    refused-tells (λ a. a .verdict) priceList (r .price .result) _ (r .price .ensures) _ (c .before .before .verdict .given .1) (c .number .ensures)
+    refused-tells (λ a. a .verdict) priceList (r .price .result) _ (r .price .ensures) _ (c .before .before .verdict .given .1)
+    (c .number .ensures)
 
 pub segtrace-price-spec : {M : Type 1} → statement M
 segtrace-price-spec =

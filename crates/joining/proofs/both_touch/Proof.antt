@@ -23,15 +23,19 @@ returns c =
     let b = c .before in
     let y = b .before in
     let x = y .before in
-    both-stop _ _ _ _ (x .before .loop-test .taken) _ _ _ (x .entry-at .ensures) (y .entry-at2 .ensures) (b .both-at .ensures) (c .if1 .taken)
+    both-stop _ _ _ _ (x .before .loop-test .taken) _ _ _ (x .entry-at .ensures) (y .entry-at2 .ensures) (b .both-at .ensures)
+    (c .if1 .taken)
 
 loop-again : tie.Need-loop-again Inv-loop μ-loop
 loop-again c =
     let b = c .before in
     let y = b .before in
     let x = y .before in
-    let l = x .before in
-    (omega arith, both-step _ _ _ (l .before .loop .inv .1) _ _ _ (x .entry-at .ensures) (y .entry-at2 .ensures) (b .both-at .ensures) (c .if1 .left))
+    let l = x .before in (
+      omega arith,
+      both-step _ _ _ (l .before .loop .inv .1) _ _ _ (x .entry-at .ensures) (y .entry-at2 .ensures) (b .both-at .ensures)
+          (c .if1 .left),
+    )
 
 returns-2 : tie.Need-returns-2 Inv-loop μ-loop
 returns-2 c =

@@ -19,7 +19,8 @@ returns c =
     c .refused .ensures
     ∙ ap answerOf
     (sym
-    (told-differs (s .args .first) (s .args .second) (s .pre .0) (s .pre .1) _ (h .same-heads .ensures) (not-true _ (c .before .if1 .taken))))
+    (told-differs (s .args .first) (s .args .second) (s .pre .0) (s .pre .1) _ (h .same-heads .ensures)
+    (not-true _ (c .before .if1 .taken))))
 
 same-heads-requires : tie.Need-same-heads-requires
 same-heads-requires c κs = let s = c .before .before in (s .pre .0 .rows-within, s .pre .1 .rows-within)

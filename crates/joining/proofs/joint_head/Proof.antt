@@ -54,7 +54,8 @@ array-share-prefix-more-holds : tie.Need-array-share-prefix-more-holds
 array-share-prefix-more-holds c = more-warm-in (c .before .before .before .before .before .before .before .before)
 
 slice-aggregate-joint-numbers-4 : tie.Need-slice-aggregate-joint-numbers-4
-slice-aggregate-joint-numbers-4 c = sym (length-take-le _ _ (more-warm-in (c .before .before .before .before .before .before .before .before .before)))
+slice-aggregate-joint-numbers-4 c = sym
+    (length-take-le _ _ (more-warm-in (c .before .before .before .before .before .before .before .before .before)))
 
 returns : tie.Need-returns
 returns c =

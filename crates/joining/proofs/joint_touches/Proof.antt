@@ -54,7 +54,8 @@ loop-again c =
       filling-next (entries s) (idles mostSteps) _ t 0 _ (l .loop .inv .1)
           (omega (arith, count s, i .loop-test .taken))
           (omega (arith, count s, idles-length mostSteps, s .pre .1))
-          (entries-at (s .args .n) (now (s .args .xs)) (now (s .args .ys)) (s .args .steps) t (i .loop-test .taken) _ _ _ (x .entry-at .ensures)
+          (entries-at (s .args .n) (now (s .args .xs)) (now (s .args .ys)) (s .args .steps) t (i .loop-test .taken) _ _ _
+          (x .entry-at .ensures)
           (y .entry-at2 .ensures) (c .joint-entry .ensures)),
     )
 

@@ -55,8 +55,10 @@ loop-again c =
       l .loop .inv .0,
       omega (arith, i .loop-test .taken),
       l .loop .inv .2
-          ∙ rows-next (s .args .t1) (s .args .t3) (s .args .m) (s .args .n) (l .loop .r) (record { h = 0; d = 0 }) (omega (arith, s .good, s .pre))
-          (omega (arith, s .good, s .pre)) (i .loop-test .taken) (omega (arith, i .loop-test .taken, l .loop .inv .0)) _ (b .same-row .ensures)
+          ∙ rows-next (s .args .t1) (s .args .t3) (s .args .m) (s .args .n) (l .loop .r) (record { h = 0; d = 0 })
+          (omega (arith, s .good, s .pre))
+          (omega (arith, s .good, s .pre)) (i .loop-test .taken) (omega (arith, i .loop-test .taken, l .loop .inv .0)) _
+          (b .same-row .ensures)
           (not-false _ (c .if2 .left)),
     )
 

@@ -27,7 +27,8 @@ returns : tie.Need-returns Inv-loop μ-loop
 returns c =
     let i = c .before .before .before in
     let s = i .before .before in
-    let (p, h) = look-found _ (s .pre .0) _ _ _ (i .before .loop .inv) (i .loop-test .taken) _ refl (sym (c .before .is-found .ensures) ∙ c .if1 .taken) in
+    let (p, h) = look-found _ (s .pre .0) _ _ _ (i .before .loop .inv) (i .loop-test .taken) _ refl
+    (sym (c .before .is-found .ensures) ∙ c .if1 .taken) in
     (p, λ _. h)
 
 left-after-requires : tie.Need-left-after-requires Inv-loop μ-loop

@@ -21,7 +21,8 @@ returns-2 c =
     let s = c .before .before .before .before in
     let n = rows-counted (s .args .s) (s .pre) in
     c .no-margin2 .ensures
-    ∙ sym (margin-none (valueOf (s .args .s)) (s .args .row) (s .args .reference) (omega (arith, c .before .before .if1 .left)) (c .before .if2 .taken))
+    ∙ sym (margin-none (valueOf (s .args .s)) (s .args .row) (s .args .reference) (omega (arith, c .before .before .if1 .left))
+    (c .before .if2 .taken))
 
 returns-3 : tie.Need-returns-3
 returns-3 c =
@@ -31,7 +32,8 @@ returns-3 c =
     let n = rows-counted (s .args .s) (s .pre) in
     let m = steps-counted (s .args .s) (s .pre) in
     c .no-margin3 .ensures
-    ∙ sym (margin-beyond (valueOf (s .args .s)) (s .args .row) (s .args .reference) (omega (arith, z .before .if1 .left)) (omega (arith, z .if2 .left))
+    ∙ sym (margin-beyond (valueOf (s .args .s)) (s .args .row) (s .args .reference) (omega (arith, z .before .if1 .left))
+    (omega (arith, z .if2 .left))
     (p .reference-place .ensures .0 .none (omega (arith, c .before .if3 .taken))))
 
 returns-4 : tie.Need-returns-4
@@ -44,7 +46,8 @@ returns-4 c =
     let (there, is) = p .reference-place .ensures .0 .found (omega (arith, c .before .if3 .left)) in
     c .touch-margin .ensures
     ∙ (ap (touchMargin (valueOf (s .args .s)) (s .args .row)) is
-    ∙ sym (margin-at (valueOf (s .args .s)) (s .args .row) (s .args .reference) (omega (arith, z .before .if1 .left)) (omega (arith, z .if2 .left)) there))
+    ∙ sym (margin-at (valueOf (s .args .s)) (s .args .row) (s .args .reference) (omega (arith, z .before .if1 .left))
+    (omega (arith, z .if2 .left)) there))
 
 reference-place-requires : tie.Need-reference-place-requires
 reference-place-requires c κs = (c .before .before .before .pre, omega (arith, c .if2 .left))

@@ -17,7 +17,8 @@ returns c =
     let u = c .before .before in
     let s = u .before in
     c .no-margin .ensures
-    ∙ sym (first-touch (s .args .t1) (s .pre .0) (s .args .row) _ (s .pre .1) (s .pre .2) _ (u .unreferenced-time .ensures) (not-true _ (c .before .if1 .taken)))
+    ∙ sym (first-touch (s .args .t1) (s .pre .0) (s .args .row) _ (s .pre .1) (s .pre .2) _ (u .unreferenced-time .ensures)
+    (not-true _ (c .before .if1 .taken)))
 
 -- the touched segment is among the sizes
 touched-segment : (c : tie.Start) → getD (c .args .t1 .touches) (c .args .t) 0 < 256
@@ -70,7 +71,8 @@ returns-2 c =
     let s = u .before in
     ap (λ m. record { verdict = Accepted; margin = m }) (toZ-ofZ w64 _ (record { sfits = c .margin .ok }) ∙ c .margin .ensures)
     ∙ sym (reuse-touch (s .args .t1) (s .pre .0) (s .args .row) _ (s .pre .1) (s .pre .2) _ (u .unreferenced-time .ensures) _ _ _ _
-    (p .before .retention-cost .ensures) (q .before .swap-cost .ensures) (p .priced .ensures) (q .priced2 .ensures) (not-false _ (l .if1 .left)))
+    (p .before .retention-cost .ensures) (q .before .swap-cost .ensures) (p .priced .ensures) (q .priced2 .ensures)
+    (not-false _ (l .if1 .left)))
 
 pub touch-margin-spec : {M : Type 1} → statement M
 touch-margin-spec =

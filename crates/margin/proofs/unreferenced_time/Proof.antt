@@ -49,8 +49,11 @@ loop-less c = omega arith
 loop-again : tie.Need-loop-again Inv-loop μ-loop
 loop-again c =
     let l = c .before .before in
-    let s = l .before .before .before .before in
-    (omega arith, c .next-time .ensures ∙ time-again (s .args .t1) (s .pre .0) (s .args .t) (s .pre .1) _ (l .loop-test .taken) _ (l .before .loop .inv .1))
+    let s = l .before .before .before .before in (
+      omega arith,
+      c .next-time .ensures
+          ∙ time-again (s .args .t1) (s .pre .0) (s .args .t) (s .pre .1) _ (l .loop-test .taken) _ (l .before .loop .inv .1),
+    )
 
 returns : tie.Need-returns Inv-loop μ-loop
 returns c =

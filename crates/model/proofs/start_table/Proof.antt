@@ -45,5 +45,6 @@ pub start-table-spec : {M : Type 1} → statement M
 start-table-spec =
     tie.close
     (tie.spec Inv-loop μ-loop
-    (λ c κs. search needs) loop-holds (λ c. search needs) (λ c. search needs) cast-i (λ c. search needs) (λ c. search needs) (λ c. search needs) (λ c. search needs)
+    (λ c κs. search needs) loop-holds (λ c. search needs) (λ c. search needs) cast-i (λ c. search needs) (λ c. search needs)
+    (λ c. search needs) (λ c. search needs)
     loop-again returns)

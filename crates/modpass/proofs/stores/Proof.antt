@@ -31,7 +31,8 @@ Run s = runOf (s .args .kind) (s .args .a) (now (s .args .sizes)) (now (s .args 
 loop-holds : tie.Need-loop-holds Inv-loop μ-loop
 loop-holds c =
     let s = c .before .before .before .before .before .before in
-    adding-start (Run s) (marksOf (now (s .args .marks))) (s .args .row) (s .pre .0) (c .before .start-table .result) (c .none-since .result)
+    adding-start (Run s) (marksOf (now (s .args .marks))) (s .args .row) (s .pre .0) (c .before .start-table .result)
+    (c .none-since .result)
     (c .before .start-table .ensures ∙ startTable-is (Run s) (now (s .args .warm)) (λ i. refl)) (c .none-since .ensures)
 
 cast-i : tie.Need-cast-i Inv-loop μ-loop

@@ -8,7 +8,11 @@ use Rattle.page.proofs.put_row.Tie as tie
 
 put-end-requires : tie.Need-put-end-requires
 put-end-requires c κs =
-    omega (arith, c .before .before .before .before .before .before .before .before .before .before .before .before .before .before .before .before .before .before .before .before .before .before .before .before .before .before .pre .1)
+    omega (
+      arith,
+      c .before .before .before .before .before .before .before .before .before .before .before .before .before .before
+          .before .before .before .before .before .before .before .before .before .before .before .before .pre .1,
+    )
 
 returns : tie.Need-returns
 returns c =

@@ -37,7 +37,8 @@ loop-again : tie.Need-loop-again Inv-loop μ-loop
 loop-again c =
     let s = c .before .before .before .before .before in
     let l = c .before .before .before .loop in
-    counting-step (now (s .args .keys)) (s .args .n) (l .count) (l .q) (l .k) (c .differ .result) (l .inv) (c .before .before .loop-test .taken)
+    counting-step (now (s .args .keys)) (s .args .n) (l .count) (l .q) (l .k) (c .differ .result) (l .inv)
+    (c .before .before .loop-test .taken)
     (c .differ .ensures)
 
 returns : tie.Need-returns Inv-loop μ-loop

@@ -53,16 +53,20 @@ returns c =
     let s = Begin r in
     let held = r .reuses .ensures .0 in
     let few = held-few (runIn s) (s .pre) _ _ _ held in
-    points-short (runIn s) (s .pre) _ _ _ _ held (c .before .before .before .before .before .sorted-keys .ensures) _ _ (r .reuses .ensures .1 .0) (r .reuses .ensures .1 .1)
+    points-short (runIn s) (s .pre) _ _ _ _ held (c .before .before .before .before .before .sorted-keys .ensures) _ _
+    (r .reuses .ensures .1 .0) (r .reuses .ensures .1 .1)
     (now (s .args .out)) _ (c .before .count-points .ensures) (c .if1 .taken)
 
 write-points-requires : tie.Need-write-points-requires
 write-points-requires c κs =
-    let r = c .before .before .before .before .before .before .before .before .before .before .before .before .before .before .before .before .before .before in
+    let r = c .before .before .before .before .before .before .before .before .before .before .before .before .before .before .before
+    .before .before .before in
     let s = Begin r in
     let held = r .reuses .ensures .0 in
     let few = held-few (runIn s) (s .pre) _ _ _ held in (
-      all-summable (runIn s) (s .pre) _ _ _ _ held (c .before .before .before .before .before .before .before .before .before .sorted-keys .ensures) _ _ (r .reuses .ensures .1 .0) (r .reuses .ensures .1 .1)
+      all-summable (runIn s) (s .pre) _ _ _ _ held
+          (c .before .before .before .before .before .before .before .before .before .sorted-keys .ensures) _ _
+          (r .reuses .ensures .1 .0) (r .reuses .ensures .1 .1)
           (omega arith) (omega arith) (omega arith),
       omega (arith, c .before .before .before .before .before .count-points .ensures, c .before .before .before .before .if1 .left),
     )
@@ -72,12 +76,16 @@ mul-t31 c = omega (arith, few-points (c .before .before .before .before .before 
 
 returns-2 : tie.Need-returns-2
 returns-2 c =
-    let r = c .before .before .before .before .before .before .before .before .before .before .before .before .before .before .before .before .before .before .before .before .before in
+    let r = c .before .before .before .before .before .before .before .before .before .before .before .before .before .before .before
+    .before .before .before .before .before .before in
     let s = Begin r in
     let held = r .reuses .ensures .0 in
     let few = held-few (runIn s) (s .pre) _ _ _ held in
-    points-placed (runIn s) (s .pre) _ _ _ _ held (c .before .before .before .before .before .before .before .before .before .before .before .before .sorted-keys .ensures) _ _ (r .reuses .ensures .1 .0) (r .reuses .ensures .1 .1)
-    (now (s .args .out)) _ _ (c .before .before .before .before .before .before .before .before .count-points .ensures) (c .before .before .write-points .ensures) (c .before .before .before .before .before .before .before .if1 .left)
+    points-placed (runIn s) (s .pre) _ _ _ _ held
+    (c .before .before .before .before .before .before .before .before .before .before .before .before .sorted-keys .ensures) _ _
+    (r .reuses .ensures .1 .0) (r .reuses .ensures .1 .1)
+    (now (s .args .out)) _ _ (c .before .before .before .before .before .before .before .before .count-points .ensures)
+    (c .before .before .write-points .ensures) (c .before .before .before .before .before .before .before .if1 .left)
 
 pub points-spec : {M : Type 1} → statement M
 points-spec =

@@ -7,7 +7,8 @@ use native.Mathlib.Omega.{arith}
 use lib.ListN.{set, length-set}
 use denote.Ref.{now}
 use Rattle.pointsums.specs.inner.Walk.{reuseAt}
-use Rattle.pointsums.proofs.Writing.{Writing, writing-start, point-room, memory-fits, load-fits, writing-new, writing-same, writing-done}
+use Rattle.pointsums.proofs.Writing.{Writing, writing-start, point-room, memory-fits, load-fits, writing-new, writing-same}
+use Rattle.pointsums.proofs.Writing.{writing-done}
 use borrow.Author.Needs.{needs}
 use Rattle.pointsums.proofs.write_points.Statement.{statement}
 use Rattle.pointsums.proofs.write_points.Tie as tie
@@ -47,7 +48,12 @@ add-at c =
 
 cast-m : tie.Need-cast-m Inv-loop μ-loop
 cast-m c =
-    omega (arith, c .shared-slice-known7 .given (reuseAt (now (c .before .before .before .before .before .before .before .before .before .before .args .keys)) (c .before .before .before .before .loop .k)))
+    omega (
+      arith,
+      c .shared-slice-known7 .given
+          (reuseAt (now (c .before .before .before .before .before .before .before .before .before .before .args .keys))
+          (c .before .before .before .before .loop .k)),
+    )
 
 add-m : tie.Need-add-m Inv-loop μ-loop
 add-m c =
@@ -62,7 +68,12 @@ add-m c =
 
 cast-l : tie.Need-cast-l Inv-loop μ-loop
 cast-l c =
-    omega (arith, c .shared-slice-known8 .given (reuseAt (now (c .before .before .before .before .before .before .before .before .before .before .before .args .keys)) (c .before .before .before .before .before .loop .k)))
+    omega (
+      arith,
+      c .shared-slice-known8 .given
+          (reuseAt (now (c .before .before .before .before .before .before .before .before .before .before .before .args .keys))
+          (c .before .before .before .before .before .loop .k)),
+    )
 
 sub-l : tie.Need-sub-l Inv-loop μ-loop
 sub-l c =

@@ -15,9 +15,11 @@ use ghost.Atoms.{Atoms}
 use contract.Lifetimes.{Lfts}
 use contract.Monad.{fact}
 use contract.Running.{givenOf, tables, tablesOf}
-use types.Kit.{Given, ‵, raw, _⊛_, ⋆, some, later, _$_, _∵_, !, qed, by, move, drop, use1, split, pick, fjoin, suffices, frame, rewrite, await}
+use types.Kit.{Given, ‵, raw, _⊛_, ⋆, some, later, _$_, _∵_, !, qed, by, move, drop, use1, split, pick, fjoin, suffices, frame, rewrite}
+use types.Kit.{await}
 use types.Part.{whole, sub, look-in, agg}
-use types.Run.{look, init, forget, stop, fld, from, load, of-opd, and-then, no-more, assigns, land, returns, enter, alloc1, alloc0, params1, pass1, pass0, free1, free0}
+use types.Run.{look, init, forget, stop, fld, from, load, of-opd, and-then, no-more, assigns, land, returns, enter, alloc1, alloc0}
+use types.Run.{params1, pass1, pass0, free1, free0}
 use sound.WpLaws.{FmC, fmOf, WpFn-mono}
 use denote.Laws.{Is, shows}
 use denote.Plain.{uint-lawful, uint-makes}
@@ -112,7 +114,8 @@ module _ {M : Type 1} (𝓤 : URA M) (H : Heap 𝓤) (A : Atoms 𝓤) (W : Given
           calls-at ! fm G known to (and-then ! (load ! (from ! (stop !)) (look ! 6 refl))
           (and-then ! (load ! (from ! (stop !)) (look ! 4 refl)) (no-more !))) (λ u.
           use1 W (later (some (λ (n : ℕ). ((‵ (flft κ q) ⊛ ‵ ftrue) ⊛ ‵ (usize .own n (u ∷ [])))
-          ⊛ raw (ensured 𝓤 H A (Callee (λ κs. usize)) (callee-clauses (λ κs. usize) Placed 𝓤) (κ, tt) (d .src, (d .at, tt)) tt n)))) (id⊢ 𝓤 _) $
+          ⊛ raw (ensured 𝓤 H A (Callee (λ κs. usize)) (callee-clauses (λ κs. usize) Placed 𝓤) (κ, tt) (d .src, (d .at, tt)) tt n))))
+          (id⊢ 𝓤 _) $
           await ! tt $ pick ! (λ n. split ! $ move ! (1 ∷ []) $
           use1 W (raw (fact 𝓤 (n ≡ placeAfter (now (d .src)) (d .at)))) (apart.said 𝓤 H A W κ q d (λ κs. usize) Placed n) $
           heard ! (n ≡ placeAfter (now (d .src)) (d .at)) (λ e. split ! $ move ! (1 ∷ []) $
@@ -123,12 +126,14 @@ module _ {M : Type 1} (𝓤 : URA M) (H : Heap 𝓤) (A : Atoms 𝓤) (W : Given
           assigns ! (of-opd ! (load ! (from ! (fld ! refl (stop !))) (look-in ! 10 (sub ! 0 refl (whole !))))) (from ! (stop !))
           (init ! 2 refl (tt, wt .1 .0)) $
           assigns ! (agg ! (and-then ! (load ! (from ! (stop !)) (look ! 2 refl))
-          (and-then ! (load ! (from ! (stop !)) (look ! 8 refl)) (no-more !)))) (from ! (stop !)) (init ! 12 refl (tt, (wt .1 .0, (record { fits = is .1 }, tt)))) $
+          (and-then ! (load ! (from ! (stop !)) (look ! 8 refl)) (no-more !)))) (from ! (stop !))
+          (init ! 12 refl (tt, (wt .1 .0, (record { fits = is .1 }, tt)))) $
           -- [the token; what the struct owns; _5; …; _4; …; _3; …; _2; …; _1; …; _0; …]
           returns ! (look ! 12 refl) $ forget ! 2 refl $ forget ! 4 refl $ forget ! 6 refl $ forget ! 8 refl $ forget ! 10 refl $
           forget ! 12 refl $
           move ! (12 ∷ 13 ∷ []) $ free1 ! $ move ! (10 ∷ 11 ∷ []) $ free1 ! $ move ! (8 ∷ 9 ∷ []) $ free1 ! $
-          move ! (6 ∷ 7 ∷ []) $ free1 ! $ move ! (4 ∷ 5 ∷ []) $ free1 ! $ move ! (2 ∷ 3 ∷ []) $ free1 ! $ free0 ! $ by ! (exits n e (is .1))))))))))))
+          move ! (6 ∷ 7 ∷ []) $ free1 ! $ move ! (4 ∷ 5 ∷ []) $ free1 ! $ move ! (2 ∷ 3 ∷ []) $ free1 ! $ free0 ! $ by !
+          (exits n e (is .1))))))))))))
 
   next-walks : (C : Calls 𝓤 H) (Λ : Loops 𝓤 H) → FmC 𝓤 H (W .laws) C → Triple 𝓤 (C #reader·place-after) G
       → Walks 𝓤 H A (Apart B) (stayed B) (WpFn 𝓤 H C Λ code.function) (apart-clauses B Moved 𝓤)

@@ -26,9 +26,11 @@ use ghost.Atoms.{Atoms, sem}
 use contract.Lifetimes.{Lfts}
 use contract.Monad.{Fun, fact}
 use contract.Running.{givenOf, tables, tablesOf}
-use types.Kit.{Given, Item, ‵, raw, _⊛_, ⋆, some, later, anyQ, atRet, _$_, _∵_, !, qed, by, move, drop as let-go, keep, use0, use1, use2, split, join, pick, rewrite, fsplit, fjoin, suffices, frame, await, done}
+use types.Kit.{Given, Item, ‵, raw, _⊛_, ⋆, some, later, anyQ, atRet, _$_, _∵_, !, qed, by, move, drop as let-go, keep, use0, use1, use2}
+use types.Kit.{split, join, pick, rewrite, fsplit, fjoin, suffices, frame, await, done}
 use types.Part.{whole, sub, look-in}
-use types.Run.{look, store, store-raw, init, forget, stop, hop, fld, from, load, lit, of-opd, bin, and-then, no-more, assigns, assigns-last, stays, leaves-loop, land, returns, enter, alloc1, alloc0, params1, pass1, pass0, free1, free0, exec}
+use types.Run.{look, store, store-raw, init, forget, stop, hop, fld, from, load, lit, of-opd, bin, and-then, no-more, assigns}
+use types.Run.{assigns-last, stays, leaves-loop, land, returns, enter, alloc1, alloc0, params1, pass1, pass0, free1, free0, exec}
 use sound.Loop.{loop-rule}
 use sound.WpLaws.{FmC, fmOf, WpFn-mono}
 use denote.RattleType.{RattleType, owns}
@@ -41,7 +43,8 @@ use denote.Lend.{Held}
 use denote.Memory.{pointee}
 use denote.Ref.{RefT, now}
 use denote.Signature.{plain}
-use denote.Slice.{sliceVal, sliceTy, slice-vals, ShrSlice, MutSlice, Room, heres, codedHoleys, at-slice, shr-slice-tells, mut-slice-tells, shr-slice-copy, shr-slice-lawful}
+use denote.Slice.{sliceVal, sliceTy, slice-vals, ShrSlice, MutSlice, Room, heres, codedHoleys, at-slice, shr-slice-tells, mut-slice-tells}
+use denote.Slice.{shr-slice-copy, shr-slice-lawful}
 use denote.Steps.{only, owned, peeks, heard, nothing}
 use denote.Struct.Laws as LL
 use denote.Triple.Statement.{Contract, Triple}
@@ -204,7 +207,8 @@ module _ {M : Type 1} (𝓤 : URA M) (H : Heap 𝓤) (A : Atoms 𝓤) (W : Given
 
   goes-record : (i : ℕ) → Is S r (u ∷ []) → i < 64 → ent 𝓤 (emp 𝓤) (RecordAt 𝓤 H A mem run .pre (to-record i))
   goes-record i is lt =
-      qed W (‵ ftrue ∷ []) ∵ says ! lt $ nothing ! $ owned ! usize (Is usize) (uint-makes 𝓤 H A W w64) i _ (refl, omega (arith, lt)) $ fjoin ! $
+      qed W (‵ ftrue ∷ []) ∵ says ! lt $ nothing ! $ owned ! usize (Is usize) (uint-makes 𝓤 H A W w64) i _
+      (refl, omega (arith, lt)) $ fjoin ! $
       owned ! S (Is S) (LL.makes T.the-type T′.the-plain 𝓤 H A) r (u ∷ []) is $ fjoin ! $ move ! (1 ∷ 0 ∷ []) $ frame ! $ done !
 
   -- what is known of each result
@@ -259,7 +263,8 @@ module _ {M : Type 1} (𝓤 : URA M) (H : Heap 𝓤) (A : Atoms 𝓤) (W : Given
   to-all = (((κ, tt), (q, tt), tt, (s, (length ys, tt)), passed), tt)
 
   goes-all : ent 𝓤 (onEntry 𝓤 H A row-records.signature κs (q, (q′, tt)) (s, (x ys, tt)) vals)
-      (⋆ 𝓤 H A (‵ Own ∷ ‵ (flft κ′ q′) ∷ ‵ (fbor κ′ (Held R (length ys) b o γ)) ∷ ‵ (Obs ys) ∷ raw (AllRecords 𝓤 H A mem run .pre to-all) ∷ []))
+      (⋆ 𝓤 H A (‵ Own ∷ ‵ (flft κ′ q′) ∷ ‵ (fbor κ′ (Held R (length ys) b o γ)) ∷ ‵ (Obs ys) ∷ raw
+      (AllRecords 𝓤 H A mem run .pre to-all) ∷ []))
   goes-all =
       qed W ((‵ (flft κ q) ⊛ ‵ (flft κ′ q′) ⊛ ‵ ftrue)
       ∷ ‵ (owns (ShrSlice (named 0) κ u8 ∷ MutSlice (named 1) κ′ R ∷ []) (s, (x ys, tt)) vals) ∷ []) ∵
@@ -392,7 +397,8 @@ module _ {M : Type 1} (𝓤 : URA M) (H : Heap 𝓤) (A : Atoms 𝓤) (W : Given
             stays ! (load ! (from ! (stop !)) (look ! 2 refl)) $
             use0 W (raw (RecordAt 𝓤 H A mem run .pre (to-record 𝓤 H A W mem run r u i))) (goes-record 𝓤 H A W mem run r u i is-r in-array) $
             calls-at ! fm (RecordAt 𝓤 H A mem run) known-record (to-record 𝓤 H A W mem run r u i)
-            (and-then ! (load ! (from ! (stop !)) (look ! 14 refl)) (and-then ! (load ! (from ! (stop !)) (look ! 2 refl)) (no-more !))) (λ t.
+            (and-then ! (load ! (from ! (stop !)) (look ! 14 refl)) (and-then ! (load ! (from ! (stop !)) (look ! 2 refl)) (no-more !)))
+            (λ t.
             use1 W (later (some (λ (f : RowFigures). (‵ ftrue ⊛ ‵ (R .own f (t ∷ [])))
             ⊛ raw (ensured 𝓤 H A record-at.ended (record-at.clauses 𝓤 H A mem run) tt (r, (i, tt)) tt f)))) (id⊢ 𝓤 _) $
             await ! tt $ pick ! (λ f. split ! $ move ! (1 ∷ []) $
@@ -405,7 +411,8 @@ module _ {M : Type 1} (𝓤 : URA M) (H : Heap 𝓤) (A : Atoms 𝓤) (W : Given
             (load ! (from ! (stop !)) (look ! 4 refl)) tt)
             (from ! (stop !)) (init ! 5 refl (tt, tt)) $
             rewrite ! 5 (λ (p : ℕ). ‵ (fat fullShare tyPtr l₁₀ 0 (vptr b p))) (sym (place-is 88 o i)) refl $
-            elem-out ! R (Is R) (shows 𝓤 H A R) (LL.vals F.the-type F′.the-laws) (LL.tells F.the-type F′.the-laws) fullShare (at i) i zeroFigures b o
+            elem-out ! R (Is R) (shows 𝓤 H A R) (LL.vals F.the-type F′.the-laws) (LL.tells F.the-type F′.the-laws) fullShare
+            (at i) i zeroFigures b o
             in-list (λ _.
             -- [the entry; what it owns; the others; i; the test; the record; the offset; the place; …]
             assigns ! (of-opd ! (load ! (from ! (stop !)) (look ! 5 refl))) (from ! (hop ! (look ! 7 refl) (stop !)))
@@ -452,12 +459,14 @@ module _ {M : Type 1} (𝓤 : URA M) (H : Heap 𝓤) (A : Atoms 𝓤) (W : Given
             split ! $ let-go ! $ peeks ! Ans (Is Ans) (shows 𝓤 H A Ans) a (t ∷ []) (λ is-a.
             land ! (from ! (stop !)) (init ! 17 refl (typed-A a t is-a)) $
             move ! (1 ∷ 7 ∷ 8 ∷ 9 ∷ []) $ closes-slice ! tt R ys (at m) (at-length m (le-refl m)) b o $
-            -- [what is observed; the borrow; the list's token; the answer; _5; _7; _8; _9; _10; the bytes' token; what they own; _1; _2; _3;
-            -- _4; _6; _0; and that each local dies]
+            -- [what is observed; the borrow; the list's token; the answer; _5; _7; _8; _9; _10; the bytes' token; what they own; _1; _2;
+            -- _3; _4; _6; _0; and that each local dies]
             returns ! (look ! 16 refl) $ forget ! 4 refl $ forget ! 5 refl $ forget ! 11 refl $ forget ! 12 refl $ forget ! 13 refl $
             forget ! 14 refl $ forget ! 15 refl $ forget ! 16 refl $
-            move ! (16 ∷ 17 ∷ []) $ free1 ! $ move ! (11 ∷ 16 ∷ []) $ free1 ! $ move ! (11 ∷ 15 ∷ []) $ free1 ! $ move ! (11 ∷ 14 ∷ []) $ free1 ! $
-            move ! (11 ∷ 13 ∷ []) $ free1 ! $ move ! (4 ∷ 12 ∷ []) $ free1 ! $ move ! (10 ∷ 11 ∷ []) $ free1 ! $ move ! (4 ∷ 10 ∷ []) $ free1 ! $
+            move ! (16 ∷ 17 ∷ []) $ free1 ! $ move ! (11 ∷ 16 ∷ []) $ free1 ! $ move ! (11 ∷ 15 ∷ []) $ free1 ! $ move !
+            (11 ∷ 14 ∷ []) $ free1 ! $
+            move ! (11 ∷ 13 ∷ []) $ free1 ! $ move ! (4 ∷ 12 ∷ []) $ free1 ! $ move ! (10 ∷ 11 ∷ []) $ free1 ! $ move !
+            (4 ∷ 10 ∷ []) $ free1 ! $
             move ! (4 ∷ 9 ∷ []) $ free1 ! $ move ! (4 ∷ 8 ∷ []) $ free1 ! $ move ! (4 ∷ 7 ∷ []) $ free1 ! $ free0 ! $
             by ! (exits a t (at m) (at-length m (le-refl m)) (e ∙ end-r .0, end-r .1))))))
 
@@ -504,7 +513,8 @@ module _ {M : Type 1} (𝓤 : URA M) (H : Heap 𝓤) (A : Atoms 𝓤) (W : Given
             assigns ! (of-opd ! (lit ! tt)) (from ! (stop !)) (init ! 4 refl (tt, record { fits = lit< tt })) $
             opens-slice ! tt R ys b o $
             rewrite ! 0 (λ (l : List RowFigures). ‵ (row R fullShare l b o)) (front-none (recordOf r) ys) refl $
-            -- [the list; the open borrow; what is observed; its name; _4; _5; _7; _8; _9; _10; the bytes' token; what they own; _1; _2; _3; …]
+            -- [the list; the open borrow; what is observed; its name; _4; _5; _7; _8; _9; _10; the bytes' token; what they own; _1; _2;
+            -- _3; …]
             move ! (0 ∷ 5 ∷ 6 ∷ 7 ∷ 8 ∷ 9 ∷ 1 ∷ 2 ∷ 3 ∷ 10 ∷ 11 ∷ 12 ∷ 13 ∷ 14 ∷ 4 ∷ []) $ by ! loops))))
 
       abbrev Begun : List (Item 𝓤)
@@ -530,7 +540,8 @@ module _ {M : Type 1} (𝓤 : URA M) (H : Heap 𝓤) (A : Atoms 𝓤) (W : Given
           split ! $ move ! (1 ∷ []) $ peeks ! S (Is S) (shows 𝓤 H A S) r (u ∷ []) (λ is-r. let-go ! $
           -- [the bytes' token; what is observed; the borrow; the list's token; what the bytes own; _3; …]
           land ! (from ! (stop !)) (init ! 5 refl (typed-S r u is-r)) $
-          move ! (1 ∷ 2 ∷ 3 ∷ 6 ∷ 7 ∷ 9 ∷ 10 ∷ 11 ∷ 12 ∷ 0 ∷ 4 ∷ 13 ∷ 14 ∷ 5 ∷ 8 ∷ []) $ by ! (counts r u is-r (counted-as r e) (ends-as r e))))))
+          move ! (1 ∷ 2 ∷ 3 ∷ 6 ∷ 7 ∷ 9 ∷ 10 ∷ 11 ∷ 12 ∷ 0 ∷ 4 ∷ 13 ∷ 14 ∷ 5 ∷ 8 ∷ []) $ by !
+          (counts r u is-r (counted-as r e) (ends-as r e))))))
 
     walk : Is (ShrSlice (named 0) κ u8) s (v ∷ [])
         → ent 𝓤 (onEntry 𝓤 H A row-records.signature κs (q, (q′, tt)) (s, (x ys, tt)) vals) (WpFn 𝓤 H C Λ code.function (v ∷ w ∷ []) Post)

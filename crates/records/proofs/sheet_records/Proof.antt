@@ -22,7 +22,12 @@ unfolding recordsFor sheetAnswer
 returns-2 c =
     let s = c .before .before .before in
     let n = rows-counted (s .args .s) (s .pre) in
-    rw (le-leb (length (valueOf (s .args .s) .head .rows)) (s .args .room) (omega (arith, c .before .if1 .left)), n, c .all-figures .ensures)
+    rw (
+      le-leb (length (valueOf (s .args .s) .head .rows)) (s .args .room)
+          (omega (arith, c .before .if1 .left)),
+      n,
+      c .all-figures .ensures,
+    )
 
 pub sheet-records-spec : {M : Type 1} → statement M
 sheet-records-spec =

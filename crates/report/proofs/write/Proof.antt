@@ -14,7 +14,8 @@ use Rattle.report.proofs.write.Tie as tie
 returns : tie.Need-returns
 returns c =
     let a = c .before .before .before .before .args in
-    rw (c .refused .ensures) (text-short _ _ (ltb-true (length (a .out .now)) _ (sym (c .before .before .too-short .ensures) ∙ c .before .if1 .taken)))
+    rw (c .refused .ensures)
+    (text-short _ _ (ltb-true (length (a .out .now)) _ (sym (c .before .before .too-short .ensures) ∙ c .before .if1 .taken)))
 
 put-head-requires : tie.Need-put-head-requires
 put-head-requires c κs =

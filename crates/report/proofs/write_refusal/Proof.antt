@@ -35,7 +35,8 @@ returns-2 c =
     let p = c .before .before .before .before .before .before in
     let l = p .before .before .before .before in
     let e = l .before .before .number .ensures in
-    text-put _ _ _ _ _ (rw e at (l .number-length .ensures .0)) (rw e at (put-then (p .put .ensures) (c .before .before .put-digits .ensures)))
+    text-put _ _ _ _ _ (rw e at (l .number-length .ensures .0))
+    (rw e at (put-then (p .put .ensures) (c .before .before .put-digits .ensures)))
 
 pub write-refusal-spec : {M : Type 1} → statement M
 write-refusal-spec =

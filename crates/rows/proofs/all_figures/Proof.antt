@@ -14,7 +14,8 @@ slice-aggregate-figures c = sym (length-take-le _ _ (omega (arith, c .before .be
 
 figures-requires : tie.Need-figures-requires
 unfolding valueOf
-figures-requires c κs = let p = c .before .before .before .pre in ((p .segs-within, p .rows-within, p .warm-within), (p .valid .rows, p .valid .run))
+figures-requires c κs = let p = c .before .before .before
+    .pre in ((p .segs-within, p .rows-within, p .warm-within), (p .valid .rows, p .valid .run))
 
 returns : tie.Need-returns
 unfolding valueOf

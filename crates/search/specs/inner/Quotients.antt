@@ -1,5 +1,5 @@
--- What the functions of the search give: the first row that keeps a reuse; the thresholds as whole quotients, among which that row is looked
--- for; and the rates of the segments, of which the quotient of a reuse is a multiple. Assumes nothing.
+-- What the functions of the search give: the first row that keeps a reuse; the thresholds as whole quotients, among which that row is
+-- looked for; and the rates of the segments, of which the quotient of a reuse is a multiple. Assumes nothing.
 use Prim.Native.Nat.{ℕ, _+_, _-_, _*_, _/_, _^_, _≤_, _<_}
 use mathlib.Core.Path.{_≡_}
 use mathlib.Core.Bool.{Bool, cond}

@@ -47,7 +47,8 @@ add-load c =
     let l = turn .before .loop in
     let i = getD (now (a .refs)) (l .t) 0 in
     let next = storing-touch (a .a) (now (a .sizes)) (now (a .refs)) (marksOf (now (a .marks))) (now (a .schedule))
-    (s .pre .0 .0) (s .pre .0 .1) (l .flags) (l .load) (l .t) (l .inv) (turn .loop-test .taken) i (c .stored .result) (found .modified .result)
+    (s .pre .0 .0) (s .pre .0 .1) (l .flags) (l .load) (l .t) (l .inv) (turn .loop-test .taken) i (c .stored .result)
+    (found .modified .result)
     (marksOf (now (a .marks)) (l .t) || found .modified .result) refl (found .before .if1 .taken) (omega (arith, s .fits))
     (omega (arith, c .before .before .shared-slice-known6 .given i)) (found .modified .ensures) (c .stored .ensures) refl
     in

@@ -11,7 +11,8 @@ use Rattle.model.specs.Traces.{entry}
 use Rattle.model.proofs.Lists.{getD-any}
 use Rattle.windows.specs.Windows.{windowRun}
 use Rattle.windowpass.specs.inner.Counts.{Room}
-use Rattle.windowpass.proofs.Counting.{Passing, passing-start, passing-touch, passing-idle, passing-length, passing-done, reuse-room, few-touches}
+use Rattle.windowpass.proofs.Counting.{Passing, passing-start, passing-touch, passing-idle, passing-length, passing-done}
+use Rattle.windowpass.proofs.Counting.{reuse-room, few-touches}
 use Rattle.windowpass.proofs.count_reuses.Statement.{statement}
 use Rattle.windowpass.proofs.count_reuses.Tie as tie
 
@@ -57,7 +58,11 @@ add-touches c =
 
 array-write-last : tie.Need-array-write-last Inv-loop μ-loop
 array-write-last c =
-    omega (arith, c .before .before .before .before .before .before .before .before .before .before .before .before .before .pre .0 .segs-within)
+    omega (
+      arith,
+      c .before .before .before .before .before .before .before .before .before .before .before .before .before .pre .0
+          .segs-within,
+    )
 
 loop-again : tie.Need-loop-again Inv-loop μ-loop
 loop-again c =

@@ -60,17 +60,20 @@ array-share-prefix-touches c =
 
 slice-aggregate-put-run : tie.Need-slice-aggregate-put-run
 slice-aggregate-put-run c =
-    let e = lengths (c .before .before .before .before .before .before .before .before .before .before .before .before .before .before .before) in
+    let e = lengths (c .before .before .before .before .before .before .before .before .before .before .before .before .before .before
+    .before) in
     sym (length-take-le _ _ (omega arith))
 
 array-share-prefix-marks : tie.Need-array-share-prefix-marks
 array-share-prefix-marks c =
-    let e = lengths (c .before .before .before .before .before .before .before .before .before .before .before .before .before .before .before) in
+    let e = lengths (c .before .before .before .before .before .before .before .before .before .before .before .before .before .before
+    .before) in
     omega arith
 
 slice-aggregate-put-run-2 : tie.Need-slice-aggregate-put-run-2
 slice-aggregate-put-run-2 c =
-    let e = lengths (c .before .before .before .before .before .before .before .before .before .before .before .before .before .before .before .before) in
+    let e = lengths (c .before .before .before .before .before .before .before .before .before .before .before .before .before .before
+    .before .before) in
     sym (length-take-le _ _ (omega arith))
 
 put-run-requires : tie.Need-put-run-requires

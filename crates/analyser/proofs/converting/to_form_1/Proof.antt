@@ -18,14 +18,16 @@ unfolding toForm1Result
 returns c =
     let r = c .before .before .before .before .before in
     let a = c .before .before .before .before .before .before .before .before .args in
-    result-refused (readForms 2 2 (a .bytes .now)) (r .read-forms .result) (r .read-forms .ensures) (a .out .now) toForm1 (c .refused .ensures) (cc)
+    result-refused (readForms 2 2 (a .bytes .now)) (r .read-forms .result) (r .read-forms .ensures) (a .out .now) toForm1
+    (c .refused .ensures) (cc)
 
 returns-2 : tie.Need-returns-2
 unfolding toForm1Result
 returns-2 c =
     let r = c .before .before .before .before .before .before .before in
     let a = c .before .before .before .before .before .before .before .before .before .before .args in
-    result-accepted (readForms 2 2 (a .bytes .now)) (r .read-forms .result) (r .read-forms .ensures) toForm1 (c .before .before .to-form-1 .ensures) (cc)
+    result-accepted (readForms 2 2 (a .bytes .now)) (r .read-forms .result) (r .read-forms .ensures) toForm1
+    (c .before .before .to-form-1 .ensures) (cc)
 
 pub to-form-1-spec : {M : Type 1} → statement M
 to-form-1-spec =

@@ -12,14 +12,16 @@ unfolding toForm2Result
 returns c =
     let r = c .before .before .before .before .before in
     let a = c .before .before .before .before .before .before .before .before .args in
-    result-refused (readForms 1 1 (a .bytes .now)) (r .read-forms .result) (r .read-forms .ensures) (a .out .now) toForm2 (c .refused .ensures) (cc)
+    result-refused (readForms 1 1 (a .bytes .now)) (r .read-forms .result) (r .read-forms .ensures) (a .out .now) toForm2
+    (c .refused .ensures) (cc)
 
 returns-2 : tie.Need-returns-2
 unfolding toForm2Result
 returns-2 c =
     let r = c .before .before .before .before .before .before .before in
     let a = c .before .before .before .before .before .before .before .before .before .before .args in
-    result-accepted (readForms 1 1 (a .bytes .now)) (r .read-forms .result) (r .read-forms .ensures) toForm2 (c .before .before .to-form-2 .ensures) (cc)
+    result-accepted (readForms 1 1 (a .bytes .now)) (r .read-forms .result) (r .read-forms .ensures) toForm2
+    (c .before .before .to-form-2 .ensures) (cc)
 
 pub to-form-2-spec : {M : Type 1} → statement M
 to-form-2-spec =

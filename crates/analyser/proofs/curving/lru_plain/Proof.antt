@@ -24,7 +24,8 @@ unfolding lruPlainResult
 returns-2 c =
     let r = c .before .before .before .before .before .before .before in
     let a = c .before .before .before .before .before .before .before .before .before .before .args in
-    result-accepted (readSheet (a .bytes .now)) (r .read .result) (r .read .ensures) plainFor (c .before .before .sheet-curve-plain .ensures) (cc)
+    result-accepted (readSheet (a .bytes .now)) (r .read .result) (r .read .ensures) plainFor
+    (c .before .before .sheet-curve-plain .ensures) (cc)
 
 pub lru-plain-spec : {M : Type 1} → statement M
 lru-plain-spec =

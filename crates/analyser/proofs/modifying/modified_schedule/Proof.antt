@@ -20,7 +20,8 @@ unfolding modifiedResult
 returns c =
     let r = c .before .before .before .before .before in
     let a = c .before .before .before .before .before .before .before .before .args in
-    result-refused (readForms 4 4 (a .bytes .now)) (r .read-forms .result) (r .read-forms .ensures) (a .out .now) (λ v. modifiedFor v (a .row))
+    result-refused (readForms 4 4 (a .bytes .now)) (r .read-forms .result) (r .read-forms .ensures) (a .out .now)
+    (λ v. modifiedFor v (a .row))
     (c .refused .ensures) (cc)
 
 returns-2 : tie.Need-returns-2

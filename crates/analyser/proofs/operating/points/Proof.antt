@@ -24,7 +24,8 @@ unfolding pointsResult
 returns-2 c =
     let r = c .before .before .before .before .before .before .before in
     let a = c .before .before .before .before .before .before .before .before .before .before .args in
-    result-accepted (readSheet (a .bytes .now)) (r .read .result) (r .read .ensures) pointsFor (c .before .before .sheet-points .ensures) (cc)
+    result-accepted (readSheet (a .bytes .now)) (r .read .result) (r .read .ensures) pointsFor (c .before .before .sheet-points .ensures)
+    (cc)
 
 pub points-spec : {M : Type 1} → statement M
 points-spec =

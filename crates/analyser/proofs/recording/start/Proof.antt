@@ -20,7 +20,8 @@ unfolding startAnswer
 returns c =
     let r = c .before .before .before .before .before in
     c .no-recorder .ensures
-    ∙ sym (on-refused _ (r .read-forms .result) (r .read-forms .ensures) _ (cc) noRecorder (λ v. record { verdict = Accepted; recorder = recorderOf (started v) }))
+    ∙ sym (on-refused _ (r .read-forms .result) (r .read-forms .ensures) _ (cc) noRecorder
+    (λ v. record { verdict = Accepted; recorder = recorderOf (started v) }))
 
 returns-2 : tie.Need-returns-2
 unfolding startAnswer with-recorder
@@ -36,4 +37,5 @@ returns-2 c =
 pub start-spec : {M : Type 1} → statement M
 start-spec =
     tie.close
-    (tie.spec (λ c κs. search needs) (λ c. search needs) (λ c κs. search needs) (λ c. search needs) (λ c κs. search needs) returns returns-2)
+    (tie.spec (λ c κs. search needs) (λ c. search needs) (λ c κs. search needs) (λ c. search needs)
+    (λ c κs. search needs) returns returns-2)

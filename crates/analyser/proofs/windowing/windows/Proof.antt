@@ -24,7 +24,8 @@ unfolding windowsResult
 returns-2 c =
     let r = c .before .before .before .before .before .before .before in
     let a = c .before .before .before .before .before .before .before .before .before .before .args in
-    result-accepted (readSheet (a .bytes .now)) (r .read .result) (r .read .ensures) windowsFor (c .before .before .sheet-windows .ensures) (cc)
+    result-accepted (readSheet (a .bytes .now)) (r .read .result) (r .read .ensures) windowsFor
+    (c .before .before .sheet-windows .ensures) (cc)
 
 pub windows-spec : {M : Type 1} → statement M
 windows-spec =

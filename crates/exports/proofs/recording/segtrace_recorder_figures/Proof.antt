@@ -10,13 +10,15 @@ enum-told c = search needs
 returns : tie.Need-returns
 returns c =
     let f = c .before .before .before in
-    figures-accepted _ _ _ _ _ _ _ _ _ _ _ (f .figures .result) (f .before .recorder-of .ensures) (f .figures .ensures) _ (c .before .enum-told .given .1)
+    figures-accepted _ _ _ _ _ _ _ _ _ _ _ (f .figures .result) (f .before .recorder-of .ensures) (f .figures .ensures) _
+    (c .before .enum-told .given .1)
     (c .of-row .ensures)
 
 returns-2 : tie.Need-returns-2
 returns-2 c =
     let f = c .before .before .before .before in
-    figures-refused _ _ _ _ _ _ _ _ _ _ _ (f .figures .result) (f .before .recorder-of .ensures) (f .figures .ensures) _ _ (c .before .before .verdict .given .1)
+    figures-refused _ _ _ _ _ _ _ _ _ _ _ (f .figures .result) (f .before .recorder-of .ensures) (f .figures .ensures) _ _
+    (c .before .before .verdict .given .1)
     (c .number .ensures)
 
 pub segtrace-recorder-figures-spec : {M : Type 1} → statement M

@@ -10,7 +10,9 @@ enum-told c = search needs
 returns : tie.Need-returns
 returns c =
     let r = c .before .before .before .before .before .before .before .before .before .before .before .before .before .start in
-    start-accepted _ _ (r .result) (r .ensures) _ _ _ _ _ _ _ _ (c .before .before .before .before .before .before .before .before .before .before .enum-told .given .1) (c .before .before .before .before .store-head .ensures)
+    start-accepted _ _ (r .result) (r .ensures) _ _ _ _ _ _ _ _
+    (c .before .before .before .before .before .before .before .before .before .before .enum-told .given .1)
+    (c .before .before .before .before .store-head .ensures)
     (c .store-taken .ensures)
 
 returns-2 : tie.Need-returns-2

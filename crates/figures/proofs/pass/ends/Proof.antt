@@ -21,7 +21,8 @@ use Rattle.figures.proofs.pass.ends.Tie as tie
 abbrev Inv-loop : tie.InvT-loop
 Inv-loop kind a rows qs rates sizes last steps buckets₀ i₀ buckets i =
     (i ≤ length sizes) × Roomy buckets (i * 2 ^ 48)
-    × ((list : List PriceRow) → RowsOf a rows qs list → (warm refs : List ℕ) → length refs ≡ steps → RunWithin (runOf kind a sizes warm refs)
+    × ((list : List PriceRow) → RowsOf a rows qs list → (warm refs : List ℕ) → length refs ≡ steps
+    → RunWithin (runOf kind a sizes warm refs)
     → last ≡ lastTable (runOf kind a sizes warm refs) steps → buckets ≡ endsUpTo list (runOf kind a sizes warm refs) i)
 
 abbrev μ-loop : tie.MeasureT-loop

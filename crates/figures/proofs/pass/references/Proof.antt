@@ -168,7 +168,8 @@ loop-again-2 c =
       omega (arith, l .loop-test .taken),
       roomy-more _ (2 ^ 60 + t * 2 ^ 48) (2 ^ 60 + (t + 1) * 2 ^ 48) (omega arith) (l .before .loop .inv .1),
       λ list of warm before at run is.
-          rw same (pass-idle list _ _ _ _ (l .before .loop .inv .2 list of warm before at run is) (rw (here l warm before at) (c .if1 .left))),
+          rw same (pass-idle list _ _ _ _ (l .before .loop .inv .2 list of warm before at run is)
+          (rw (here l warm before at) (c .if1 .left))),
     )
 
 returns : tie.Need-returns Inv-loop μ-loop

@@ -56,7 +56,8 @@ returns-2 c =
     let s = h .before .before .args .s .now in
     let nh = c .no-head in
     let e = sym (h .cold-head .ensures .0) ∙ ap (λ l. parsedLines s l (headValueOf (h .cold-head .result .head))) (w .lines .given .1) in (
-      tables-refused _ _ _ _ (not-false _ (o .if1 .left)) _ _ (ap (λ l. parsedLines s l (headValueOf (nh .result .head))) (nh .ensures .0)) e,
+      tables-refused _ _ _ _ (not-false _ (o .if1 .left)) _ _
+          (ap (λ l. parsedLines s l (headValueOf (nh .result .head))) (nh .ensures .0)) e,
       (omega (arith, ap linesNext (nh .ensures .0)), nh .ensures .1),
     )
 
@@ -71,7 +72,8 @@ returns-3 c =
     let head = h .cold-head .result .head in
     let l = n .warm-head .result .lines in
     let e = sym (h .cold-head .ensures .0) ∙ ap (λ l. parsedLines s l (headValueOf head)) (w .lines2 .given .1) in (
-      tables-warm _ _ _ s (not-false _ (o .if1 .left)) (headValueOf head) _ _ at l (c .after .result) e (sizes-counted head (h .cold-head .ensures .1 .1))
+      tables-warm _ _ _ s (not-false _ (o .if1 .left)) (headValueOf head) _ _ at l (c .after .result) e
+          (sizes-counted head (h .cold-head .ensures .1 .1))
           (n .warm-head .ensures .0) (c .after .ensures),
       (
         omega (arith, ap linesNext (c .after .ensures), moved-within s at l (place w) (n .warm-head .ensures .1 .0)),

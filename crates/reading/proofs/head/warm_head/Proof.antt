@@ -40,7 +40,8 @@ returns c =
     let h = blank-length (n .before .before) in
     let l = n .warm-lines .result .lines in
     let k = n .warm-lines .result .count in (
-      warm-read (i .args .head) k _ s l _ (ap (λ ys. parsedLines s l (take k ys)) (lent-back 256 xs (b .result) h) ∙ n .warm-lines .ensures .0),
+      warm-read (i .args .head) k _ s l _
+          (ap (λ ys. parsedLines s l (take k ys)) (lent-back 256 xs (b .result) h) ∙ n .warm-lines .ensures .0),
       (
         n .warm-lines .ensures .1 .0,
         record {

@@ -13,7 +13,8 @@ use Rattle.scan.proofs.numbers.number_lines.Tie as tie
 -- what follows the lines lies within the bytes
 within : (c : tie.After-next) → c .before .before .before .before .before .before .before .before .before .short-lines .result .at
     + c .next .given .0 .0
-    ≤ length (c .before .before .before .before .before .before .before .before .before .before .before .before .before .before .args .s .now)
+    ≤ length (c .before .before .before .before .before .before .before .before .before .before .before .before .before .before .args .s
+    .now)
 within c =
     let n = c .before .before .before .before in
     let f = n .before .before .before .before .before in
@@ -27,8 +28,11 @@ add-t24 c = omega (arith, within (c .before))
 returns : tie.Need-returns
 returns c =
     let n = c .before .before .before .before .before in
-    let f = n .before .before .before .before .before .short-lines .ensures in
-    (rest-stop _ _ _ _ _ _ _ _ _ _ (f .1 .0) (f .0 .0) (f .1 .1) (n .any-number-lines .ensures .0) _ (c .before .why .given .1), omega arith)
+    let f = n .before .before .before .before .before .short-lines .ensures in (
+      rest-stop _ _ _ _ _ _ _ _ _ _ (f .1 .0) (f .0 .0) (f .1 .1) (n .any-number-lines .ensures .0) _
+          (c .before .why .given .1),
+      omega arith,
+    )
 
 returns-2 : tie.Need-returns-2
 returns-2 c =
