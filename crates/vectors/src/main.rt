@@ -1,7 +1,9 @@
 // A test program: answers of the public calls, compared with what the documents say and not proved. The file stdin has the sheets and the
 // calls, as its first lines explain; the file stdout has the answers. The contracts of the C library's functions are assumed.
+mod lists;
 mod show;
 mod text;
+mod texts;
 
 use libc::STDIN_FILENO;
 use libc::STDOUT_FILENO;
@@ -62,8 +64,15 @@ fn call(word: u8, n: u64, sheet: &[u8], place: &mut [u8]) {
         b'm' => show::figures(sheet, row, false),
         b'c' => show::cost(sheet, row, place),
         b'o' => show::optimal(sheet, row, place),
+        b'b' => show::best(sheet, row, place),
         b'p' => show::page(sheet, row, place),
         b'd' => show::digits(n),
+        b'l' => texts::listing(sheet),
+        b'j' => texts::join(sheet, place),
+        b'i' => texts::import(sheet, n, place),
+        b'u' => lists::used(sheet),
+        b'w' => lists::windows(sheet),
+        b'e' => lists::every(sheet),
         _ => {}
     }
 }

@@ -1,9 +1,10 @@
 // Printing what a call answers, each number after a blank.
 // The contracts of the C library's functions are assumed.
 use libc::STDOUT_FILENO;
+use model::PlaceAnswer;
 
 // A blank and a number.
-fn value(n: u64) {
+pub fn value(n: u64) {
     io::write_all(STDOUT_FILENO, b" ");
     io::print_decimal(STDOUT_FILENO, n);
 }
@@ -40,13 +41,29 @@ pub fn cost(sheet: &[u8], row: usize, schedule: &[u8]) {
     value(answer.total);
 }
 
-// What writing the optimal schedule of a row answers: the refusal and the length; then how many bytes of the place are still 170.
+// What writing the optimal schedule of a row answers.
 pub fn optimal(sheet: &[u8], row: usize, place: &mut [u8]) {
     let answer = analyser::optimal_schedule(sheet, row, place);
+    written(answer, place);
+}
+
+// What writing the schedule of the least total with stores counted answers.
+pub fn best(sheet: &[u8], row: usize, place: &mut [u8]) {
+    let answer = analyser::modifying::modified_schedule(sheet, row, place);
+    written(answer, place);
+}
+
+// The refusal and the length of a schedule that was written into a place; then how many bytes of the place are still 170.
+fn written(answer: PlaceAnswer, place: &[u8]) {
+    placed(answer);
+    value(unchanged(place));
+}
+
+// The refusal and the length of what was written into a place.
+pub fn placed(answer: PlaceAnswer) {
     let verdict = answer.verdict;
     value(model::verdict_number(verdict));
     value(answer.length as u64);
-    value(unchanged(place));
 }
 
 // How many bytes of a place are 170.
@@ -70,9 +87,7 @@ pub fn page(sheet: &[u8], k: usize, place: &mut [u8]) {
     if after <= place.len() {
         io::write_all(STDOUT_FILENO, &place[start..after]);
     }
-    let verdict = answer.verdict;
-    value(model::verdict_number(verdict));
-    value(answer.length as u64);
+    placed(answer);
 }
 
 // The digits that the number writer writes.
