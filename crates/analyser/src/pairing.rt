@@ -18,7 +18,7 @@ fn write_joint(first: Sheet, second: Sheet, out: &mut [u8]) -> PlaceAnswer
     let s = answer.sheet;
     match verdict {
         Verdict::Refused(why) => PlaceAnswer::refused(why),
-        Verdict::Accepted => writing::write(s, out),
+        Verdict::Accepted => writing::write_within(s, Sheet::MAX_BYTES_3, out),
     }
 }
 

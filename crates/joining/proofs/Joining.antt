@@ -3,17 +3,21 @@
 use Prim.Native.Nat.{ℕ, _+_, _≤_, _<_, max}
 use mathlib.Core.Path.{_≡_, refl, sym, ap, subst, _∙_}
 use mathlib.Core.Bool.{Bool, true, false, cond}
+use mathlib.Core.List.{[]}
 use native.Mathlib.Omega.{arith}
 use borrow.Author.Tests.{le-leb, lt-leb}
 use lib.Dec.{leb}
 use lib.ListN.{length, take}
-use Rattle.model.specs.Sheets.{SheetValue, Valid, mostSegs}
+use Rattle.model.specs.Sheets.{SheetValue, Valid, formBytes, mostSegs}
 use Rattle.model.specs.Standing.{Standing}
 use Rattle.model.specs.Values.{headValueOf, valueOf}
 use Rattle.model.specs.declared.Refusal.the-variants.{HeadsDiffer, BothTouch, TooManySegments}
 use Rattle.model.specs.declared.Sheet.{Sheet}
 use Rattle.model.proofs.Standing.{segs-counted}
-use Rattle.sheet.specs.Reading.{accepted, rejected}
+use Rattle.sheet.specs.Accepting.{onSheet}
+use Rattle.sheet.specs.Reading.{Outcome, accepted, rejected}
+use Rattle.sheet.specs.Writing.{sheetText}
+use Rattle.sheet.proofs.Lengths.{text-within}
 use Rattle.joining.specs.Joining.{joinCounted, joinApart, joinOf}
 use Rattle.joining.specs.Joint.{sameHeads, bothTouch, jointSteps, joined, Joins}
 use Rattle.joining.proofs.Held.{steps-joint}
@@ -62,6 +66,17 @@ module _ (v w : SheetValue) where
   -- and it is valid
   pub accepted-valid : Valid v → Valid w → (u : SheetValue) → joinOf v w ≡ accepted u → Valid u
   accepted-valid first second u e = let found = join-accepted u e in subst Valid (found .1) (joined-valid v w first second (found .0))
+
+  -- so its text is no longer than that of a sheet of form 3 may be
+  pub accepted-within : Valid v → Valid w → length (onSheet (joinOf v w) (λ _. []) sheetText) ≤ formBytes 3
+  unfolding joined
+  accepted-within first second = go (joinOf v w) refl
+    where
+      go : (o : Outcome) → joinOf v w ≡ o → length (onSheet o (λ _. []) sheetText) ≤ formBytes 3
+      go (accepted u) e =
+          let three : 3 ≡ u .form = ap (λ (x : SheetValue). x .form) (join-accepted u e .1) in
+          omega (arith, text-within u (accepted-valid first second u e), ap formBytes three)
+      go (rejected why) e = omega arith
 
 -- by what was told of the heads, b, and of the touches, t
 module _ (first second : Sheet) (p : Standing first) (q : Standing second) (b : Bool)

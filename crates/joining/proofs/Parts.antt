@@ -1,24 +1,32 @@
 -- What the parts of joining rest on: rows compared one by one, steps in which both touch, numbers one after the other. Assumes nothing.
-use Prim.Native.Nat.{ℕ, zero, suc, _+_, _≤_, _<_}
+use Prim.Native.Nat.{ℕ, zero, suc, _+_, _-_, _≤_, _<_, min}
 use mathlib.Core.Path.{_≡_, refl, sym, ap, _∙_}
 use mathlib.Core.Logic.{⊎-elim}
-use mathlib.Core.Bool.{Bool, true, false, _&&_, _||_, or-true}
+use mathlib.Core.Bool.{Bool, true, false, not, _&&_, _||_, or-true}
 use mathlib.Core.List.{List, [], _∷_}
+use native.Mathlib.Nat.{zero-add}
 use native.Mathlib.Omega.{arith}
 use native.Mathlib.Numerals.{add-one}
-use borrow.Author.Tests.{eq-eqb, ne-eqb}
-use lib.ListN.{length, getD, take, drop, drop-of-length-le}
+use borrow.Author.Tests.{leb-true, leb-false, eq-eqb, ne-eqb}
+use lib.Dec.{eqb, leb}
+use lib.ListN.{length, getD, take, drop, drop-of-length-le, List·getD-eq-default}
 use lib.Seq.{length-take-le, getD-take, drop-cons}
 use Rattle.model.specs.Sheets.{idle}
 use Rattle.model.specs.Values.{headValueOf}
 use Rattle.model.specs.declared.Head.{Head}
 use Rattle.model.specs.declared.PriceRow.{PriceRow}
 use Rattle.model.proofs.Sums.{last-or-below}
-use Rattle.model.proofs.Tables.{length-tabulate, getD-tabulate}
+use Rattle.model.specs.Sums.{tabulate}
+use Rattle.model.proofs.Tables.{length-tabulate, getD-tabulate, list-tabulate}
 use Rattle.joining.specs.Joint.{sameKind, sameRows, sameHeads, bothTouch, jointEntry}
 use Rattle.joining.specs.inner.Parts.{sameRow, bothAt, entriesOf}
 
 -- ---- rows
+
+-- a test and one that fails
+and-none : (b : Bool) → b && false ≡ false
+and-none true = refl
+and-none false = refl
 
 -- rows of which there are not as many differ
 pub rows-unlike : (ps qs : List PriceRow) → (length ps ≡ length qs → ⊥) → sameRows ps qs ≡ false
@@ -26,12 +34,7 @@ unfolding sameRows
 rows-unlike [] [] other = absurd (other refl)
 rows-unlike [] (q ∷ qs) other = refl
 rows-unlike (p ∷ ps) [] other = refl
-rows-unlike (p ∷ ps) (q ∷ qs) other =
-    rw (rows-unlike ps qs (λ same. other (ap suc same))) (and-none (sameRow p q))
-  where
-    and-none : (b : Bool) → b && false ≡ false
-    and-none true = refl
-    and-none false = refl
+rows-unlike (p ∷ ps) (q ∷ qs) other = rw (rows-unlike ps qs (λ same. other (ap suc same))) (and-none (sameRow p q))
 
 -- of the first m and the first n rows, those from row r on: they begin with row r, of which b tells whether it is alike
 module _ (ps qs : List PriceRow) (m n r : ℕ) (d : PriceRow) (first : m ≤ length ps) (second : n ≤ length qs) (lm : r < m) (ln : r < n)
@@ -91,11 +94,45 @@ module _ (xs ys : List ℕ) where
       → true ≡ bothTouch xs ys n
   both-stop t n lt x y b first second told on = sym (both-found t n lt (rw (← first, ← second, ← told) on))
 
+  -- beyond the last step of one both do not touch
+  none-beyond : (t : ℕ) → min (length xs) (length ys) ≤ t → bothAt (getD xs t idle) (getD ys t idle) ≡ false
+  none-beyond t h = go (leb (length xs) t) refl
+    where
+      go : (b : Bool) → leb (length xs) t ≡ b → bothAt (getD xs t idle) (getD ys t idle) ≡ false
+      go true e = rw (List·getD-eq-default xs idle {n = t} (leb-true (length xs) t e))
+      go false e =
+          rw (List·getD-eq-default ys idle {n = t} (omega (arith, leb-false (length xs) t e))) (and-none (not (eqb (getD xs t idle) idle)))
+
+  steps-beyond : (k n : ℕ) → min (length xs) (length ys) ≤ k → bothTouch xs ys k ≡ false → bothTouch xs ys (n + k) ≡ false
+  steps-beyond k zero h e = rw zero-add e
+  steps-beyond k (suc n) h e =
+      let more : n + k + 1 ≡ suc n + k = omega arith in
+      rw more at (both-next (n + k) (steps-beyond k n h e) (none-beyond (n + k) (omega arith)))
+
+  -- so the steps in which both have an entry decide
+  pub both-common : (n k : ℕ) → k ≡ min n (min (length xs) (length ys)) → bothTouch xs ys k ≡ false → bothTouch xs ys n ≡ false
+  both-common n k e f = go (leb n k) refl
+    where
+      go : (b : Bool) → leb n k ≡ b → bothTouch xs ys n ≡ false
+      go true h = let same : k ≡ n = omega (arith, leb-true n k h) in rw same at f
+      go false h =
+          let l = leb-false n k h in
+          let all : n - k + k ≡ n = omega arith in
+          rw all at (steps-beyond k (n - k) (omega arith) f)
+
 -- ---- the entries of the joint sheet
 
 module _ (n : ℕ) (xs ys : List ℕ) (steps : ℕ) where
   pub entries-length : length (entriesOf n xs ys steps) ≡ steps
   entries-length = length-tabulate steps (λ t. jointEntry n (getD xs t idle) (getD ys t idle))
+
+  -- those of the first k steps
+  pub entries-first : (k : ℕ) → k ≤ steps → take k (entriesOf n xs ys steps) ≡ entriesOf n xs ys k
+  entries-first k h =
+      let f : ℕ → ℕ = λ t. jointEntry n (getD xs t idle) (getD ys t idle) in
+      list-tabulate k f (take k (tabulate steps f)) 0
+      (length-take-le k (tabulate steps f) (omega (arith, length-tabulate steps f)))
+      (λ t l. getD-take k (tabulate steps f) t 0 l ∙ getD-tabulate steps f t 0 (omega arith))
 
   -- the entry e that the entries x and y of a step make
   pub entries-at : (t : ℕ) → t < steps → (x y e : ℕ) → x ≡ getD xs t idle → y ≡ getD ys t idle → e ≡ jointEntry n x y

@@ -8,7 +8,7 @@ use model::Sheet;
 use model::Verdict;
 use sheet::SheetAnswer;
 ghost use mathlib.Core.Path.{_≡_};
-ghost use Prim.Native.Nat.{ℕ, _≤_, _<_, _+_, max};
+ghost use Prim.Native.Nat.{ℕ, _≤_, _<_, _+_, min, max};
 ghost use lib.ListN.{length, getD, take};
 ghost use Rattle.model.specs.Sheets.{idle, mostSegs, mostRows, mostSteps};
 ghost use Rattle.model.specs.Standing.{Standing};
@@ -107,13 +107,24 @@ fn both_at(first: u16, second: u16) -> bool
     }
 }
 
-// Whether both touch in one of the first n steps.
+// The smaller of the two.
+fn smaller(a: usize, b: usize) -> usize
+    ensures { λ r. ⌜ r ≡ min a b ⌝ }
+{
+    if b < a {
+        return b;
+    }
+    a
+}
+
+// Whether both touch in one of the first n steps: beyond the last of either none does.
 fn both_touch(xs: &[u16], ys: &[u16], n: usize) -> bool
     ensures { λ r. ⌜ r ≡ bothTouch (now (xs .entry)) (now (ys .entry)) n ⌝ }
 {
+    let common = smaller(n, smaller(xs.len(), ys.len()));
     let mut t = 0;
-    while t < n {
-        if both_at(entry_at(xs, t), entry_at(ys, t)) {
+    while t < common {
+        if both_at(xs[t], ys[t]) {
             return true;
         }
         t += 1;
@@ -154,13 +165,28 @@ fn no_rows() -> [PriceRow; Sheet::MAX_ROWS]
     [PriceRow { h: 0, d: 0 }; Sheet::MAX_ROWS]
 }
 
+// The entries of the joint sheet in its first steps, up to the last of the shorter record.
+fn common_touches(n: u16, xs: &[u16], ys: &[u16], common: usize) -> [u16; Sheet::MAX_STEPS]
+    requires { ⌜ (n ≤ mostSegs) × (common ≤ mostSteps) × (common ≤ length (now xs)) × (common ≤ length (now ys))
+        × ((t : ℕ) → IsEntry (getD (now ys) t idle)) ⌝ }
+    ensures { λ r. ⌜ r ≡ padded (entriesOf n (now (xs .entry)) (now (ys .entry)) common) (idles mostSteps) ⌝ }
+{
+    let mut touches = no_touches();
+    let mut t = 0;
+    while t < common {
+        touches[t] = joint_entry(n, xs[t], ys[t]);
+        t += 1;
+    }
+    touches
+}
+
 // The entries of the joint sheet, step by step on the same clock.
 fn joint_touches(n: u16, xs: &[u16], ys: &[u16], steps: usize) -> [u16; Sheet::MAX_STEPS]
     requires { ⌜ (n ≤ mostSegs) × (steps ≤ mostSteps) × ((t : ℕ) → IsEntry (getD (now ys) t idle)) ⌝ }
     ensures { λ r. ⌜ r ≡ padded (entriesOf n (now (xs .entry)) (now (ys .entry)) steps) (idles mostSteps) ⌝ }
 {
-    let mut touches = no_touches();
-    let mut t = 0;
+    let mut t = smaller(steps, smaller(xs.len(), ys.len()));
+    let mut touches = common_touches(n, xs, ys, t);
     while t < steps {
         touches[t] = joint_entry(n, entry_at(xs, t), entry_at(ys, t));
         t += 1;

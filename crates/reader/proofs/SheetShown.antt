@@ -167,9 +167,9 @@ pub lines-count : (v : SheetValue) → leb 2 (v .form) ≡ false
     → length (sheetShown v) ≡ 5 + (length (v .head .sizes) + (length (v .head .rows) + length (v .refs)))
 lines-count v e =
     let f = lt-leb 3 (v .form) (omega (arith, leb-false 2 (v .form) e)) in
+    let segs = length (v .head .sizes) in
     parts-count v
-    ∙ rw (e, f, sizes-count (v .head .sizes), prices-count (v .head .rows), refs-count (length (v .head .sizes)) (entriesIn v))
-    (omega arith)
+    ∙ rw (e, f, sizes-count (v .head .sizes), prices-count (v .head .rows), refs-count segs (entriesIn v)) (omega arith)
 
 -- form 2 has 7 and one for each touch
 pub lines-count-2 : (v : SheetValue) → leb 2 (v .form) ≡ true → leb 3 (v .form) ≡ false

@@ -346,3 +346,18 @@ pub fn write(sheet: Sheet, out: &mut [u8]) -> PlaceAnswer
         length,
     }
 }
+
+// The same for a sheet whose text has at most `most` bytes: its length is worked out only for a place that is shorter.
+pub fn write_within(sheet: Sheet, most: usize, out: &mut [u8]) -> PlaceAnswer
+    requires { ⌜ length (sheetText (valueOf sheet)) ≤ most ⌝ }
+    ensures { λ r. ⌜ PlaceLeft (gives (sheetText (valueOf sheet))) (now (out .entry)) (now (out .exit)) r ⌝ }
+{
+    if out.len() < most {
+        return write(sheet, out);
+    }
+    let length = put_sheet(sheet, out);
+    PlaceAnswer {
+        verdict: Verdict::Accepted,
+        length,
+    }
+}

@@ -37,7 +37,7 @@ fn modifies_at(marks: &[bool], t: usize) -> bool
 // ---- counts and lengths
 
 // How many touches the entry of a step stands for.
-fn entry_count(x: u16) -> usize
+fn entry_count(x: u16) -> u16
     ensures { λ r. ⌜ ((marks : ℕ → Bool) (before : ℕ) → r ≡ length (touchesFrom marks before (x ∷ []))) ⌝ }
     ensures { λ r. ⌜ r ≤ 1 ⌝ }
 {
@@ -49,15 +49,16 @@ fn entry_count(x: u16) -> usize
 
 // How many touches there are.
 fn count_touches(entries: &[u16]) -> usize
+    requires { ⌜ length (now entries) ≤ mostSteps ⌝ }
     ensures { λ r. ⌜ ((marks : List Bool) → r ≡ length (touchesWith (now (entries .entry)) marks)) ⌝ }
 {
-    let mut count = 0;
+    let mut count: u16 = 0;
     let mut i = 0;
     while i < entries.len() {
         count += entry_count(entries[i]);
         i += 1;
     }
-    count
+    count as usize
 }
 
 // The length of the letter of a touch.
@@ -122,7 +123,8 @@ fn step_end(modifies: bool) -> u8
 // Writes the line of a touch, and gives the index after it.
 fn put_touch(x: u16, step: usize, modifies: bool, out: &mut [u8], at: usize) -> usize
     requires { ⌜ at + length (touchText (record { segment = x; step = step; modifies = modifies })) ≤ length (now out) ⌝ }
-    ensures { λ r. ⌜ Put (touchText (record { segment = x; step = step; modifies = modifies })) at (now (out .entry)) r (now (out .exit)) ⌝ }
+    ensures { λ r. ⌜ Put (touchText (record { segment = x; step = step; modifies = modifies }))
+        at (now (out .entry)) r (now (out .exit)) ⌝ }
 {
     let segment = put(b"ref=", out, at);
     let second = put_digits(x as u64, b'@', out, segment);

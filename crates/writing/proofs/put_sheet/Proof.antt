@@ -1,5 +1,5 @@
--- `writing::put_sheet` meets its contract: the counts are cut off at the arrays' lengths, which changes no value, and the parts are put one
--- after another. Assumes nothing.
+-- `writing::put_sheet` meets its contract: the counts are cut off at the arrays' lengths, which changes no value, and the parts are put
+-- one after another. Assumes nothing.
 use Prim.Native.Nat.{_+_}
 use mathlib.Core.Path.{_≡_, sym, ap, _∙_}
 use native.Mathlib.Omega.{arith}
@@ -55,25 +55,26 @@ put-head-requires c κs =
 
 array-share-prefix-touches : tie.Need-array-share-prefix-touches
 array-share-prefix-touches c =
-    let e = lengths (c .before .before .before .before .before .before .before .before .before .before .before .before .before .before) in
+    let m = c .before .before .before .before .before .before .before .before in
+    let e = lengths (m .before .before .before .before .before .before) in
     omega arith
 
 slice-aggregate-put-run : tie.Need-slice-aggregate-put-run
 slice-aggregate-put-run c =
-    let e = lengths (c .before .before .before .before .before .before .before .before .before .before .before .before .before .before
-    .before) in
+    let m = c .before .before .before .before .before .before .before .before .before in
+    let e = lengths (m .before .before .before .before .before .before) in
     sym (length-take-le _ _ (omega arith))
 
 array-share-prefix-marks : tie.Need-array-share-prefix-marks
 array-share-prefix-marks c =
-    let e = lengths (c .before .before .before .before .before .before .before .before .before .before .before .before .before .before
-    .before) in
+    let m = c .before .before .before .before .before .before .before .before .before in
+    let e = lengths (m .before .before .before .before .before .before) in
     omega arith
 
 slice-aggregate-put-run-2 : tie.Need-slice-aggregate-put-run-2
 slice-aggregate-put-run-2 c =
-    let e = lengths (c .before .before .before .before .before .before .before .before .before .before .before .before .before .before
-    .before .before) in
+    let m = c .before .before .before .before .before .before .before .before .before .before in
+    let e = lengths (m .before .before .before .before .before .before) in
     sym (length-take-le _ _ (omega arith))
 
 put-run-requires : tie.Need-put-run-requires

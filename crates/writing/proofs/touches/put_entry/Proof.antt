@@ -18,8 +18,8 @@ put-touch-requires c κs =
     let e = m .before in
     let s = e .before .before .before .before in
     let i = sym (e .before .is-idle .ensures) ∙ e .if1 .left in
-    let t = text-touch (marksOf (s .args .marks .now)) (s .args .before) (s .args .x) (m .modifies-at .result)
-    (m .modifies-at .ensures) i in
+    let a = s .args in
+    let t = text-touch (marksOf (a .marks .now)) (a .before) (a .x) (m .modifies-at .result) (m .modifies-at .ensures) i in
     omega (arith, ap length t, s .pre)
 
 returns-2 : tie.Need-returns-2
