@@ -1,17 +1,17 @@
 //! Decimal numbers, eight bytes at a time.
 
-/// A run of up to 7 digits at the head of 8 bytes, and what follows it.
+/// A run of digits at the head of 8 bytes, and what follows it.
 pub struct Run {
     pub value: u64,
     /// How many digits there are.
     pub length: usize,
     /// The byte after the digits.
     pub after: u8,
-    /// 1 to 7 digits with no leading zero. Where this is false, the other fields say nothing.
+    /// At least one digit, and no leading zero. Where this is false, the other fields say nothing.
     pub fine: bool,
 }
 
-/// Reads the digits at the head of 8 bytes, the first byte in the lowest place.
+/// Up to 7 digits at the head of 8 bytes, the first byte in the lowest place.
 #[inline(always)]
 pub fn leading_run(bytes: u64) -> Run {
     // Bit 4 of a byte is set in every digit and clear in a line feed and in "/". The digits are checked below.
@@ -22,30 +22,32 @@ pub fn leading_run(bytes: u64) -> Run {
     let digits = (bytes ^ 0x3030_3030_3030_3030).wrapping_shl(64 - shift);
     let all_digits = (digits | digits.wrapping_add(0x0606_0606_0606_0606)) & 0xf0f0_f0f0_f0f0_f0f0 == 0;
     let leading_zero = (bytes & 0xff == 0x30) & (length > 1);
-    let value = joined(digits);
+    // Neighbouring digits, then pairs, then fours are joined.
+    let pairs = digits.wrapping_mul(10).wrapping_add(digits >> 8) & 0x00ff_00ff_00ff_00ff;
+    let fours = pairs.wrapping_mul(100).wrapping_add(pairs >> 16) & 0x0000_ffff_0000_ffff;
+    let value = fours.wrapping_mul(10_000).wrapping_add(fours >> 32) & 0xffff_ffff;
     Run { value, length, after: (bytes >> shift) as u8, fine: inside & all_digits & !leading_zero }
 }
 
-/// The same where any byte may follow the digits.
+/// A run of up to 4 digits at the head of 8 bytes, and what follows it.
 #[inline(always)]
-pub fn leading_digits(bytes: u64) -> Run {
-    // A byte that is no digit has a bit of its upper half set, with 6 added or without; up to the first of them no sum carries.
-    let digits = bytes ^ 0x3030_3030_3030_3030;
-    let others = (digits | digits.wrapping_add(0x0606_0606_0606_0606)) & 0xf0f0_f0f0_f0f0_f0f0;
-    let length = (others.trailing_zeros() / 8) as usize;
-    let inside = length.wrapping_sub(1) < 7;
-    let shift = 8 * (length as u32 & 7);
-    let leading_zero = (bytes & 0xff == 0x30) & (length > 1);
-    let value = joined(digits.wrapping_shl(64 - shift));
-    Run { value, length, after: (bytes >> shift) as u8, fine: inside & !leading_zero }
-}
-
-/// The number of eight digits, one a byte, the first in the lowest place: neighbouring digits, then pairs, then fours are joined.
-#[inline(always)]
-fn joined(digits: u64) -> u64 {
-    let pairs = digits.wrapping_mul(10).wrapping_add(digits >> 8) & 0x00ff_00ff_00ff_00ff;
-    let fours = pairs.wrapping_mul(100).wrapping_add(pairs >> 16) & 0x0000_ffff_0000_ffff;
-    fours.wrapping_mul(10_000).wrapping_add(fours >> 32) & 0xffff_ffff
+pub fn short_run(bytes: u64) -> Run {
+    let byte = |place: usize| (bytes >> (8 * place)) as u8;
+    let digit = |place: usize| (byte(place).wrapping_sub(b'0')) as u64;
+    let first = digit(0);
+    let leads = first.wrapping_sub(1) < 9;
+    if digit(1) >= 10 {
+        return Run { value: first, length: 1, after: byte(1), fine: first < 10 };
+    }
+    let two = 10 * first + digit(1);
+    if digit(2) >= 10 {
+        return Run { value: two, length: 2, after: byte(2), fine: leads };
+    }
+    let three = 10 * two + digit(2);
+    if digit(3) >= 10 {
+        return Run { value: three, length: 3, after: byte(3), fine: leads };
+    }
+    Run { value: 10 * three + digit(3), length: 4, after: byte(4), fine: leads }
 }
 
 /// A number of 1 to 4 digits that a line feed ends, at the head of 8 bytes, and how many digits it has.

@@ -1,7 +1,7 @@
 //! Modified segments: sheets of form 4 with a touch in every step and no warm segment, their listing, the schedule of the least total with
 //! stores counted, and the price of one handed in.
 
-use crate::digits::{leading_digits, number};
+use crate::digits::{number, short_run};
 use crate::figures::{Pass, Scale};
 use crate::listing::{put_row, ROOM};
 use crate::schedule::{price, write_held, Price, STEP};
@@ -81,17 +81,17 @@ fn take_touch(bytes: &[u8], at: &mut usize, segs: u64, step: u64, steps: u64) ->
     Ok(touch)
 }
 
-/// A touch line of two numbers of up to 7 digits, its step, and the next line's place.
+/// A touch line of two numbers of up to 4 digits, its step, and the next line's place.
 #[inline(always)]
 fn short_touch(bytes: &[u8], at: usize) -> Option<(Touch, u64, usize)> {
-    let first = leading_digits(eight(bytes, at + 4)?);
-    let middle = at + 4 + first.length + 1;
-    let second = leading_digits(eight(bytes, middle)?);
-    let modifies = second.after == b'w';
-    let end = middle + second.length + usize::from(modifies);
-    let right = (bytes[at..at + 4] == *b"ref=") & first.fine & (first.after == b'@') & second.fine;
-    let ended = bytes.get(end) == Some(&b'\n');
-    (right & ended).then_some((Touch { segment: first.value, modifies }, second.value, end + 1))
+    let segment = short_run(eight(bytes, at + 4)?);
+    let middle = at + 4 + segment.length + 1;
+    let step = short_run(eight(bytes, middle)?);
+    let modifies = step.after == b'w';
+    let end = middle + step.length + usize::from(modifies);
+    let right = (bytes[at..at + 4] == *b"ref=") & segment.fine & (segment.after == b'@') & step.fine;
+    let touch = Touch { segment: segment.value, modifies };
+    (right & (bytes.get(end) == Some(&b'\n'))).then_some((touch, step.value, end + 1))
 }
 
 /// The same for a touch line of any form.
