@@ -1,27 +1,24 @@
 -- The walk along sorted keys makes the thresholds, one after another, and memory and load at each. Assumes nothing.
-use Prim.Native.Nat.{ℕ, zero, suc, _+_, _-_, _*_, _/_, _%_, _≤_, _<_}
+use Prim.Native.Nat.{ℕ, zero, suc, _*_, _≤_, _<_}
 use mathlib.Core.Path.{_≡_, refl, ap, sym, _∙_}
 use mathlib.Core.Bool.{Bool, true, false, cond, _&&_}
 use mathlib.Core.Logic.{_⊎_, inl, inr, ⊎-elim}
-use mathlib.Core.List.{List, [], _∷_, _++_}
+use mathlib.Core.List.{List}
 use native.Mathlib.Omega.{arith}
-use lib.Dec.{eqb, leb, ltb}
+use lib.Dec.{eqb, ltb}
 use lib.ListN.{length, getD}
-use borrow.Author.Tests.{eqb-true, eqb-false, ltb-true, ltb-false, lt-ltb, le-ltb}
+use borrow.Author.Tests.{eqb-true, eqb-false, ltb-true, ltb-false}
 use Rattle.model.specs.Sheets.{RunWithin}
 use Rattle.model.specs.Traces.{Trace, steps}
-use Rattle.points.specs.Points.{Ratio, reuses, ratioAt, zeroOne, thresholds, thresholdAt, Below, Same, Has, Earliest}
+use Rattle.points.specs.Points.{Ratio, ratioAt, zeroOne, thresholds, thresholdAt, Below, Same, Has, Earliest}
 use Rattle.points.specs.Curve.{NoZero}
-use Rattle.points.proofs.Lists.{below-same, same-below}
-use Rattle.points.proofs.Thresholds.{ratio-positive, thresholds-positive, thresholds-ascending, thresholds-have, thresholds-first}
-use Rattle.points.proofs.Thresholds.{thresholds-of-run}
-use Rattle.pointsort.specs.Held.{ratio, ratioIn, Holding, reuseRatios}
-use Rattle.pointsort.specs.Keys.{unitsOf, quotientOf, numbers, SortedKeys}
-use Rattle.pointsort.proofs.Steps.{OfStep}
+use Rattle.points.proofs.Thresholds.{thresholds-positive, thresholds-ascending, thresholds-have, thresholds-first, thresholds-of-run}
+use Rattle.pointsort.specs.Held.{ratio, Holding, reuseRatios}
+use Rattle.pointsort.specs.Keys.{unitsOf, numbers, SortedKeys}
 use Rattle.pointsort.proofs.Quotients.{quotient-within}
 use Rattle.pointsort.proofs.Fine.{Fine, fine-zero, fine-reuse, below-quotient, quotient-same, same-quotient, quotient-less}
 use Rattle.pointsums.specs.inner.Walk.{quotientAt, reuseAt, beforeAt, ended, firstCost, leader}
-use Rattle.pointsums.proofs.Ordered.{atKey, quot, key-at, key-fine, key-step, quotients-rise, Found, found, exact-key}
+use Rattle.pointsums.proofs.Ordered.{atKey, quot, key-at, key-fine, key-step, quotients-rise, found, exact-key}
 use Rattle.pointsums.proofs.Writing.{ended-new, ended-same}
 
 below-equal : (p q r : Ratio) → q ≡ r → Below p q → Below p r
@@ -114,9 +111,6 @@ module _ (T : Trace) (ok : RunWithin T) (rs ws keys : List ℕ) (n : ℕ) (held 
       x-behind : k < x-has .place
       x-behind = go (ltb k (x-has .place)) refl (eqb (x-has .place) k) refl
         where
-          at : Ratio
-          at = thresholdAt T (x-has .place)
-
           go : (a : Bool) → ltb k (x-has .place) ≡ a → (b : Bool) → eqb (x-has .place) k ≡ b → k < x-has .place
           go true e b f = ltb-true k (x-has .place) e
           go false e true f =
@@ -126,12 +120,16 @@ module _ (T : Trace) (ok : RunWithin T) (rs ws keys : List ℕ) (n : ℕ) (held 
               let ne = eqb-false (x-has .place) k f in
               let low =
               thresholds-ascending T (x-has .place) k (omega (arith, ltb-false k (x-has .place) e)) (v .there) in
-              let q1 = below-quotient (T .a) (thresholdAt T (x-has .place)) (thresholdAt T k)
-              (fine-threshold (x-has .place) (x-has .within))
-              (fine-threshold k (v .there)) low in
-              let q2 = quotient-same (T .a) (thresholdAt T (x-has .place)) x (fine-threshold (x-has .place) (x-has .within)) fine-x
-              (x-has .equal) in
-              absurd (omega (arith, q1, q2, v .quotient, x-is))
+              let at = thresholdAt T (x-has .place) in
+              let fine-at = fine-threshold (x-has .place) (x-has .within) in
+              absurd
+              (omega (
+                arith,
+                below-quotient (T .a) at (thresholdAt T k) fine-at (fine-threshold k (v .there)) low,
+                quotient-same (T .a) at x fine-at fine-x (x-has .equal),
+                v .quotient,
+                x-is,
+              ))
 
       next-there : suc k < length (thresholds T)
       next-there = omega (arith, x-behind, x-has .within)
@@ -150,8 +148,7 @@ module _ (T : Trace) (ok : RunWithin T) (rs ws keys : List ℕ) (n : ℕ) (held 
         where
           from : (key : KeyOf (thresholdAt T (suc k)))
               → quot T ok rs ws keys n held sorted (thresholdAt T k) < quot T ok rs ws keys n held sorted (thresholdAt T (suc k))
-              → (b : Bool)
-              → ltb (key .at) i ≡ b → quotientAt keys i ≤ quot T ok rs ws keys n held sorted (thresholdAt T (suc k))
+              → (b : Bool) → ltb (key .at) i ≡ b → quotientAt keys i ≤ quot T ok rs ws keys n held sorted (thresholdAt T (suc k))
           from key over true e =
               absurd (omega (arith, over, key .quotient, v .quotient, before-most i (key .at) (omega arith) (ltb-true (key .at) i e)))
           from key over false e =

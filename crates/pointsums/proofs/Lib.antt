@@ -1,5 +1,4 @@
 pub mod Along
 pub mod Ordered
 pub mod Running
-pub mod Totals
 pub mod Writing

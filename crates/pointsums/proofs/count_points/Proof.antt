@@ -13,10 +13,10 @@ use Rattle.pointsums.proofs.count_points.Statement.{statement}
 use Rattle.pointsums.proofs.count_points.Tie as tie
 
 abbrev Inv-loop : tie.InvT-loop
-Inv-loop keys n count₀ q₀ k₀ count q k = Counting keys n count q k
+Inv-loop keys n count₀ last₀ k₀ count last k = Counting keys n count last k
 
 abbrev μ-loop : tie.MeasureT-loop
-μ-loop keys n count₀ q₀ k₀ count q k = n - k
+μ-loop keys n count₀ last₀ k₀ count last k = n - k
 
 loop-holds : tie.Need-loop-holds Inv-loop μ-loop
 loop-holds c = counting-start (now (c .before .args .keys)) (c .before .args .n)
@@ -30,16 +30,15 @@ add-count c =
       l .inv .count-is,
       ended-most (now (s .args .keys)) (l .k),
       c .differ .ensures,
-      either-within (eqb (quotientAt (now (s .args .keys)) (l .k)) (l .q)) 0 1 1 (omega arith) (omega arith),
+      either-within (eqb (quotientAt (now (s .args .keys)) (l .k)) (l .last)) 0 1 1 (omega arith) (omega arith),
     )
 
 loop-again : tie.Need-loop-again Inv-loop μ-loop
 loop-again c =
     let s = c .before .before .before .before .before in
     let l = c .before .before .before .loop in
-    counting-step (now (s .args .keys)) (s .args .n) (l .count) (l .q) (l .k) (c .differ .result) (l .inv)
-    (c .before .before .loop-test .taken)
-    (c .differ .ensures)
+    counting-step (now (s .args .keys)) (s .args .n) (l .count) (l .last) (l .k) (c .differ .result) (l .inv)
+    (c .before .before .loop-test .taken) (c .differ .ensures)
 
 returns : tie.Need-returns Inv-loop μ-loop
 returns c =

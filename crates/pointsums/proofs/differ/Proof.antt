@@ -1,6 +1,5 @@
 -- `pointsums::differ` meets its contract: its test is that of the definition. Assumes nothing.
 use borrow.Author.Tests.{eq-eqb, ne-eqb}
-use borrow.Author.Needs.{needs}
 use Rattle.pointsums.proofs.differ.Statement.{statement}
 use Rattle.pointsums.proofs.differ.Tie as tie
 

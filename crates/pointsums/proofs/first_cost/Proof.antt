@@ -10,11 +10,8 @@ use Rattle.pointsums.proofs.first_cost.Tie as tie
 returns : tie.Need-returns
 returns c =
     let s = c .before .before .before .before in
-    rw (
-      lt-ltb 0 (s .args .n) (c .before .before .before .if1 .taken),
-      lt-ltb (getD (now (s .args .keys)) 0 0) numbers
-          (c .before .if2 .taken),
-    )
+    let some = c .before .before .before .if1 .taken in
+    rw (lt-ltb 0 (s .args .n) some, lt-ltb (getD (now (s .args .keys)) 0 0) numbers (c .before .if2 .taken))
 
 returns-2 : tie.Need-returns-2
 returns-2 c =

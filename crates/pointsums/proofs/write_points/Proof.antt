@@ -48,12 +48,9 @@ add-at c =
 
 cast-m : tie.Need-cast-m Inv-loop μ-loop
 cast-m c =
-    omega (
-      arith,
-      c .shared-slice-known7 .given
-          (reuseAt (now (c .before .before .before .before .before .before .before .before .before .before .args .keys))
-          (c .before .before .before .before .loop .k)),
-    )
+    let keys = now (c .before .before .before .before .before .before .before .before .before .before .args .keys) in
+    let k = c .before .before .before .before .loop .k in
+    omega (arith, c .shared-slice-known7 .given (reuseAt keys k))
 
 add-m : tie.Need-add-m Inv-loop μ-loop
 add-m c =
@@ -68,12 +65,9 @@ add-m c =
 
 cast-l : tie.Need-cast-l Inv-loop μ-loop
 cast-l c =
-    omega (
-      arith,
-      c .shared-slice-known8 .given
-          (reuseAt (now (c .before .before .before .before .before .before .before .before .before .before .before .args .keys))
-          (c .before .before .before .before .before .loop .k)),
-    )
+    let keys = now (c .before .before .before .before .before .before .before .before .before .before .before .args .keys) in
+    let k = c .before .before .before .before .before .loop .k in
+    omega (arith, c .shared-slice-known8 .given (reuseAt keys k))
 
 sub-l : tie.Need-sub-l Inv-loop μ-loop
 sub-l c =
@@ -108,8 +102,6 @@ put-point-requires-2 c κs =
 
 same-length : tie.Need-same-length Inv-loop μ-loop
 same-length c =
-    let s = c .before .before .before .before .before .before .before .before .before .before .before in
-    let a = s .args in
     let v = c .before .before .before .before .before .loop in
     rw (
       c .before .before .put-point2 .ensures,

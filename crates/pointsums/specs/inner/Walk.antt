@@ -1,10 +1,10 @@
 -- The walk along sorted keys: where the quotient changes one point ends and the next begins. Assumes nothing.
 use Prim.Native.Nat.{ℕ, zero, suc, _+_, _-_, _/_, _%_, _^_, _≤_, _<_}
-use mathlib.Core.Path.{_≡_}
 use mathlib.Core.Bool.{cond, _&&_}
 use mathlib.Core.List.{List, [], _∷_, _++_}
 use lib.Dec.{eqb, ltb}
 use lib.ListN.{length, getD, replicate}
+use Rattle.model.specs.Sheets.{mostSteps}
 use Rattle.model.specs.Sums.{sum}
 use Rattle.points.specs.Points.{Ratio}
 use Rattle.pointsort.specs.Held.{ratio, ratioIn}
@@ -12,7 +12,7 @@ use Rattle.pointsort.specs.Keys.{numbers}
 
 -- places for the reuses, and nothing in them
 abbrev pub places : ℕ
-places = 2048
+places = mostSteps
 
 unfoldable pub nothing : List ℕ
 nothing = replicate places 0
