@@ -9,7 +9,7 @@ use lib.Dec.{leb}
 use lib.ListN.{length, take, drop}
 use Rattle.lines.specs.Keys.{aKey, refsKey, refKey}
 use Rattle.model.specs.Sheets.{HeadValue, largestA, mostSegs, mostRows, mostSteps}
-use Rattle.model.specs.Values.{zeros, zeroRows, headValueOf, emptyHead}
+use Rattle.model.specs.Values.{zeros, headValueOf}
 use Rattle.model.specs.declared.Head.{Head}
 use Rattle.model.specs.declared.Kind.{Kind}
 use Rattle.model.specs.declared.PriceRow.{PriceRow}
@@ -114,13 +114,3 @@ some-segs taken later h s rest f e = rw (sizes-counted h f) at (head-segs taken 
 pub table-segs : (later : Bool) (kind : Kind) (a : ℕ) (h : Head) (s rest : List ℕ) → HeadFilled h
     → tablesPart later kind a .reads s ≡ read (headValueOf h) rest → 1 ≤ h .segs
 table-segs later kind a h s rest f e = rw (sizes-counted h f) at (tables-segs later kind a s (headValueOf h) rest e .0)
-
--- the lists of the empty head
-pub empty-filled : HeadFilled emptyHead
-unfolding emptyHead
-empty-filled =
-    record {
-      sizes = filled-start 0 (zeros mostSegs) (zeros mostSegs) (omega arith) refl;
-      prices = filled-start 0 (zeroRows mostRows) (zeroRows mostRows) (omega arith) refl;
-      holds = filled-start 0 (zeros mostSegs) (zeros mostSegs) (omega arith) refl;
-    }

@@ -1,4 +1,5 @@
 pub mod HeadRead
+pub mod HeadStages
 pub mod ReadRows
 pub mod ReadStages
 pub mod ReadWarm

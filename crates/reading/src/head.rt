@@ -2,8 +2,8 @@
 // lent, and gives the place of what follows. Nothing is assumed.
 use crate::rows;
 use crate::warming;
-use model::Head;
 use model::Kind;
+use model::PriceRow;
 use model::Refusal;
 use model::Sheet;
 use scan::bytes;
@@ -17,12 +17,10 @@ ghost use mathlib.Core.List.{List};
 ghost use Prim.Native.Nat.{ℕ, _+_, _≤_};
 ghost use lib.ListN.{length, drop};
 ghost use Rattle.model.specs.Sheets.{mostSegs};
-ghost use Rattle.model.specs.Values.{zeros, headValueOf};
-ghost use Rattle.sheet.specs.Lines.{andThen};
-ghost use Rattle.sheet.specs.Order.{kindFor, warmPart, tablesPart, headPart};
+ghost use Rattle.model.specs.Values.{zeros};
+ghost use Rattle.sheet.specs.Order.{kindFor, tablesPart, headPart};
 ghost use Rattle.sheet.specs.Values.{kindOf, kindLine};
-ghost use Rattle.scan.specs.AtPlace.{parsedLines, linesNext};
-ghost use Rattle.reading.specs.inner.AtPlace.{parsedKind, kindNext, withWarm, HeadFilled};
+ghost use Rattle.reading.specs.inner.AtPlace.{parsedKind, kindNext, noHead, HeadReads};
 
 // A kind and the place of what follows its line, or the refusal.
 enum KindAt {
@@ -30,10 +28,16 @@ enum KindAt {
     Refused(Refusal),
 }
 
-// A head and the place of what follows its lines, or the refusal.
+// What was read of a head whose sizes and warm segments stand in the slices that were lent: how many there are of each, the rest of the
+// head, and the place of what follows its lines, or the refusal.
 pub struct HeadRead {
     pub lines: LinesRead,
-    pub head: Head,
+    pub kind: Kind,
+    pub a: u8,
+    pub segs: usize,
+    pub rows: usize,
+    pub prices: [PriceRow; Sheet::MAX_ROWS],
+    pub warm: usize,
 }
 
 // The kind that the value names, and the next place.
@@ -77,144 +81,123 @@ fn kind_for(s: &[u8], taken: bool) -> KindAt
     }
 }
 
-// 256 zeros.
-fn blank_sizes() -> [u16; Sheet::MAX_SEGS]
-    ensures { λ r. ⌜ r ≡ zeros mostSegs ⌝ }
-{
-    [0u16; Sheet::MAX_SEGS]
-}
-
-// The refusal.
-fn no_head(why: Refusal) -> HeadRead
-    ensures { λ r. ⌜ (r .lines ≡ LinesRead.Refused why) × HeadFilled (r .head) ⌝ }
+// The refusal, where so many sizes may have been read.
+fn no_head(why: Refusal, segs: usize) -> HeadRead
+    ensures { λ r. ⌜ r ≡ noHead why segs ⌝ }
 {
     HeadRead {
         lines: LinesRead::Refused(why),
-        head: Head::empty(),
+        kind: Kind::Time,
+        a: 0,
+        segs: segs,
+        rows: 0,
+        prices: [PriceRow { h: 0, d: 0 }; Sheet::MAX_ROWS],
+        warm: 0,
     }
 }
 
-// The sizes and the rows of a head with this kind and a, and no warm segments.
-fn cold_head(s: &[u8], kind: Kind, a: u8) -> HeadRead
-    ensures { λ r. ⌜ parsedLines (now (s .entry)) (r .lines) (headValueOf (r .head)) ≡ tablesPart false kind a .reads (now (s .entry)) ⌝ }
-    ensures { λ r. ⌜ linesNext (r .lines) ≤ length (now (s .entry)) ⌝ }
-    ensures { λ r. ⌜ HeadFilled (r .head) ⌝ }
+// The sizes, into the front of `sizes`, and the rows of a head with this kind and a, and no warm segments.
+fn cold_head(s: &[u8], kind: Kind, a: u8, sizes: &mut [u16]) -> HeadRead
+    requires { ⌜ now sizes ≡ zeros mostSegs ⌝ }
+    ensures { λ r. ⌜ HeadReads (now (s .entry)) r (now (sizes .exit)) (zeros mostSegs)
+        (tablesPart false kind a .reads (now (s .entry))) ⌝ }
 {
-    let mut sizes = blank_sizes();
-    let most = sizes.len();
-    let sized = numbers::counted_lines(
-        s,
-        b"segs=",
-        1,
-        b"size=",
-        1,
-        Sheet::MAX_SIZE,
-        &mut sizes[..most],
-    );
+    let sized = numbers::counted_lines(s, b"segs=", 1, b"size=", 1, Sheet::MAX_SIZE, sizes);
     let lines = sized.lines;
     let segs = sized.count;
     match lines {
-        LinesRead::Refused(why) => no_head(why),
+        LinesRead::Refused(why) => no_head(why, segs),
         LinesRead::Done(at) => {
             let priced = rows::price_lines(&s[at..]);
             let rest = priced.lines;
             let prices = priced.rows;
             HeadRead {
                 lines: numbers::after(at, rest),
-                head: Head {
-                    kind: kind,
-                    a: a,
-                    segs: segs,
-                    sizes: sizes,
-                    rows: priced.count,
-                    prices: prices,
-                    warm: 0,
-                    holds: blank_sizes(),
-                },
+                kind: kind,
+                a: a,
+                segs: segs,
+                rows: priced.count,
+                prices: prices,
+                warm: 0,
             }
         }
     }
 }
 
-// The head with the warm segments that follow.
-fn warm_head(s: &[u8], head: Head) -> HeadRead
-    requires { ⌜ (1 ≤ head .segs) × HeadFilled head ⌝ }
-    ensures { λ r. ⌜ parsedLines (now (s .entry)) (r .lines) (headValueOf (r .head))
-        ≡ andThen (warmPart (head .segs) .reads (now (s .entry))) (withWarm (headValueOf head)) ⌝ }
-    ensures { λ r. ⌜ linesNext (r .lines) ≤ length (now (s .entry)) ⌝ }
-    ensures { λ r. ⌜ HeadFilled (r .head) ⌝ }
+// The same and, in a later form, the warm segments into the front of `holds`.
+fn table_lines(
+    s: &[u8],
+    kind: Kind,
+    a: u8,
+    later: bool,
+    sizes: &mut [u16],
+    holds: &mut [u16],
+) -> HeadRead
+    requires { ⌜ (now sizes ≡ zeros mostSegs) × (now holds ≡ zeros mostSegs) ⌝ }
+    ensures { λ r. ⌜ HeadReads (now (s .entry)) r (now (sizes .exit)) (now (holds .exit))
+        (tablesPart later kind a .reads (now (s .entry))) ⌝ }
 {
-    let mut holds = blank_sizes();
-    let most = holds.len();
-    let found = warming::warm_lines(s, head.segs, &mut holds[..most]);
-    let lines = found.lines;
-    let kind = head.kind;
-    let sizes = head.sizes;
-    let prices = head.prices;
-    HeadRead {
-        lines: lines,
-        head: Head {
-            kind: kind,
-            a: head.a,
-            segs: head.segs,
-            sizes: sizes,
-            rows: head.rows,
-            prices: prices,
-            warm: found.count,
-            holds: holds,
-        },
-    }
-}
-
-// The sizes, the rows and, in a later form, the warm segments of a head with this kind and a.
-fn table_lines(s: &[u8], kind: Kind, a: u8, later: bool) -> HeadRead
-    ensures { λ r. ⌜ parsedLines (now (s .entry)) (r .lines) (headValueOf (r .head)) ≡ tablesPart later kind a .reads (now (s .entry)) ⌝ }
-    ensures { λ r. ⌜ linesNext (r .lines) ≤ length (now (s .entry)) ⌝ }
-    ensures { λ r. ⌜ HeadFilled (r .head) ⌝ }
-{
-    let found = cold_head(s, kind, a);
+    let found = cold_head(s, kind, a, sizes);
     if !later {
         return found;
     }
     let lines = found.lines;
-    let head = found.head;
     match lines {
-        LinesRead::Refused(why) => no_head(why),
+        LinesRead::Refused(_) => found,
         LinesRead::Done(at) => {
-            let warmed = warm_head(&s[at..], head);
+            let warmed = warming::warm_lines(&s[at..], found.segs, holds);
             let rest = warmed.lines;
-            let whole = warmed.head;
+            let named = found.kind;
+            let prices = found.prices;
             HeadRead {
                 lines: numbers::after(at, rest),
-                head: whole,
+                kind: named,
+                a: found.a,
+                segs: found.segs,
+                rows: found.rows,
+                prices: prices,
+                warm: warmed.count,
             }
         }
     }
 }
 
-// The head of a sheet whose form is taken or is not, and is a later one, with warm segments, or is not.
-pub fn head_lines(s: &[u8], taken: bool, later: bool) -> HeadRead
-    ensures { λ r. ⌜ parsedLines (now (s .entry)) (r .lines) (headValueOf (r .head)) ≡ headPart taken later .reads (now (s .entry)) ⌝ }
-    ensures { λ r. ⌜ linesNext (r .lines) ≤ length (now (s .entry)) ⌝ }
-    ensures { λ r. ⌜ HeadFilled (r .head) ⌝ }
+// The head of a sheet whose form is taken or is not, and is a later one, with warm segments, or is not: its sizes into the front of
+// `sizes`, and its warm segments into the front of `holds`.
+pub fn head_lines(
+    s: &[u8],
+    taken: bool,
+    later: bool,
+    sizes: &mut [u16],
+    holds: &mut [u16],
+) -> HeadRead
+    requires { ⌜ (now sizes ≡ zeros mostSegs) × (now holds ≡ zeros mostSegs) ⌝ }
+    ensures { λ r. ⌜ HeadReads (now (s .entry)) r (now (sizes .exit)) (now (holds .exit))
+        (headPart taken later .reads (now (s .entry))) ⌝ }
 {
     match kind_for(s, taken) {
-        KindAt::Refused(why) => no_head(why),
+        KindAt::Refused(why) => no_head(why, 0),
         KindAt::Kind(kind, first) => match numbers::number_line(
             &s[first..],
             b"a=",
             0,
             Sheet::MAX_A,
         ) {
-            NumberAt::Refused(why) => no_head(why),
+            NumberAt::Refused(why) => no_head(why, 0),
             NumberAt::Number(n, second) => {
                 let at = first + second;
-                let found = table_lines(&s[at..], kind, n as u8, later);
+                let found = table_lines(&s[at..], kind, n as u8, later, sizes, holds);
                 let lines = found.lines;
-                let head = found.head;
+                let named = found.kind;
+                let prices = found.prices;
                 HeadRead {
                     lines: numbers::after(at, lines),
-                    head: head,
+                    kind: named,
+                    a: found.a,
+                    segs: found.segs,
+                    rows: found.rows,
+                    prices: prices,
+                    warm: found.warm,
                 }
             }
         },

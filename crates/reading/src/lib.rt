@@ -19,9 +19,10 @@ ghost use Prim.Native.Nat.{_-_, _≤_, _<_, max};
 ghost use lib.Dec.{leb, ltb};
 ghost use lib.ListN.{length, take};
 ghost use Rattle.model.specs.Sheets.{mostSegs, mostSteps, formBytes};
-ghost use Rattle.model.specs.Values.{idles, blankMarks, headValueOf};
+ghost use Rattle.model.specs.Values.{zeros, idles, blankMarks, headValueOf};
 ghost use Rattle.sheet.specs.Answers.{answerOf};
-ghost use Rattle.sheet.specs.Order.{entriesPart, runPart};
+ghost use Rattle.sheet.specs.Lines.{andThen};
+ghost use Rattle.sheet.specs.Order.{headPart, entriesPart, runPart};
 ghost use Rattle.sheet.specs.Reading.{atEnd, namedForm, readForms, readSheet, rejected};
 ghost use Rattle.scan.specs.AtPlace.{parsedNumber, numberNext, parsedLines, linesNext, Filled};
 ghost use Rattle.reading.specs.inner.AtPlace.{HeadFilled, formLine};
@@ -170,6 +171,43 @@ fn form_line(bytes: &[u8], lo: u8, hi: u8) -> NumberAt
     NumberAt::Number(1, 0)
 }
 
+// 256 zeros.
+fn blank_sizes() -> [u16; Sheet::MAX_SEGS]
+    ensures { λ r. ⌜ r ≡ zeros mostSegs ⌝ }
+{
+    [0u16; Sheet::MAX_SEGS]
+}
+
+// Reads the lines after the form line, to the end, of a sheet whose form is taken or is not.
+fn sheet_lines(s: &[u8], taken: bool, form: u8) -> SheetAnswer
+    ensures { λ r. ⌜ r ≡ answerOf (atEnd (andThen (headPart taken (leb 3 form) .reads (now (s .entry)))
+        (λ head rest. runPart form head .reads rest))) ⌝ }
+{
+    let mut sizes = blank_sizes();
+    let mut holds = blank_sizes();
+    let most = sizes.len();
+    let found = head::head_lines(s, taken, 3 <= form, &mut sizes[..most], &mut holds[..most]);
+    let lines = found.lines;
+    match lines {
+        LinesRead::Refused(why) => refused(why),
+        LinesRead::Done(at) => {
+            let kind = found.kind;
+            let prices = found.prices;
+            let head = Head {
+                kind: kind,
+                a: found.a,
+                segs: found.segs,
+                sizes: sizes,
+                rows: found.rows,
+                prices: prices,
+                warm: found.warm,
+                holds: holds,
+            };
+            run_lines(&s[at..], form, head)
+        }
+    }
+}
+
 // Any bytes to a sheet of one of the forms `lo` to `hi`, or the refusal and the empty sheet.
 pub fn read_forms(bytes: &[u8], lo: u8, hi: u8) -> SheetAnswer
     ensures { λ r. ⌜ r ≡ answerOf (readForms lo hi (now (bytes .entry))) ⌝ }
@@ -180,16 +218,7 @@ pub fn read_forms(bytes: &[u8], lo: u8, hi: u8) -> SheetAnswer
     match form_line(bytes, lo, hi) {
         NumberAt::Refused(why) => refused(why),
         NumberAt::Number(form, first) => {
-            let found = head::head_lines(&bytes[first..], lo as u32 <= form, 3 <= form);
-            let lines = found.lines;
-            let head = found.head;
-            match lines {
-                LinesRead::Refused(why) => refused(why),
-                LinesRead::Done(second) => {
-                    let at = first + second;
-                    run_lines(&bytes[at..], form as u8, head)
-                }
-            }
+            sheet_lines(&bytes[first..], lo as u32 <= form, form as u8)
         }
     }
 }

@@ -1,22 +1,27 @@
 -- What a kind, a row and a head that were read stand for: the code gives places in the bytes that it is lent, the definitions speak
 -- of bytes. Assumes nothing.
-use Prim.Native.Nat.{ℕ, zero, suc, max}
+use Prim.Native.Nat.{ℕ, zero, suc, max, _≤_}
+use mathlib.Core.Path.{_≡_}
 use mathlib.Core.Bool.{cond}
 use mathlib.Core.List.{List}
 use mathlib.Core.Option.{Option, none, some}
-use lib.ListN.{take, drop}
+use lib.ListN.{length, take, drop}
 use Rattle.model.specs.Sheets.{HeadValue, mostSegs, mostRows}
-use Rattle.model.specs.Values.{zeros, zeroRows}
+use Rattle.model.specs.Values.{zeros, zeroRows, headValueOf}
 use Rattle.model.specs.declared.Head.{Head}
 use Rattle.model.specs.declared.Kind.{Kind}
+use Rattle.model.specs.declared.Kind.the-variants.{Time}
 use Rattle.model.specs.declared.PriceRow.{PriceRow}
+use Rattle.model.specs.declared.Refusal.{Refusal}
 use Rattle.model.specs.declared.Refusal.the-variants.{ValueMalformed, OutOfRange}
 use Rattle.decimal.specs.declared.Reading.{Reading}
 use Rattle.decimal.specs.declared.Reading.the-variants.{NotNumber, OutOfRange as Beyond, Number}
 use Rattle.lines.specs.Keys.{formKey}
 use Rattle.sheet.specs.Lines.{Parsed, read, refused, sameBytes, numberLine}
 use Rattle.sheet.specs.Values.{rowAfter}
-use Rattle.scan.specs.AtPlace.{Filled}
+use Rattle.scan.specs.AtPlace.{parsedLines, linesNext, Filled}
+use Rattle.scan.specs.declared.numbers.LinesRead.the-variants.{Refused as NoLines}
+use Rattle.reading.specs.declared.head.HeadRead.{HeadRead}
 use Rattle.reading.specs.declared.head.KindAt.{KindAt}
 use Rattle.reading.specs.declared.head.KindAt.the-variants.{Kind as KindThen, Refused as NoKind}
 use Rattle.reading.specs.declared.rows.Previous.{Previous}
@@ -85,3 +90,28 @@ pub record HeadFilled (h : Head) : Type 0 where
   pub sizes : Filled (h .segs) (h .sizes) (zeros mostSegs)
   pub prices : Filled (h .rows) (h .prices) (zeroRows mostRows)
   pub holds : Filled (h .warm) (h .holds) (zeros mostSegs)
+
+-- what was read of a head, with its sizes and its warm segments, is the head
+abbrev pub headWith : HeadRead → List ℕ → List ℕ → Head
+headWith r sizes holds =
+    record {
+      kind = r .kind;
+      a = r .a;
+      segs = r .segs;
+      sizes = sizes;
+      rows = r .rows;
+      prices = r .prices;
+      warm = r .warm;
+      holds = holds;
+    }
+
+-- a refusal, where so many sizes may have been read
+abbrev pub noHead : Refusal → ℕ → HeadRead
+noHead why segs =
+    record { lines = NoLines why; kind = Time; a = 0; segs = segs; rows = 0; prices = zeroRows mostRows; warm = 0 }
+
+-- what was read of a head from the bytes s is what p says, it ends within them, and its lists stand at the front of zeros
+pub record HeadReads (s : List ℕ) (r : HeadRead) (sizes holds : List ℕ) (p : Parsed HeadValue) : Type 0 where
+  pub same : parsedLines s (r .lines) (headValueOf (headWith r sizes holds)) ≡ p
+  pub within : linesNext (r .lines) ≤ length s
+  pub filled : HeadFilled (headWith r sizes holds)

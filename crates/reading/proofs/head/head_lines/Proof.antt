@@ -1,31 +1,33 @@
--- `reading::head::head_lines` meets its contract: the kind, a, and then the sizes and the rows. Assumes nothing.
+-- `reading::head::head_lines` meets its contract: the kind, a, and then the sizes, the rows and the warm segments. Assumes nothing.
 use mathlib.Core.Path.{refl, sym, ap, _∙_}
 use Prim.Native.Nat.{_+_, _≤_}
 use native.Mathlib.Omega.{arith}
 use borrow.Author.Needs.{needs}
 use lib.ListN.{length}
-use Rattle.model.specs.Values.{headValueOf}
-use Rattle.sheet.specs.Lines.{splitAt}
+use Rattle.model.specs.Sheets.{mostSegs}
+use Rattle.model.specs.Values.{zeros}
+use Rattle.sheet.specs.Lines.{refused, splitAt}
 use Rattle.sheet.specs.Order.{headPart}
 use Rattle.reading.specs.inner.AtPlace.{parsedKind, kindNext}
-use Rattle.scan.specs.AtPlace.{parsedNumber, numberNext, parsedLines, linesNext}
-use Rattle.reading.proofs.HeadRead.{head-read}
+use Rattle.scan.specs.AtPlace.{parsedNumber, numberNext, linesNext}
+use Rattle.scan.proofs.Blanks.{filled-start}
 use Rattle.scan.proofs.NumberLines.{number-bounds}
-use Rattle.scan.proofs.Stages.{stage-read, stage-refused, moved-within}
+use Rattle.scan.proofs.Stages.{stage-read, stage-refused}
 use Rattle.scan.proofs.Tails.{tail-place}
+use Rattle.reading.proofs.HeadStages.{head-refused, head-after}
 use Rattle.reading.proofs.head.head_lines.Statement.{statement}
 use Rattle.reading.proofs.head.head_lines.Tie as tie
 
 -- the line kind= ends within the bytes
-first : (c : tie.After-kind) → c .kind .given .0 .1 .0 ≤ length (c .before .before .before .before .args .s .now)
+first : (c : tie.After-kind) → c .kind .given .0 .1 .0 ≤ length (c .before .before .before .before .before .before .args .s .now)
 first c = omega (arith, c .before .before .kind-for .ensures .1, ap kindNext (c .kind .given .1))
 
 -- and so does the line a=
 place : (c : tie.After-n) → (let k = c .before .before .before .before .before .before in
-    k .kind .given .0 .1 .0 + c .n .given .0 .1 .0 ≤ length (k .before .before .before .before .args .s .now))
+    k .kind .given .0 .1 .0 + c .n .given .0 .1 .0 ≤ length (k .before .before .before .before .before .before .args .s .now))
 place c =
     let k = c .before .before .before .before .before .before in
-    tail-place (k .before .before .before .before .args .s .now) (k .kind .given .0 .1 .0) (c .n .given .0 .1 .0) (first k)
+    tail-place (k .before .before .before .before .before .before .args .s .now) (k .kind .given .0 .1 .0) (c .n .given .0 .1 .0) (first k)
     (omega (arith, c .before .before .number-line .ensures .1, ap numberNext (c .n .given .1)))
 
 sub-number-line : tie.Need-sub-number-line
@@ -55,27 +57,24 @@ cast-table-lines c =
 
 after-requires : tie.Need-after-requires
 after-requires c κs =
-    let t = c .before in
-    let w = t .before .before .before in
+    let t = c .before .before .before .before .before in
+    let w = t .before .before .before .before .before in
     let k = w .before .before .before .before .before .before in
-    let s = k .before .before .before .before .args .s .now in
     omega (
       arith,
-      tail-place s (k .kind .given .0 .1 .0 + w .n .given .0 .1 .0) (linesNext (t .table-lines .result .lines)) (place w)
-          (t .table-lines .ensures .1 .0),
+      k .before .before .before .before .before .before .good,
+      tail-place (k .before .before .before .before .before .before .args .s .now) (k .kind .given .0 .1 .0 + w .n .given .0 .1 .0) (linesNext (t .table-lines .result .lines))
+          (place w) (t .table-lines .ensures .within),
     )
 
 returns : tie.Need-returns
 unfolding headPart
 returns c =
     let w = c .before .before in
-    let s = w .before .before .before .before .args .s .now in
-    let nh = c .no-head in
-    let v = headValueOf (nh .result .head) in
-    let e = sym (w .before .before .kind-for .ensures .0) ∙ ap (parsedKind _) (w .why .given .1) in (
-      stage-refused (λ q. q) _ _ _ (parsedLines s (nh .result .lines) v) (ap (λ l. parsedLines s l v) (nh .ensures .0)) e,
-      (omega (arith, ap linesNext (nh .ensures .0)), nh .ensures .1),
-    )
+    let i = w .before .before .before .before .before .before in
+    let e = sym (w .before .before .kind-for .ensures .0) ∙ ap (parsedKind _) (w .why .given .1) in
+    head-refused (i .args .s .now) (c .no-head .result) _ 0 _ _ _ (c .no-head .ensures)
+    (sym (stage-refused (λ q. q) _ _ _ (refused _) refl e)) (filled-start 0 _ (zeros mostSegs) (omega arith) (i .pre .0)) (i .pre .1)
 
 returns-2 : tie.Need-returns-2
 unfolding headPart
@@ -83,34 +82,23 @@ returns-2 c =
     let w = c .before .before in
     let n = w .before .before in
     let k = n .before .before .before .before in
-    let s = k .before .before .before .before .args .s .now in
-    let nh = c .no-head2 in
-    let v = headValueOf (nh .result .head) in
+    let i = k .before .before .before .before .before .before in
+    let s = i .args .s .now in
     let e₁ = sym (k .before .before .kind-for .ensures .0) ∙ ap (parsedKind _) (k .kind .given .1) in
     let e₂ = sym (n .number-line .ensures .0) ∙ ap (parsedNumber _) (w .why2 .given .1) in
-    let r = parsedLines s (nh .result .lines) v in (
-      stage-read (λ q. q) _ _ _ s (k .kind .given .0 .1 .0) r
-          (stage-refused (λ q. q) _ _ _ r (ap (λ l. parsedLines s l v) (nh .ensures .0)) e₂) e₁,
-      (omega (arith, ap linesNext (nh .ensures .0)), nh .ensures .1),
-    )
+    head-refused s (c .no-head2 .result) _ 0 _ _ _ (c .no-head2 .ensures)
+    (sym (stage-read (λ q. q) _ _ _ s (k .kind .given .0 .1 .0) (refused _) (stage-refused (λ q. q) _ _ _ (refused _) refl e₂) e₁))
+    (filled-start 0 _ (zeros mostSegs) (omega arith) (i .pre .0)) (i .pre .1)
 
 returns-3 : tie.Need-returns-3
 returns-3 c =
-    let t = c .before .before in
-    let w = t .before .before .before in
+    let t = c .before .before .before .before .before .before in
+    let w = t .before .before .before .before .before in
     let k = w .before .before .before .before .before .before in
-    let s = k .before .before .before .before .args .s .now in
-    let i = k .kind .given .0 .1 .0 in
-    let j = w .n .given .0 .1 .0 in
-    let m = moved-within s (i + j) (t .table-lines .result .lines) (place w) (t .table-lines .ensures .1 .0) in
     let e₁ = sym (k .before .before .kind-for .ensures .0) ∙ ap (parsedKind _) (k .kind .given .1) in
-    let e₂ = sym (w .before .before .number-line .ensures .0) ∙ ap (parsedNumber _) (w .n .given .1) in (
-      head-read _ _ s i j _ _ (t .table-lines .result .lines) (c .after .result) _ e₁ e₂ (t .table-lines .ensures .0) (c .after .ensures),
-      (
-        omega (arith, ap linesNext (c .after .ensures), m),
-        t .table-lines .ensures .1 .1,
-      ),
-    )
+    let e₂ = sym (w .before .before .number-line .ensures .0) ∙ ap (parsedNumber _) (w .n .given .1) in
+    head-after _ _ (k .before .before .before .before .before .before .args .s .now) (k .kind .given .0 .1 .0) (w .n .given .0 .1 .0) _ _ (t .table-lines .result) (c .after .result)
+    _ _ e₁ e₂ (place w) (t .table-lines .ensures) (c .after .ensures)
 
 pub head-lines-spec : {M : Type 1} → statement M
 head-lines-spec =
@@ -137,4 +125,6 @@ head-lines-spec =
     after-requires
     returns
     returns-2
+    (λ c. search needs)
+    (λ c. search needs)
     returns-3)

@@ -1,13 +1,12 @@
--- `reading::head::no_head` meets its contract: the lists of the empty head are blank. Assumes nothing.
-use mathlib.Core.Path.{refl, sym, subst}
+-- `reading::head::no_head` meets its contract: the repeat is that of the definition. Assumes nothing.
 use borrow.Author.Needs.{needs}
-use Rattle.reading.specs.inner.AtPlace.{HeadFilled}
-use Rattle.reading.proofs.HeadRead.{empty-filled}
+use Rattle.model.specs.Values.{zeroRows}
 use Rattle.reading.proofs.head.no_head.Statement.{statement}
 use Rattle.reading.proofs.head.no_head.Tie as tie
 
 returns : tie.Need-returns
-returns c = (refl, subst HeadFilled (sym (c .empty .ensures)) empty-filled)
+unfolding zeroRows
+returns c = search needs
 
 pub no-head-spec : {M : Type 1} → statement M
-no-head-spec = tie.close (tie.spec (λ c κs. search needs) returns)
+no-head-spec = tie.close (tie.spec returns)
