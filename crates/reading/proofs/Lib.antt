@@ -1,5 +1,2 @@
-pub mod HeadRead
-pub mod HeadStages
-pub mod ReadRows
+pub mod EntriesRead
 pub mod ReadStages
-pub mod ReadWarm

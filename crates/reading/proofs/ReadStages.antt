@@ -19,7 +19,8 @@ use Rattle.sheet.specs.Reading.{accepted, rejected, atEnd, sheetLines, namedFor
 use Rattle.model.specs.Values.{zeros, idles, zeroRows, blankMarks, headOf, headValueOf, sheetOf}
 use Rattle.sheet.specs.Answers.{answerOf}
 use Rattle.scan.specs.AtPlace.{Filled}
-use Rattle.reading.specs.inner.AtPlace.{HeadFilled, formLine}
+use Rattle.reading.specs.inner.AtPlace.{formLine}
+use Rattle.headlines.specs.HeadsAtPlace.{HeadFilled}
 use Rattle.touchlines.specs.TouchesAtPlace.{markCount}
 use Rattle.sheet.specs.declared.SheetAnswer.{SheetAnswer}
 use Rattle.scan.proofs.Blanks.{filled-length, filled-padded}

@@ -1,9 +1,5 @@
 // Reading a sheet: any bytes to the sheet that they stand for, or the refusal; its form, its head, and then the entries of its steps. Each
 // function reads from the head of the bytes that it is lent, and gives the place of what follows. Nothing is assumed.
-pub mod head;
-pub mod rows;
-pub mod warming;
-
 use model::Head;
 use model::Refusal;
 use model::Sheet;
@@ -25,7 +21,8 @@ ghost use Rattle.sheet.specs.Lines.{andThen};
 ghost use Rattle.sheet.specs.Order.{headPart, entriesPart, runPart};
 ghost use Rattle.sheet.specs.Reading.{atEnd, namedForm, readForms, readSheet, rejected};
 ghost use Rattle.scan.specs.AtPlace.{parsedNumber, numberNext, parsedLines, linesNext, Filled};
-ghost use Rattle.reading.specs.inner.AtPlace.{HeadFilled, formLine};
+ghost use Rattle.reading.specs.inner.AtPlace.{formLine};
+ghost use Rattle.headlines.specs.HeadsAtPlace.{HeadFilled};
 ghost use Rattle.touchlines.specs.TouchesAtPlace.{entriesWith, markCount};
 
 // The answer where the bytes are refused.
@@ -186,7 +183,7 @@ fn sheet_lines(s: &[u8], taken: bool, form: u8) -> SheetAnswer
     let mut sizes = blank_sizes();
     let mut holds = blank_sizes();
     let most = sizes.len();
-    let found = head::head_lines(s, taken, 3 <= form, &mut sizes[..most], &mut holds[..most]);
+    let found = headlines::head_lines(s, taken, 3 <= form, &mut sizes[..most], &mut holds[..most]);
     let lines = found.lines;
     match lines {
         LinesRead::Refused(why) => refused(why),

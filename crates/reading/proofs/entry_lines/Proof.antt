@@ -6,7 +6,7 @@ use lib.ListN.{length}
 use Rattle.model.specs.Sheets.{mostSteps}
 use Rattle.model.proofs.Values.{idles-length}
 use Rattle.sheet.specs.Lines.{splitAt}
-use Rattle.reading.proofs.HeadRead.{entries-later, entries-first, marks-first}
+use Rattle.reading.proofs.EntriesRead.{entries-later, entries-first, marks-first}
 use Rattle.reading.proofs.entry_lines.Statement.{statement}
 use Rattle.reading.proofs.entry_lines.Tie as tie
 

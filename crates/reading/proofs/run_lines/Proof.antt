@@ -16,7 +16,7 @@ use Rattle.touchlines.specs.TouchesAtPlace.{entriesWith}
 use Rattle.scan.specs.declared.numbers.LinesRead.the-variants.{Done}
 use Rattle.model.proofs.Values.{zeros-length, idles-length, blank-marks-length}
 use Rattle.scan.proofs.Blanks.{lent-filled}
-use Rattle.reading.proofs.HeadRead.{entries-read}
+use Rattle.reading.proofs.EntriesRead.{entries-read}
 use Rattle.scan.proofs.Stages.{stage-read, stage-refused}
 use Rattle.reading.proofs.ReadStages.{more-bytes, no-bytes, finished}
 use Rattle.touchlines.proofs.ReadTouches.{entries-lent}

@@ -13,9 +13,9 @@ use Rattle.sheet.specs.Answers.{answerOf}
 use Rattle.sheet.specs.Order.{headPart}
 use Rattle.sheet.specs.Reading.{atEnd}
 use Rattle.scan.proofs.Stages.{stage-read, stage-refused}
-use Rattle.reading.specs.inner.AtPlace.{HeadReads}
-use Rattle.reading.proofs.HeadRead.{some-segs}
-use Rattle.reading.proofs.HeadStages.{head-parsed, head-unread, head-place, head-lent}
+use Rattle.headlines.specs.HeadsAtPlace.{HeadReads}
+use Rattle.headlines.proofs.HeadParts.{some-segs}
+use Rattle.headlines.proofs.HeadStages.{head-parsed, head-unread, head-place, head-lent}
 use Rattle.reading.proofs.sheet_lines.Statement.{statement}
 use Rattle.reading.proofs.sheet_lines.Tie as tie
 

@@ -1,0 +1,4 @@
+pub mod HeadParts
+pub mod HeadStages
+pub mod ReadRows
+pub mod ReadWarm
