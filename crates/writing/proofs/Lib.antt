@@ -1,3 +1,2 @@
 pub mod Clamped
 pub mod SheetParts
-pub mod TouchLines

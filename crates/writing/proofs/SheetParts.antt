@@ -12,7 +12,8 @@ use Rattle.model.specs.declared.PriceRow.{PriceRow}
 use Rattle.decimal.specs.Decimal.{written}
 use Rattle.lines.specs.Keys.{formKey, kindKey, aKey, segsKey, sizeKey, rowsKey, warmKey, holdKey, stepsKey, refsKey, refKey, kindWord}
 use Rattle.writing.specs.inner.Parts.{numbersText, rowsText, countedText, formText, segmentsText, pricedText, warmText, headText}
-use Rattle.writing.specs.inner.Parts.{touchesWith, stepsText, runText}
+use Rattle.writing.specs.inner.Parts.{runText}
+use Rattle.touchtext.specs.Steps.{stepsText}
 use Rattle.lines.specs.Texts.{lineText, numberText, linesText}
 use Rattle.sheet.specs.Order.{warmPart, warmFor, formLines, headPart, entriesPart}
 use Rattle.sheet.specs.Parts.{textOf}
@@ -42,13 +43,6 @@ pub head-length : (form : ℕ) (h : HeadValue) → length (headText form h)
     ≡ length (segmentsText (h .kind) (h .a) (h .sizes)) + (length (pricedText (h .rows)) + length (warmText form (h .warm)))
 unfolding headText
 head-length form h = simp length-append
-
--- the lines of the entries of form 2 on
-pub steps-length : (xs : List ℕ) (marks : List Bool) → length (stepsText xs marks)
-    ≡ length (numberText stepsKey (length xs))
-    + (length (numberText refsKey (length (touchesWith xs marks))) + length (touchesText (touchesWith xs marks)))
-unfolding stepsText
-steps-length xs marks = simp length-append
 
 -- by the form: with a form line, warm segments and steps, or without
 module _ (form : ℕ) where

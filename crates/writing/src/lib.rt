@@ -1,7 +1,5 @@
 // Writing a sheet: the length of its text first, then the text part after part, each from an index of the lent place on.
 // What the text is stands in specs/Writing.antt, and what a place becomes in the crates lines and model. Nothing is assumed.
-pub mod touches;
-
 use lines::number_length;
 use lines::put;
 use lines::put_digits;
@@ -130,7 +128,7 @@ fn run_length(form: u8, entries: &[u16], marks: &[bool]) -> usize
     ensures { λ r. ⌜ (r ≡ length (runText form (now (entries .entry)) (now (marks .entry)))) × (r ≤ 65589) ⌝ }
 {
     if 2 <= form {
-        return touches::steps_length(entries, marks);
+        return touchtext::steps_length(entries, marks);
     }
     counted_length(b"refs=", b"ref=", entries)
 }
@@ -260,7 +258,7 @@ fn put_run(form: u8, entries: &[u16], marks: &[bool], out: &mut [u8], at: usize)
     ensures { λ r. ⌜ Put (runText form (now (entries .entry)) (now (marks .entry))) at (now (out .entry)) r (now (out .exit)) ⌝ }
 {
     if 2 <= form {
-        return touches::put_steps(entries, marks, out, at);
+        return touchtext::put_steps(entries, marks, out, at);
     }
     put_counted(b"refs=", b"ref=", entries, out, at)
 }

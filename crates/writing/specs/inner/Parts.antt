@@ -7,10 +7,10 @@ use lib.ListN.{length}
 use Rattle.model.specs.Sheets.{HeadValue}
 use Rattle.model.specs.declared.Kind.{Kind}
 use Rattle.model.specs.declared.PriceRow.{PriceRow}
-use Rattle.lines.specs.Keys.{formKey, kindKey, aKey, segsKey, sizeKey, rowsKey, warmKey, holdKey, stepsKey, refsKey, refKey, kindWord}
+use Rattle.lines.specs.Keys.{formKey, kindKey, aKey, segsKey, sizeKey, rowsKey, warmKey, holdKey, refsKey, refKey, kindWord}
 use Rattle.lines.specs.Texts.{lineText, numberText, linesText}
-use Rattle.sheet.specs.Touches.{Touch, touchesOf, touchesText}
 use Rattle.sheet.specs.Values.{rowText}
+use Rattle.touchtext.specs.Steps.{stepsText}
 
 -- a line for each number
 abbrev pub numbersText : List ℕ → List ℕ → List ℕ
@@ -43,16 +43,6 @@ warmText form holds = cond (leb 3 form) (countedText warmKey holdKey holds) []
 -- a head in a form
 unfoldable pub headText : ℕ → HeadValue → List ℕ
 headText form h = segmentsText (h .kind) (h .a) (h .sizes) ++ (pricedText (h .rows) ++ warmText form (h .warm))
-
--- the touches of entries and of their marks
-abbrev pub touchesWith : List ℕ → List Bool → List Touch
-touchesWith entries marks = touchesOf (record { refs = entries; marks = marks })
-
--- the entries of form 2 on: the line that counts the steps, the line that counts the touches, and the line of each touch
-unfoldable pub stepsText : List ℕ → List Bool → List ℕ
-stepsText entries marks =
-    numberText stepsKey (length entries)
-    ++ (numberText refsKey (length (touchesWith entries marks)) ++ touchesText (touchesWith entries marks))
 
 -- the entries of a form
 unfoldable pub runText : ℕ → List ℕ → List Bool → List ℕ
