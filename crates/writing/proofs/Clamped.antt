@@ -1,53 +1,18 @@
--- The values of a head and of a sheet whose counts are cut off at the lengths of its arrays: they are the same. Assumes nothing.
+-- The value of a sheet whose counts are cut off at the lengths of its arrays: it is the same. Assumes nothing.
 use Prim.Native.Nat.{ℕ, min}
-use mathlib.Core.Path.{_≡_, refl, sym, _∙_}
-use mathlib.Core.Bool.{Bool, true, false}
-use mathlib.Core.List.{List}
-use native.Mathlib.Nat.{min-eq-left}
-use native.Mathlib.Omega.{arith}
-use borrow.Author.Tests.{leb-true, leb-false}
-use lib.Dec.{leb}
+use mathlib.Core.Path.{_≡_}
 use lib.ListN.{length, take}
-use lib.Seq.{take-all}
-use Rattle.model.specs.Sheets.{HeadValue, SheetValue}
+use Rattle.model.specs.Sheets.{SheetValue}
 use Rattle.model.specs.Values.{headValueOf, valueOf}
-use Rattle.model.specs.declared.Head.{Head}
 use Rattle.model.specs.declared.Sheet.{Sheet}
-
--- the value of a head by other counts
-abbrev pub clampedHead : Head → ℕ → ℕ → ℕ → HeadValue
-clampedHead h segs rows warm =
-    record { kind = h .kind; a = h .a; sizes = take segs (h .sizes); rows = take rows (h .prices); warm = take warm (h .holds) }
+use Rattle.headtext.proofs.Clamped.{take-min}
 
 -- the value of a sheet by another count of steps and of marks
 abbrev pub clamped : Sheet → ℕ → ℕ → SheetValue
 clamped s steps marked =
     record { form = s .form; head = headValueOf (s .head); refs = take steps (s .touches); marks = take marked (s .marks) }
 
--- the first n elements are the first of n and the length
-take-min : {A : Type 0} (xs : List A) (n m most : ℕ) → length xs ≡ most → m ≡ min n most → take m xs ≡ take n xs
-take-min xs n m most l e = go (leb n most) refl
-  where
-    go : (b : Bool) → leb n most ≡ b → take m xs ≡ take n xs
-    go true h = rw (e, min-eq-left (leb-true n most h))
-    go false h =
-        let f = leb-false n most h in
-        take-all m xs (omega arith) ∙ sym (take-all n xs (omega arith))
-
--- so a head's value is the same with each count cut off at the length of its array
-pub head-clamped : (h : Head) (segs rows warm : ℕ)
-    → length (h .sizes) ≡ 256 → length (h .prices) ≡ 64 → length (h .holds) ≡ 256
-    → segs ≡ min (h .segs) 256 → rows ≡ min (h .rows) 64 → warm ≡ min (h .warm) 256
-    → clampedHead h segs rows warm ≡ headValueOf h
-unfolding headValueOf
-head-clamped h segs rows warm i j k d e f =
-    rw (
-      take-min (h .sizes) (h .segs) segs 256 i d,
-      take-min (h .prices) (h .rows) rows 64 j e,
-      take-min (h .holds) (h .warm) warm 256 k f,
-    )
-
--- and a sheet's
+-- it is the same with each count cut off at the length of its array
 pub value-clamped : (s : Sheet) (steps marked : ℕ) → length (s .touches) ≡ 2048 → length (s .marks) ≡ 2048 → steps ≡ min (s .steps) 2048
     → marked ≡ min (s .marked) 2048 → clamped s steps marked ≡ valueOf s
 unfolding valueOf

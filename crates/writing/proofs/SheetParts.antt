@@ -1,50 +1,25 @@
 -- The text of a sheet in the parts in which it is written, and the lengths of the parts. Assumes nothing.
-use Prim.Native.Nat.{ℕ, _+_, _≤_}
-use mathlib.Core.Path.{_≡_, refl, ap, _∙_}
+use Prim.Native.Nat.{ℕ, _+_}
+use mathlib.Core.Path.{_≡_, refl}
 use mathlib.Core.Bool.{Bool, true, false, cond}
-use mathlib.Core.List.{List, [], _∷_, _++_, append-assoc, append-nil}
+use mathlib.Core.List.{List, [], _∷_, _++_, append-nil}
 use lib.Dec.{leb}
-use lib.ListN.{length, take, length-append}
-use lib.Seq.{length-take-le}
+use lib.ListN.{length, length-append}
 use Rattle.model.specs.Sheets.{HeadValue, SheetValue}
-use Rattle.model.specs.declared.Kind.{Kind}
-use Rattle.model.specs.declared.PriceRow.{PriceRow}
 use Rattle.decimal.specs.Decimal.{written}
-use Rattle.lines.specs.Keys.{formKey, kindKey, aKey, segsKey, sizeKey, rowsKey, warmKey, holdKey, stepsKey, refsKey, refKey, kindWord}
-use Rattle.writing.specs.inner.Parts.{numbersText, rowsText, countedText, formText, segmentsText, pricedText, warmText, headText}
-use Rattle.writing.specs.inner.Parts.{runText}
-use Rattle.touchtext.specs.Steps.{stepsText}
-use Rattle.lines.specs.Texts.{lineText, numberText, linesText}
-use Rattle.sheet.specs.Order.{warmPart, warmFor, formLines, headPart, entriesPart}
+use Rattle.lines.specs.Keys.{formKey, stepsKey, refsKey, refKey}
+use Rattle.lines.specs.Texts.{numberText, linesText}
+use Rattle.sheet.specs.Order.{formLines, entriesPart}
 use Rattle.sheet.specs.Parts.{textOf}
 use Rattle.sheet.specs.Touches.{Entries, touchesOf, touchesText}
 use Rattle.sheet.specs.Writing.{sheetText}
-use Rattle.sheet.proofs.PartTexts.{sizes-text, prices-text, warm-text, plain-text, steps-text, head-text, entriesText, entriesIn}
-use Rattle.sheet.proofs.PartTexts.{sheet-text}
+use Rattle.sheet.proofs.PartTexts.{plain-text, steps-text, entriesText, entriesIn, sheet-text}
+use Rattle.headtext.specs.Heads.{countedText, headText}
+use Rattle.headtext.proofs.HeadParts.{heads}
+use Rattle.touchtext.specs.Steps.{stepsText}
+use Rattle.writing.specs.inner.Parts.{formText, runText}
 
--- the lines from kind= to the sizes
-pub segments-length : (kind : Kind) (a : ℕ) (sizes : List ℕ) → length (segmentsText kind a sizes)
-    ≡ length (lineText kindKey (kindWord kind)) + (length (numberText aKey a) + length (countedText segsKey sizeKey sizes))
-unfolding segmentsText
-segments-length kind a sizes = simp length-append
-
--- the lines of the first n rows, with their count
-pub priced-text : (qs : List PriceRow) (n : ℕ) → n ≤ length qs → pricedText (take n qs) ≡ numberText rowsKey n ++ rowsText (take n qs)
-unfolding pricedText
-priced-text qs n h = rw (length-take-le n qs h)
-
--- and their length
-pub priced-length : (qs : List PriceRow) (n : ℕ) → n ≤ length qs
-    → length (pricedText (take n qs)) ≡ length (numberText rowsKey n) + length (rowsText (take n qs))
-priced-length qs n h = rw (priced-text qs n h) (length-append (numberText rowsKey n) (rowsText (take n qs)))
-
--- a head
-pub head-length : (form : ℕ) (h : HeadValue) → length (headText form h)
-    ≡ length (segmentsText (h .kind) (h .a) (h .sizes)) + (length (pricedText (h .rows)) + length (warmText form (h .warm)))
-unfolding headText
-head-length form h = simp length-append
-
--- by the form: with a form line, warm segments and steps, or without
+-- by the form: with a form line and steps, or without
 module _ (form : ℕ) where
   pub form-later : leb 2 form ≡ true → formText form ≡ numberText formKey form
   unfolding formText
@@ -53,14 +28,6 @@ module _ (form : ℕ) where
   pub form-first : leb 2 form ≡ false → formText form ≡ []
   unfolding formText
   form-first e = rw e
-
-  pub warm-later : (xs : List ℕ) → leb 3 form ≡ true → warmText form xs ≡ countedText warmKey holdKey xs
-  unfolding warmText
-  warm-later xs e = rw e
-
-  pub warm-first : (xs : List ℕ) → leb 3 form ≡ false → warmText form xs ≡ []
-  unfolding warmText
-  warm-first xs e = rw e
 
   pub run-later : (xs : List ℕ) (marks : List Bool) → leb 2 form ≡ true → runText form xs marks ≡ stepsText xs marks
   unfolding runText
@@ -78,31 +45,6 @@ form-text form = go (leb 2 form)
     go : (b : Bool) → textOf (cond b ((formKey, written form) ∷ []) []) ≡ cond b (numberText formKey form) []
     go true = append-nil (numberText formKey form)
     go false = refl
-
--- the warm segments
-warm : (form segs : ℕ) (xs : List ℕ) → textOf (warmFor (leb 3 form) segs .lines xs) ≡ warmText form xs
-unfolding warmText linesText
-warm form segs xs = go (leb 3 form)
-  where
-    go : (b : Bool) → textOf (warmFor b segs .lines xs) ≡ cond b (countedText warmKey holdKey xs) []
-    go true = warm-text segs xs
-    go false = refl
-
--- texts in the parts of a head and in those that are written
-joined : (a b c d e : List ℕ) → a ++ (b ++ ((c ++ d) ++ e)) ≡ (a ++ (b ++ (c ++ d))) ++ e
-joined a b c d e = simp append-assoc
-
--- the head
-heads : (form : ℕ) (h : HeadValue) → textOf (headPart true (leb 3 form) .lines h) ≡ headText form h
-unfolding headText segmentsText pricedText
-heads form h =
-    rw (head-text true (leb 3 form) h, sizes-text (h .sizes), prices-text (h .rows), warm form (length (h .sizes)) (h .warm))
-    (joined
-    (lineText kindKey (kindWord (h .kind)))
-    (numberText aKey (h .a))
-    (numberText segsKey (length (h .sizes)))
-    (numbersText sizeKey (h .sizes))
-    ((numberText rowsKey (length (h .rows)) ++ rowsText (h .rows)) ++ warmText form (h .warm)))
 
 -- the entries
 runs : (form : ℕ) (h : HeadValue) (e : Entries) → entriesText form h e ≡ runText form (e .refs) (e .marks)
