@@ -40,7 +40,7 @@ pub fn sheet_listing(s: Sheet, out: &mut [u8]) -> PlaceAnswer
     let all = rows::all_figures(s);
     let refs = sheet_refs(s);
     let mut totals = modtotals::no_modtotals();
-    if report::has_modtotal(s.form) {
+    if rowtext::has_modtotal(s.form) {
         totals = modtotals::all_modtotals(s, all);
     }
     report::write(

@@ -1,3 +1,2 @@
 pub mod ListingMost
 pub mod ListingParts
-pub mod RowLines

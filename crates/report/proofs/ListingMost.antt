@@ -24,10 +24,10 @@ use Rattle.lines.proofs.Lengths.{line-length}
 use Rattle.model.specs.Sums.{tabulate}
 use Rattle.figures.specs.Rows.{figuresAt}
 use Rattle.model.proofs.Tables.{length-tabulate, getD-tabulate}
-use Rattle.report.specs.Listing.{hKey, dKey, missesKey, volumeKey, loadKey, optmemKey, opttotalKey, optoccKey, wsmemKey, wsoccKey}
-use Rattle.report.specs.Listing.{meanKey, modtotalKey, refusedKey, refusedText, rowListing, modListing, stepsListing}
-use Rattle.report.specs.Listing.{listing, olderListing, mostListing, listingBytes, listingOf}
-use Rattle.report.specs.inner.Parts.{markedText, headText}
+use Rattle.rowtext.specs.RowListing.{hKey, dKey, missesKey, volumeKey, loadKey, optmemKey, opttotalKey, optoccKey, wsmemKey, wsoccKey}
+use Rattle.rowtext.specs.RowListing.{meanKey, modtotalKey, rowListing, modListing, markedText}
+use Rattle.report.specs.Listing.{refusedKey, refusedText, stepsListing, listing, olderListing, mostListing, listingBytes, listingOf}
+use Rattle.report.specs.inner.Parts.{headText}
 use Rattle.lines.specs.Keys.{refsKey, stepsKey, segsKey, rowsKey}
 use Rattle.bounds.proofs.FigureBounds.{
   allSizes,
@@ -44,8 +44,9 @@ use Rattle.bounds.proofs.FigureBounds.{
 use Rattle.stores.specs.Rows.{rowModtotal}
 use Rattle.stores.specs.Stores.{modtotal}
 use Rattle.stores.proofs.Within.{modAdded-within}
-use Rattle.report.proofs.ListingParts.{three-length, row-length, marked-length, counts-length, head-length, listing-length}
-use Rattle.report.proofs.RowLines.{rows-most}
+use Rattle.rowtext.proofs.RowLines.{rows-most}
+use Rattle.rowtext.proofs.RowParts.{three-length, row-length, marked-length}
+use Rattle.report.proofs.ListingParts.{counts-length, head-length, listing-length}
 
 -- the digits that the figures of a row can have
 pub record Digits (f : RowFigures) : Type 0 where

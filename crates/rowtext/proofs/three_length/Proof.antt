@@ -1,9 +1,9 @@
--- `report::three_length` meets its contract: the three lengths are added. Assumes nothing.
+-- `rowtext::three_length` meets its contract: the three lengths are added. Assumes nothing.
 use native.Mathlib.Omega.{arith}
 use borrow.Author.Needs.{needs}
-use Rattle.report.proofs.ListingParts.{three-length}
-use Rattle.report.proofs.three_length.Statement.{statement}
-use Rattle.report.proofs.three_length.Tie as tie
+use Rattle.rowtext.proofs.RowParts.{three-length}
+use Rattle.rowtext.proofs.three_length.Statement.{statement}
+use Rattle.rowtext.proofs.three_length.Tie as tie
 
 returns : tie.Need-returns
 returns c =

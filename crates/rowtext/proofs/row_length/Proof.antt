@@ -1,9 +1,9 @@
--- `report::row_length` meets its contract: the lengths of the parts are added. Assumes nothing.
+-- `rowtext::row_length` meets its contract: the lengths of the parts are added. Assumes nothing.
 use native.Mathlib.Omega.{arith}
 use borrow.Author.Needs.{needs}
-use Rattle.report.proofs.ListingParts.{row-length}
-use Rattle.report.proofs.row_length.Statement.{statement}
-use Rattle.report.proofs.row_length.Tie as tie
+use Rattle.rowtext.proofs.RowParts.{row-length}
+use Rattle.rowtext.proofs.row_length.Statement.{statement}
+use Rattle.rowtext.proofs.row_length.Tie as tie
 
 returns : tie.Need-returns
 returns c =

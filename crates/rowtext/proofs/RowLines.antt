@@ -13,8 +13,7 @@ use Rattle.model.specs.Rows.{zeroFigures}
 use Rattle.model.specs.declared.RowFigures.{RowFigures}
 use Rattle.lines.specs.Texts.{linesText}
 use Rattle.lines.proofs.Runs.{each-of, lines-length, lines-next, lines-room}
-use Rattle.report.specs.Listing.{rowListing, modListing, rowsListing}
-use Rattle.report.specs.inner.Parts.{markedText}
+use Rattle.rowtext.specs.RowListing.{rowListing, modListing, rowsListing, markedText}
 
 -- ---- the rows as a run of lines
 

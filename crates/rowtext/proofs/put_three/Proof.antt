@@ -1,11 +1,11 @@
--- `report::put_three` meets its contract: the lines are put one after another. Assumes nothing.
+-- `rowtext::put_three` meets its contract: the lines are put one after another. Assumes nothing.
 use native.Mathlib.Omega.{arith}
 use borrow.Author.Needs.{needs}
 use Rattle.lines.proofs.Putting.{put-then}
-use Rattle.report.specs.inner.Parts.{threeText}
-use Rattle.report.proofs.ListingParts.{three-length}
-use Rattle.report.proofs.put_three.Statement.{statement}
-use Rattle.report.proofs.put_three.Tie as tie
+use Rattle.rowtext.specs.RowListing.{threeText}
+use Rattle.rowtext.proofs.RowParts.{three-length}
+use Rattle.rowtext.proofs.put_three.Statement.{statement}
+use Rattle.rowtext.proofs.put_three.Tie as tie
 
 put-number-requires : tie.Need-put-number-requires
 put-number-requires c κs =

@@ -1,12 +1,12 @@
--- `report::put_marked` meets its contract: the row is put, and where the form has it modtotal= after it. Assumes nothing.
+-- `rowtext::put_marked` meets its contract: the row is put, and where the form has it modtotal= after it. Assumes nothing.
 use mathlib.Core.Path.{sym, ap, _∙_}
 use native.Mathlib.Omega.{arith}
 use borrow.Author.Needs.{needs}
 use lib.ListN.{length}
 use Rattle.lines.proofs.Putting.{put-then, put-same}
-use Rattle.report.proofs.ListingParts.{modtotal-with, marked-with, marked-without, marked-length}
-use Rattle.report.proofs.put_marked.Statement.{statement}
-use Rattle.report.proofs.put_marked.Tie as tie
+use Rattle.rowtext.proofs.RowParts.{modtotal-with, marked-with, marked-without, marked-length}
+use Rattle.rowtext.proofs.put_marked.Statement.{statement}
+use Rattle.rowtext.proofs.put_marked.Tie as tie
 
 put-row-requires : tie.Need-put-row-requires
 put-row-requires c κs =

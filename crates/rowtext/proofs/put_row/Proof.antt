@@ -1,10 +1,10 @@
--- `report::put_row` meets its contract: the parts are put one after another. Assumes nothing.
+-- `rowtext::put_row` meets its contract: the parts are put one after another. Assumes nothing.
 use native.Mathlib.Omega.{arith}
 use borrow.Author.Needs.{needs}
 use Rattle.lines.proofs.Putting.{put-then, put-same}
-use Rattle.report.proofs.ListingParts.{row-length, row-parts}
-use Rattle.report.proofs.put_row.Statement.{statement}
-use Rattle.report.proofs.put_row.Tie as tie
+use Rattle.rowtext.proofs.RowParts.{row-length, row-parts}
+use Rattle.rowtext.proofs.put_row.Statement.{statement}
+use Rattle.rowtext.proofs.put_row.Tie as tie
 
 put-number-requires : tie.Need-put-number-requires
 put-number-requires c κs = omega (arith, row-length (c .before .before .before .args .f))

@@ -1,4 +1,4 @@
--- `report::put_rows` meets its contract. The loop's invariant: the lines of the rows passed are put from `at` on.
+-- `rowtext::put_rows` meets its contract. The loop's invariant: the lines of the rows passed are put from `at` on.
 -- Assumes nothing.
 use mathlib.Core.Path.{_≡_, refl, sym}
 use Prim.Native.Nat.{_-_, _≤_}
@@ -8,10 +8,10 @@ use lib.Dec.{leb}
 use lib.ListN.{length, take}
 use Rattle.lines.specs.Puts.{Put}
 use Rattle.lines.proofs.Putting.{put-nothing, put-same, put-then}
-use Rattle.report.specs.Listing.{rowsListing}
-use Rattle.report.proofs.RowLines.{rows-next, rows-room}
-use Rattle.report.proofs.put_rows.Statement.{statement}
-use Rattle.report.proofs.put_rows.Tie as tie
+use Rattle.rowtext.specs.RowListing.{rowsListing}
+use Rattle.rowtext.proofs.RowLines.{rows-next, rows-room}
+use Rattle.rowtext.proofs.put_rows.Statement.{statement}
+use Rattle.rowtext.proofs.put_rows.Tie as tie
 
 abbrev Inv-loop : tie.InvT-loop
 Inv-loop form n out₀ at figures modtotals next₀ i₀ out next i =

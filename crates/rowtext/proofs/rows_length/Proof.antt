@@ -1,4 +1,4 @@
--- `report::rows_length` meets its contract. The loop's invariant: `sum` is the length of the lines of the rows passed.
+-- `rowtext::rows_length` meets its contract. The loop's invariant: `sum` is the length of the lines of the rows passed.
 -- Assumes nothing.
 use mathlib.Core.Path.{_≡_, refl}
 use Prim.Native.Nat.{_*_, _-_, _≤_}
@@ -7,11 +7,11 @@ use borrow.Author.Needs.{needs}
 use lib.Dec.{leb}
 use lib.ListN.{length, take, getD}
 use Rattle.model.specs.Rows.{zeroFigures}
-use Rattle.report.specs.Listing.{rowsListing}
-use Rattle.report.proofs.ListingParts.{marked-length}
-use Rattle.report.proofs.RowLines.{rows-sum}
-use Rattle.report.proofs.rows_length.Statement.{statement}
-use Rattle.report.proofs.rows_length.Tie as tie
+use Rattle.rowtext.specs.RowListing.{rowsListing}
+use Rattle.rowtext.proofs.RowParts.{marked-length}
+use Rattle.rowtext.proofs.RowLines.{rows-sum}
+use Rattle.rowtext.proofs.rows_length.Statement.{statement}
+use Rattle.rowtext.proofs.rows_length.Tie as tie
 
 abbrev Inv-loop : tie.InvT-loop
 Inv-loop form n figures modtotals sum₀ i₀ sum i =

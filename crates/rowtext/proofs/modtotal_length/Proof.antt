@@ -1,11 +1,11 @@
--- `report::modtotal_length` meets its contract: the length of modtotal= where the form has it. Assumes nothing.
+-- `rowtext::modtotal_length` meets its contract: the length of modtotal= where the form has it. Assumes nothing.
 use mathlib.Core.Path.{sym, ap, _∙_}
 use native.Mathlib.Omega.{arith}
 use borrow.Author.Needs.{needs}
 use lib.ListN.{length}
-use Rattle.report.proofs.ListingParts.{modtotal-with, modtotal-without}
-use Rattle.report.proofs.modtotal_length.Statement.{statement}
-use Rattle.report.proofs.modtotal_length.Tie as tie
+use Rattle.rowtext.proofs.RowParts.{modtotal-with, modtotal-without}
+use Rattle.rowtext.proofs.modtotal_length.Statement.{statement}
+use Rattle.rowtext.proofs.modtotal_length.Tie as tie
 
 returns : tie.Need-returns
 returns c =
