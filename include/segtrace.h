@@ -135,10 +135,10 @@ uint64_t segtrace_size(const uint8_t *sheet, size_t sheet_length, uint64_t ceili
 
 /*
  * The misses of least-recently-used replacement with 1, 2, .., segs frames, at the front of `out`, and how many numbers, segs: for a sheet
- * of any form with every size 1 and no warm segment, from stack distances in one pass. Idle steps play no part. `looked` gets how many
- * entries of the recency list the pass looks at: on a touch those from the most recent up to its segment, on a first touch all; never more
- * than refs times the number of distinct segments touched. The sheet's refusals, 26 where a size is not 1, 27 where a warm segment is
- * named, 11. SEGTRACE_SEGS numbers always suffice.
+ * of any form with every size 1 and no warm segment, from stack distances in one pass. Idle steps play no part. `looked` gets how far
+ * the recency list of the segments touched so far is walked, in entries: on a touch those from the most recent up to its segment, on a
+ * first touch all; never more than refs times the number of distinct segments touched. The sheet's refusals, 26 where a size is not 1,
+ * 27 where a warm segment is named, 11. SEGTRACE_SEGS numbers always suffice.
  */
 uint64_t segtrace_lru(const uint8_t *sheet, size_t sheet_length, uint64_t *out, size_t out_length, uint64_t *written, uint64_t *looked);
 

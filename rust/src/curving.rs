@@ -7,7 +7,8 @@ use crate::{c, Refusal, SEGS};
 pub struct Lru {
     /// The misses with 1, 2, .., segs frames.
     pub misses: Vec<u64>,
-    /// How many entries of the recency list the pass looked at: at most refs times the number of distinct segments touched.
+    /// How far the recency list is walked, in entries: on a touch those from the most recent up to its segment, on a first touch all. At
+    /// most refs times the number of distinct segments touched.
     pub looked: u64,
 }
 

@@ -56,7 +56,7 @@ returns c =
     let s = Begin r in
     let whole = r .reuses .ensures in
     points-short (runIn s) (s .pre) _ _ _ _ (whole .0) (Sorted t .sorted-keys .ensures) _ _ (whole .1 .0) (whole .1 .1)
-    (now (s .args .out)) _ (t .count-points .ensures) (c .if1 .taken)
+    (now (s .args .out)) _ (t .count-points .ensures) (omega (arith, c .if1 .taken))
 
 write-points-requires : tie.Need-write-points-requires
 write-points-requires c κs =

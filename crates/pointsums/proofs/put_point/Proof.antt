@@ -20,7 +20,7 @@ slice-write-out-3 c =
 slice-write-out-4 : tie.Need-slice-write-out-4
 slice-write-out-4 c =
     let a = c .args in
-    inside (set (set (now (a .out)) (a .at) (a .r)) (a .at + 1) (a .w)) (a .at + 2) (a .memory) (a .at + 3)
+    inside (set (set (now (a .out)) (a .at) (a .r)) (a .at + 1) (a .w)) (a .at + 2) _ (a .at + 3)
     (inside (set (now (a .out)) (a .at) (a .r)) (a .at + 1) (a .w) (a .at + 3)
     (inside (now (a .out)) (a .at) (a .r) (a .at + 3) (omega arith)))
 
