@@ -13,7 +13,7 @@ use Rattle.model.specs.Traces.{Trace, swapOf, unreferenced}
 use Rattle.model.specs.Figures.{isReuse, retentionOf, kept}
 use Rattle.model.specs.Sheets.{RowsWithin, rowIn}
 use Rattle.model.specs.declared.PriceRow.{PriceRow}
-use Rattle.figures.specs.Buckets.{bucketCount, bucketOf}
+use Rattle.buckets.specs.Buckets.{bucketCount, bucketOf}
 use Rattle.search.specs.FirstRow.{lastBucket, firstRow}
 use Rattle.search.proofs.Halving.{Lasts}
 use Rattle.search.proofs.FirstRow.{keepsAt, keeps-after}

@@ -16,7 +16,7 @@ use Rattle.model.specs.Sheets.{RowsWithin, rowIn}
 use Rattle.model.specs.declared.PriceRow.{PriceRow}
 use Rattle.model.proofs.Sums.{sum-none, sum-suc, sum-eq, sum-add, sum-zero, sum-at}
 use Rattle.model.proofs.Loads.{overTouches-eq}
-use Rattle.figures.specs.Buckets.{bucketCount, bucketOf, filed, ended, tallyOf, bucketAfter, noBucket}
+use Rattle.buckets.specs.Buckets.{bucketCount, bucketOf, filed, ended, tallyOf, bucketAfter, noBucket}
 use Rattle.model.proofs.Tables.{getD-tabulate}
 use Rattle.figures.proofs.BucketRows.{bucket-kept, bucket-within}
 

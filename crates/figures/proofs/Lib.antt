@@ -1,12 +1,8 @@
 pub mod BucketRows
-pub mod Ending
 pub mod Filed
-pub mod Filling
 pub mod Limits
-pub mod Passing
 pub mod Starts
 pub mod Sweeping
 pub mod Sweeps
 pub mod SweptRows
-pub mod Touches
 pub mod WorkingSets

@@ -20,10 +20,10 @@ use Rattle.model.proofs.Sums.{sum-within}
 use Rattle.model.proofs.Bounds.{product-within, unit-within}
 use Rattle.model.proofs.FirstTouches.{started}
 use Rattle.model.proofs.LastTouches.{unreferenced-within}
-use Rattle.figures.specs.Buckets.{bucketCount, bucketOf, filed, ended, bucketAfter, tallyOf, noBucket}
-use Rattle.figures.specs.inner.Pass.{Within, Roomy, passedAfter, passedOf}
+use Rattle.buckets.specs.Buckets.{bucketCount, bucketOf, filed, ended, bucketAfter, tallyOf, noBucket}
+use Rattle.buckets.specs.Pass.{Within, Roomy, passedAfter, passedOf}
 use Rattle.figures.specs.inner.Sweep.{summed, withStart, byKind, largestSwap, retentionBound, mostItems, Holds}
-use Rattle.figures.specs.declared.Bucket.{Bucket}
+use Rattle.buckets.specs.declared.Bucket.{Bucket}
 use Rattle.model.proofs.Tables.{getD-tabulate}
 use Rattle.figures.proofs.Filed.{filed-below, ended-below}
 use Rattle.figures.proofs.Sweeps.{bucketBy, space-of, summed-buckets, summed-ends}

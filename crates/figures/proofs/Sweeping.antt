@@ -18,12 +18,12 @@ use Rattle.model.specs.declared.Kind.the-variants.{Time, Space}
 use Rattle.model.specs.Rows.{zeroFigures}
 use Rattle.model.specs.declared.PriceRow.{PriceRow}
 use Rattle.model.specs.declared.RowFigures.{RowFigures}
-use Rattle.figures.specs.Buckets.{bucketCount}
+use Rattle.buckets.specs.Buckets.{bucketCount}
 use Rattle.model.specs.Sums.{tabulate}
 use Rattle.figures.specs.Rows.{figuresIn, runFigures}
 use Rattle.figures.specs.inner.Sweep.{summed, withStart, byKind, rowFrom, noRowFigures, mostItems, Holds, RowFits, Tallied}
-use Rattle.figures.specs.declared.Bucket.{Bucket}
-use Rattle.figures.specs.declared.Tally.{Tally}
+use Rattle.buckets.specs.declared.Bucket.{Bucket}
+use Rattle.buckets.specs.declared.Tally.{Tally}
 use Rattle.figures.specs.declared.rows.StartSwaps.{StartSwaps}
 use Rattle.figures.proofs.Limits.{buckets-hold, ends-hold, start-holds, cost-within, volume-within, wsocc-within}
 use Rattle.figures.proofs.Sweeps.{bucketBy, all-sums, kept-sums, ends-sums}

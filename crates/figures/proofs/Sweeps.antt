@@ -15,9 +15,9 @@ use Rattle.model.specs.declared.Kind.{Kind}
 use Rattle.model.specs.declared.Kind.the-variants.{Time, Space}
 use Rattle.model.specs.declared.PriceRow.{PriceRow}
 use Rattle.model.proofs.Sums.{sum-eq}
-use Rattle.figures.specs.Buckets.{bucketCount, filed, ended, bucketAfter, endBucket, tallyOf, noBucket}
+use Rattle.buckets.specs.Buckets.{bucketCount, filed, ended, bucketAfter, endBucket, tallyOf, noBucket}
 use Rattle.figures.specs.inner.Sweep.{added, summed, byKind, Holds}
-use Rattle.figures.specs.declared.Bucket.{Bucket}
+use Rattle.buckets.specs.declared.Bucket.{Bucket}
 use Rattle.model.proofs.Tables.{getD-tabulate}
 use Rattle.figures.proofs.Filed.{filed-all, filed-kept, ended-kept}
 

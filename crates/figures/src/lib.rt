@@ -1,6 +1,5 @@
-// The figures of all rows of a sheet from one pass over its references.
+// The figures of all rows of a sheet from one pass over its references, that of crate `buckets`.
 // Every item is the definition's of crate `model`; nothing is assumed.
-pub mod pass;
 pub mod rows;
 
 use model::Head;
@@ -12,35 +11,6 @@ ghost use Prim.Native.Nat.{_≤_};
 ghost use Rattle.model.specs.Sheets.{RowsWithin, RunWithin, headRun, mostSegs, mostRows};
 ghost use Rattle.model.specs.Values.{headValueOf};
 ghost use Rattle.figures.specs.Rows.{runFigures};
-
-// A bucket: how many touches it holds, their sizes, retentions and swap costs added, the last two also with each item multiplied by
-// its size.
-pub struct Bucket {
-    pub count: u64,
-    pub volume: u64,
-    pub retention: u64,
-    pub swap: u64,
-    pub retentionz: u64,
-    pub swapz: u64,
-}
-
-impl Bucket {
-    // How many sums.
-    pub const SUMS: usize = 6;
-}
-
-// What the pass hands over: a bucket per row and the last, for touches and for end intervals.
-pub struct Tally {
-    pub buckets: [Bucket; Tally::BUCKETS],
-    pub ends: [Bucket; Tally::BUCKETS],
-}
-
-impl Tally {
-    // How many buckets: one per row, and the last.
-    pub const BUCKETS: usize = Sheet::MAX_ROWS + 1;
-    // The last bucket: first touches of segments that are not warm, and reuses that no row keeps.
-    pub const LAST: usize = search::LAST;
-}
 
 // The figures of a row, all zero where a call is refused.
 pub struct FiguresAnswer {
@@ -64,6 +34,6 @@ pub fn figures(head: Head, refs: &[u16]) -> [RowFigures; Sheet::MAX_ROWS]
     let holds = head.holds;
     let count = head.warm;
     let warm = &holds[..count];
-    let tally = pass::tally(kind, a, prices, rows, sizes, warm, refs);
+    let tally = buckets::pass::tally(kind, a, prices, rows, sizes, warm, refs);
     rows::all_rows(kind, a, prices, rows, sizes, warm, refs, tally)
 }

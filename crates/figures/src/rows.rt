@@ -1,7 +1,7 @@
 // The figures of every row from the buckets of the pass: one sweep over the rows with running sums.
 // Nothing is assumed.
-use crate::Bucket;
-use crate::Tally;
+use buckets::Bucket;
+use buckets::Tally;
 use model::Kind;
 use model::LoadUnits;
 use model::MemoryUnits;
@@ -15,7 +15,7 @@ ghost use lib.Dec.{eqb};
 ghost use lib.ListN.{length, take};
 ghost use Rattle.model.specs.Costs.{swapCost};
 ghost use Rattle.model.specs.Sheets.{runOf, mostSteps, mostSegs, largestSize, mostRows};
-ghost use Rattle.figures.specs.Buckets.{bucketCount, noBucket};
+ghost use Rattle.buckets.specs.Buckets.{bucketCount, noBucket};
 ghost use Rattle.figures.specs.Rows.{runFigures};
 ghost use Rattle.figures.specs.inner.Sweep.{added, summed, startSwaps, withStart, byKind, wsmemFrom, wsspaceFrom, meanFrom, rowFrom};
 ghost use Rattle.figures.specs.inner.Sweep.{noRowFigures, mostItems, Holds, KeptWithin, Summable, RowFits, Tallied};

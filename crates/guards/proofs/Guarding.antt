@@ -5,10 +5,10 @@ use mathlib.Core.List.{List}
 use native.Mathlib.Omega.{arith}
 use lib.ListN.{getD}
 use Rattle.model.specs.Sheets.{mostSteps}
-use Rattle.figures.specs.inner.Pass.{Within}
-use Rattle.figures.specs.Buckets.{noBucket}
+use Rattle.buckets.specs.Pass.{Within}
+use Rattle.buckets.specs.Buckets.{noBucket}
 use Rattle.figures.specs.inner.Sweep.{added, summed, Holds}
-use Rattle.figures.specs.declared.Bucket.{Bucket}
+use Rattle.buckets.specs.declared.Bucket.{Bucket}
 use Rattle.figures.proofs.Sweeps.{summed-suc, summed-more}
 
 -- two buckets whose sum holds at most 2,048 items have room

@@ -1,15 +1,15 @@
 // Sums and tests with which a recorder put together by hand, with any numbers in it, makes no sum exceed 64 bits. A recorder that stands
 // for a sheet passes every test. Nothing is assumed.
-use figures::Bucket;
-use figures::Tally;
-use figures::pass::Touch;
+use buckets::Bucket;
+use buckets::Tally;
+use buckets::pass::Touch;
 use figures::rows::StartSwaps;
 use model::Sheet;
 ghost use mathlib.Core.Path.{_≡_};
 ghost use Prim.Native.Nat.{ℕ, _+_, _≤_, _^_, min};
-ghost use Rattle.figures.specs.Buckets.{bucketCount};
+ghost use Rattle.buckets.specs.Buckets.{bucketCount};
 ghost use Rattle.model.specs.Sheets.{mostSteps, mostSegs};
-ghost use Rattle.figures.specs.inner.Pass.{Limited, Within, Roomy, withTouch};
+ghost use Rattle.buckets.specs.Pass.{Limited, Within, Roomy, withTouch};
 ghost use Rattle.figures.specs.inner.Sweep.{added, summed, withStart, mostItems, Holds, KeptWithin};
 ghost use Rattle.guards.specs.inner.Tests.{Tells};
 
@@ -108,7 +108,7 @@ pub fn file(b: Bucket, x: Touch) -> Bucket
     ensures { λ r. ⌜ (Within b (2 ^ 60) → r ≡ withTouch b x) ⌝ }
 {
     if has_room(b) {
-        return figures::pass::add_touch(b, x);
+        return buckets::pass::add_touch(b, x);
     }
     b
 }

@@ -13,10 +13,10 @@ use Rattle.model.specs.declared.Verdict.the-variants.{Accepted, Refused}
 use Rattle.model.specs.declared.Kind.{Kind}
 use Rattle.model.specs.declared.Kind.the-variants.{Time, Space}
 use Rattle.model.specs.declared.PriceRow.{PriceRow}
-use Rattle.figures.specs.Buckets.{bucketCount}
+use Rattle.buckets.specs.Buckets.{bucketCount}
 use Rattle.model.specs.Sums.{tabulate}
-use Rattle.figures.specs.Buckets.{noBucket}
-use Rattle.figures.specs.declared.Bucket.{Bucket}
+use Rattle.buckets.specs.Buckets.{noBucket}
+use Rattle.buckets.specs.declared.Bucket.{Bucket}
 use Rattle.model.proofs.Tables.{length-tabulate, list-tabulate}
 use Rattle.recorder.specs.Recorders.{recorderOf, appended, rested, withStep, stepVerdict, Rested}
 use Rattle.recorder.specs.declared.Recorder.{Recorder}

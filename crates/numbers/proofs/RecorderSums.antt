@@ -8,10 +8,10 @@ use native.Mathlib.Numerals.{add-one}
 use lib.ListN.{length, getD, take, set, length-set}
 use lib.Seq.{take-all, take-suc-set, take-suc, getD-set-same, getD-set-other}
 use Rattle.model.proofs.Sums.{last-or-below}
-use Rattle.figures.specs.Buckets.{bucketCount}
+use Rattle.buckets.specs.Buckets.{bucketCount}
 use Rattle.model.specs.Sums.{tabulate}
-use Rattle.figures.specs.Buckets.{noBucket}
-use Rattle.figures.specs.declared.Bucket.{Bucket}
+use Rattle.buckets.specs.Buckets.{noBucket}
+use Rattle.buckets.specs.declared.Bucket.{Bucket}
 use Rattle.model.proofs.Tables.{list-tabulate}
 use Rattle.numbers.specs.Recorders.{bucketIn, sumsOf}
 

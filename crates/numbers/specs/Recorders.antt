@@ -9,8 +9,8 @@ use Rattle.model.specs.Sums.{tabulate}
 use Rattle.model.specs.declared.Kind.{Kind}
 use Rattle.model.specs.declared.Kind.the-variants.{Time, Space}
 use Rattle.model.specs.declared.PriceRow.{PriceRow}
-use Rattle.figures.specs.Buckets.{bucketCount}
-use Rattle.figures.specs.declared.Bucket.{Bucket}
+use Rattle.buckets.specs.Buckets.{bucketCount}
+use Rattle.buckets.specs.declared.Bucket.{Bucket}
 use Rattle.recorder.specs.declared.Recorder.{Recorder}
 
 -- kind time is 0

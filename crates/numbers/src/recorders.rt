@@ -1,7 +1,7 @@
 // A recorder in lists of numbers, and the recorder that such lists hold, whatever the numbers are.
 // The lists are written in specs/Recorders.antt; nothing is assumed.
-use figures::Bucket;
-use figures::Tally;
+use buckets::Bucket;
+use buckets::Tally;
 use model::Head;
 use model::Kind;
 use model::PriceRow;
@@ -13,7 +13,7 @@ ghost use Prim.Native.Nat.{min};
 ghost use lib.ListN.{length, getD};
 ghost use Rattle.model.specs.Sheets.{mostRows};
 ghost use Rattle.model.specs.Sums.{tabulate};
-ghost use Rattle.figures.specs.Buckets.{bucketCount};
+ghost use Rattle.buckets.specs.Buckets.{bucketCount};
 ghost use Rattle.numbers.specs.Recorders.{kindIn, kindNumber, rowsOf, bucketIn, sumsOf, lists, recorderIn, idleCounts};
 ghost use Rattle.recorder.specs.Recorders.{stepVerdict};
 ghost use Rattle.numbers.specs.inner.Stored.{pricesOf, HeadStored, TakenStored};
@@ -88,7 +88,7 @@ fn split(rows: [PriceRow; Sheet::MAX_ROWS]) -> Prices
 fn buckets_of(sums: &[u64; Bucket::SUMS * Tally::BUCKETS]) -> [Bucket; Tally::BUCKETS]
     ensures { λ r. ⌜ r ≡ tabulate bucketCount (bucketIn (now (sums .entry))) ⌝ }
 {
-    let mut buckets = figures::pass::empty_buckets();
+    let mut buckets = buckets::pass::empty_buckets();
     let mut k = 0;
     while k < Tally::BUCKETS {
         let at = Bucket::SUMS * k;

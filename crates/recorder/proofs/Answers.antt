@@ -19,10 +19,10 @@ use Rattle.model.specs.declared.Verdict.{Verdict}
 use Rattle.model.specs.declared.Verdict.the-variants.{Accepted, Refused}
 use Rattle.model.specs.Values.{zeros, headOf, sheetOf}
 use Rattle.model.specs.declared.Sheet.{Sheet}
-use Rattle.figures.specs.Buckets.{allEmpty}
+use Rattle.buckets.specs.Buckets.{allEmpty}
 use Rattle.model.specs.LastTouches.{startTable}
 use Rattle.figures.specs.Rows.{figuresAt, figuresOf}
-use Rattle.figures.proofs.Passing.{pass-start}
+use Rattle.buckets.proofs.Passing.{pass-start}
 use Rattle.recorder.specs.Recorders.{recorderOf, started, appended, taken, withStep, stepVerdict, refsVerdict, touchAllVerdict}
 use Rattle.recorder.specs.Recorders.{idleVerdict}
 use Rattle.recorder.specs.Recorders.{Touched, TouchedAll, Rested, Figured}

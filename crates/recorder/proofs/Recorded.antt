@@ -9,7 +9,7 @@ use Rattle.model.specs.Traces.{segs, entry, refsOf}
 use Rattle.model.specs.Sheets.{SheetValue, Valid, traceOf}
 use Rattle.model.specs.declared.Verdict.the-variants.{Accepted}
 use Rattle.model.proofs.Lists.{getD-any}
-use Rattle.figures.specs.Buckets.{bucketCount, tallyOf, noBucket}
+use Rattle.buckets.specs.Buckets.{bucketCount, tallyOf, noBucket}
 use Rattle.figures.proofs.Filed.{counts-add-up}
 use Rattle.recorder.specs.Recorders.{recorderOf, started, touchAllVerdict}
 use Rattle.recorder.proofs.Standing.{started-valid}

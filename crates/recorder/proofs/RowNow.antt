@@ -13,13 +13,13 @@ use Rattle.model.specs.Values.{zeros, zeroRows, headOf}
 use Rattle.model.specs.LastTouches.{lastTable}
 use Rattle.model.specs.Traces.{sizeOf, swapOf}
 use Rattle.model.proofs.FirstTouches.{started}
-use Rattle.figures.specs.Buckets.{bucketCount, tallyOf}
-use Rattle.figures.specs.inner.Pass.{EndedAt}
+use Rattle.buckets.specs.Buckets.{bucketCount, tallyOf}
+use Rattle.buckets.specs.Pass.{EndedAt}
 use Rattle.search.specs.inner.Quotients.{unitsFor, Quoted}
 use Rattle.figures.specs.Rows.{figuresAt}
 use Rattle.figures.specs.inner.Sweep.{summed, withStart, mostItems, Holds, Summable, RowFits, rowFrom, Tallied}
-use Rattle.figures.specs.declared.Bucket.{Bucket}
-use Rattle.figures.specs.declared.Tally.{Tally}
+use Rattle.buckets.specs.declared.Bucket.{Bucket}
+use Rattle.buckets.specs.declared.Tally.{Tally}
 use Rattle.figures.specs.declared.rows.StartSwaps.{StartSwaps}
 use Rattle.figures.proofs.Starts.{starts-are}
 use Rattle.figures.proofs.Sweeps.{holds-more}

@@ -18,10 +18,10 @@ use Rattle.model.specs.declared.Refusal.the-variants.{RecorderFull}
 use Rattle.model.specs.declared.Verdict.the-variants.{Accepted, Refused}
 use Rattle.model.proofs.Lists.{getD-any}
 use Rattle.model.proofs.Warm.{warm-few}
-use Rattle.figures.specs.inner.Pass.{Roomy, RowsOf, passedAfter, passedOf}
+use Rattle.buckets.specs.Pass.{Roomy, RowsOf, passedAfter, passedOf}
 use Rattle.search.specs.inner.Quotients.{unitsFor, Quoted}
-use Rattle.figures.specs.declared.Bucket.{Bucket}
-use Rattle.figures.specs.declared.pass.Passed.{Passed}
+use Rattle.buckets.specs.declared.Bucket.{Bucket}
+use Rattle.buckets.specs.declared.pass.Passed.{Passed}
 use Rattle.figures.proofs.Limits.{buckets-roomy}
 use Rattle.recorder.specs.Recorders.{recorderOf, started, appended, taken, rested, stepVerdict, idleVerdict}
 use Rattle.recorder.specs.declared.Recorder.{Recorder}

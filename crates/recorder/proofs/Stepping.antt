@@ -15,17 +15,17 @@ use Rattle.model.proofs.Growth.{withRefs, grown, grown-agree, grown-sums, steps
 use Rattle.model.specs.Values.{zeros, zeroRows, headOf}
 use Rattle.model.specs.declared.Head.{Head}
 use Rattle.model.proofs.Bounds.{unit-within}
-use Rattle.figures.specs.inner.Pass.{touchOf, Limited, Within, withTouch, PassedOn, passedAfter, passedOf}
+use Rattle.buckets.specs.Pass.{touchOf, Limited, Within, withTouch, PassedOn, passedAfter, passedOf}
 use Rattle.search.specs.inner.Quotients.{timeSince, unitsFor, Quoted}
-use Rattle.figures.specs.Buckets.{bucketCount, tallyOf, noBucket}
+use Rattle.buckets.specs.Buckets.{bucketCount, tallyOf, noBucket}
 use Rattle.figures.specs.inner.Sweep.{byKind, summed, Holds, Tallied}
-use Rattle.figures.specs.declared.Tally.{Tally}
+use Rattle.buckets.specs.declared.Tally.{Tally}
 use Rattle.figures.proofs.Sweeping.{tallied-buckets, tallied-cost, tallied-volume}
-use Rattle.figures.specs.declared.Bucket.{Bucket}
-use Rattle.figures.specs.declared.pass.Touch.{Touch}
-use Rattle.figures.specs.declared.pass.Passed.{Passed}
+use Rattle.buckets.specs.declared.Bucket.{Bucket}
+use Rattle.buckets.specs.declared.pass.Touch.{Touch}
+use Rattle.buckets.specs.declared.pass.Passed.{Passed}
 use Rattle.figures.proofs.Limits.{cost-within, volume-within}
-use Rattle.figures.proofs.Passing.{pass-step, pass-idle, passed-agree}
+use Rattle.buckets.proofs.Passing.{pass-step, pass-idle, passed-agree}
 use Rattle.recorder.specs.inner.Passes.{Continued}
 use Rattle.recorder.specs.Recorders.{recorderOf, appended, taken, rested, withStep}
 use Rattle.recorder.specs.declared.Recorder.{Recorder}

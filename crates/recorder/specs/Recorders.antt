@@ -14,7 +14,7 @@ use Rattle.model.specs.declared.Refusal.the-variants.{OutOfRange, NoSuchRow, Re
 use Rattle.model.specs.declared.Verdict.{Verdict}
 use Rattle.model.specs.declared.Verdict.the-variants.{Accepted, Refused}
 use Rattle.model.specs.Values.{headOf, emptyHead}
-use Rattle.figures.specs.Buckets.{bucketCount, bucketAfter, allEmpty}
+use Rattle.buckets.specs.Buckets.{bucketCount, bucketAfter, allEmpty}
 use Rattle.model.specs.Sums.{tabulate}
 use Rattle.model.specs.LastTouches.{startTable, lastTable}
 use Rattle.figures.specs.Rows.{noFigures, figuresOf}

@@ -3,9 +3,9 @@
 pub mod reading;
 pub mod taking;
 
-use figures::Bucket;
+use buckets::Bucket;
+use buckets::Tally;
 use figures::FiguresAnswer;
-use figures::Tally;
 use model::Head;
 use model::Refusal;
 use model::RowFigures;
@@ -41,7 +41,7 @@ fn begin(head: Head) -> Recorder
     let count = guards::least(head.warm, Sheet::MAX_SEGS);
     let holds = head.holds;
     let last = model::start_table(&holds[..count]);
-    let buckets = figures::pass::empty_buckets();
+    let buckets = buckets::pass::empty_buckets();
     Recorder {
         head: head,
         steps: 0,

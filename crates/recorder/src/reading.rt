@@ -2,8 +2,8 @@
 // swap costs of the warm segments.
 // Nothing is assumed.
 use crate::Recorder;
-use figures::Bucket;
-use figures::Tally;
+use buckets::Bucket;
+use buckets::Tally;
 use figures::rows::StartSwaps;
 use model::Head;
 use model::Kind;
@@ -13,7 +13,7 @@ use model::Sheet;
 ghost use mathlib.Core.Path.{_≡_};
 ghost use Prim.Native.Nat.{_+_, _<_, min};
 ghost use Rattle.model.specs.Sheets.{SheetValue, Valid, traceOf, mostRows};
-ghost use Rattle.figures.specs.Buckets.{tallyOf};
+ghost use Rattle.buckets.specs.Buckets.{tallyOf};
 ghost use Rattle.figures.specs.Rows.{figuresAt};
 ghost use Rattle.figures.specs.inner.Sweep.{Summable, RowFits, wsoccFrom, rowFrom};
 ghost use Rattle.recorder.specs.Recorders.{recorderOf};
@@ -107,7 +107,7 @@ fn ends_now(recorder: Recorder) -> [Bucket; Tally::BUCKETS]
     let sizes = &all_sizes[..segs];
     let quotients = search::quotients(a, prices, rows);
     let rates = search::rates(kind, a, sizes);
-    figures::pass::ends(kind, a, rows, &quotients, &rates, sizes, &last, steps)
+    buckets::pass::ends(kind, a, rows, &quotients, &rates, sizes, &last, steps)
 }
 
 // The swap costs of the warm segments of a head.

@@ -1,8 +1,8 @@
 // Taking references: one, or several in one loop over local arrays; and the verdict on an idle step.
 // Nothing is assumed.
 use crate::Recorder;
-use figures::Tally;
-use figures::pass::Passed;
+use buckets::Tally;
+use buckets::pass::Passed;
 use model::Head;
 use model::Refusal;
 use model::Sheet;
@@ -13,7 +13,7 @@ ghost use mathlib.Core.List.{[]};
 ghost use lib.ListN.{length};
 ghost use Rattle.model.specs.Sheets.{SheetValue, Valid, mostSteps, mostSegs};
 ghost use Rattle.model.specs.declared.Verdict.the-variants.{Accepted};
-ghost use Rattle.figures.specs.inner.Pass.{Passable};
+ghost use Rattle.buckets.specs.Pass.{Passable};
 ghost use Rattle.recorder.specs.inner.Passes.{Continued};
 ghost use Rattle.recorder.specs.Recorders.{recorderOf, appended, taken, stepVerdict, refsVerdict, touchAllVerdict};
 
@@ -29,7 +29,7 @@ pub fn take_one(mut recorder: Recorder, segment: usize) -> Recorder
     let rows = guards::least(head.rows, Sheet::MAX_ROWS);
     let z = sizes[segment];
     let t = recorder.steps;
-    let mut x = figures::pass::touch_of(kind, head.a, z, recorder.last[segment], t as u16);
+    let mut x = buckets::pass::touch_of(kind, head.a, z, recorder.last[segment], t as u16);
     let k = search::bucket(prices, rows, x.reuse, x.retention, x.swap);
     x.bucket = k;
     let b = recorder.buckets[k];
@@ -82,7 +82,7 @@ fn pass_on(head: Head, from: Passed, count: usize, refs: &[u16]) -> Passed
     let sizes = &all_sizes[..segs];
     let quotients = search::quotients(a, prices, rows);
     let rates = search::rates(kind, a, sizes);
-    figures::pass::references(kind, a, rows, &quotients, &rates, sizes, from, count, refs)
+    buckets::pass::references(kind, a, rows, &quotients, &rates, sizes, from, count, refs)
 }
 
 // The recorder with all references. One put together by hand, whose sums leave no room, stays as it was.

@@ -7,10 +7,10 @@ use Rattle.model.specs.LastTouches.{startTable}
 use Rattle.model.specs.Sheets.{SheetValue, RowsWithin, RunWithin, traceOf, mostSegs}
 use Rattle.model.specs.Values.{headOf}
 use Rattle.model.specs.declared.Head.{Head}
-use Rattle.figures.specs.Buckets.{allEmpty}
-use Rattle.figures.specs.inner.Pass.{passedOf}
+use Rattle.buckets.specs.Buckets.{allEmpty}
+use Rattle.buckets.specs.Pass.{passedOf}
 use Rattle.figures.specs.inner.Sweep.{startSwaps}
-use Rattle.figures.specs.declared.pass.Passed.{Passed}
+use Rattle.buckets.specs.declared.pass.Passed.{Passed}
 use Rattle.figures.specs.declared.rows.StartSwaps.{StartSwaps}
 use Rattle.recorder.specs.Recorders.{appended}
 use Rattle.recorder.specs.declared.Recorder.{Recorder}

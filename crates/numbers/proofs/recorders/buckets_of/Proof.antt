@@ -1,9 +1,9 @@
 -- `recorders::buckets_of` meets its contract. The loop's invariant: the first k buckets are stored. The measure is what is left of the
 -- buckets. Assumes nothing.
 use Prim.Native.Nat.{_-_}
-use Rattle.figures.specs.Buckets.{bucketCount}
+use Rattle.buckets.specs.Buckets.{bucketCount}
 use Rattle.model.specs.Sums.{tabulate}
-use Rattle.figures.specs.Buckets.{noBucket}
+use Rattle.buckets.specs.Buckets.{noBucket}
 use Rattle.model.proofs.Tables.{length-tabulate, getD-tabulate}
 use Rattle.numbers.specs.Recorders.{bucketIn}
 use Rattle.numbers.proofs.RecorderSums.{Filled, filled-start, filled-step, filled-end}

@@ -2,7 +2,7 @@
 use mathlib.Core.Path.{refl}
 use native.Mathlib.Omega.{arith}
 use borrow.Author.Needs.{needs}
-use Rattle.figures.proofs.Touches.{placed, placed-limited, placed-is}
+use Rattle.buckets.proofs.Touches.{placed, placed-limited, placed-is}
 use Rattle.recorder.proofs.Stepping.{stepped-stands}
 use Rattle.recorder.proofs.taking.take_one.Statement.{statement}
 use Rattle.recorder.proofs.taking.take_one.Tie as tie

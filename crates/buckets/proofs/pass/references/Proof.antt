@@ -9,12 +9,12 @@ use lib.ListN.{length, getD, length-append}
 use Rattle.model.specs.Sheets.{RunWithin, runOf}
 use Rattle.model.specs.Traces.{entry}
 use Rattle.model.specs.declared.PriceRow.{PriceRow}
-use Rattle.figures.specs.inner.Pass.{Limited, Roomy, RowsOf, passedAfter}
-use Rattle.figures.proofs.Filling.{roomy-touch, roomy-more}
-use Rattle.figures.proofs.Passing.{pass-step, pass-idle, entry-on}
-use Rattle.figures.proofs.Touches.{placed, placed-limited, touch-placed}
-use Rattle.figures.proofs.pass.references.Statement.{statement}
-use Rattle.figures.proofs.pass.references.Tie as tie
+use Rattle.buckets.specs.Pass.{Limited, Roomy, RowsOf, passedAfter}
+use Rattle.buckets.proofs.Filling.{roomy-touch, roomy-more}
+use Rattle.buckets.proofs.Passing.{pass-step, pass-idle, entry-on}
+use Rattle.buckets.proofs.Touches.{placed, placed-limited, touch-placed}
+use Rattle.buckets.proofs.pass.references.Statement.{statement}
+use Rattle.buckets.proofs.pass.references.Tie as tie
 
 abbrev Inv-loop : tie.InvT-loop
 Inv-loop kind a rows qs rates sizes steps refs buckets₀ last₀ t₀ buckets last t =

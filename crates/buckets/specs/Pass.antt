@@ -14,12 +14,12 @@ use Rattle.model.specs.Sheets.{RowsWithin, RunWithin, runOf, mostSegs, mostStep
 use Rattle.model.specs.declared.Kind.{Kind}
 use Rattle.model.specs.declared.PriceRow.{PriceRow}
 use Rattle.model.specs.LastTouches.{lastTable}
-use Rattle.figures.specs.Buckets.{bucketCount, bucketAfter, tallyOf, noBucket}
+use Rattle.buckets.specs.Buckets.{bucketCount, bucketAfter, tallyOf, noBucket}
 use Rattle.search.specs.FirstRow.{lastBucket, firstRow}
 use Rattle.search.specs.inner.Quotients.{unitsFor, Quoted}
-use Rattle.figures.specs.declared.Bucket.{Bucket}
-use Rattle.figures.specs.declared.pass.Touch.{Touch}
-use Rattle.figures.specs.declared.pass.Passed.{Passed}
+use Rattle.buckets.specs.declared.Bucket.{Bucket}
+use Rattle.buckets.specs.declared.pass.Touch.{Touch}
+use Rattle.buckets.specs.declared.pass.Passed.{Passed}
 
 -- a touch of a segment of size z with unreferenced time o, or its end interval, before its bucket is looked for: with the last
 unfoldable pub unplaced : Kind → ℕ → ℕ → Option ℕ → Touch

@@ -3,8 +3,8 @@ use borrow.Author.Needs.{needs}
 use Prim.Native.Nat.{_*_, _^_, _≤_}
 use native.Mathlib.Omega.{arith}
 use Rattle.model.proofs.Bounds.{product-within}
-use Rattle.figures.proofs.pass.add_touch.Statement.{statement}
-use Rattle.figures.proofs.pass.add_touch.Tie as tie
+use Rattle.buckets.proofs.pass.add_touch.Statement.{statement}
+use Rattle.buckets.proofs.pass.add_touch.Tie as tie
 
 products : (c : tie.Start) → (c .args .x .retention * c .args .x .size ≤ 2 ^ 48) × (c .args .x .swap * c .args .x .size ≤ 2 ^ 48)
 products c =

@@ -11,8 +11,8 @@ use Rattle.model.specs.Traces.{Trace, segs, steps, sizeOf, swapOf, touching, un
 use Rattle.model.specs.Figures.{retentionOf, isReuse}
 use Rattle.model.specs.declared.PriceRow.{PriceRow}
 use Rattle.search.specs.FirstRow.{lastBucket, firstRow}
-use Rattle.figures.specs.declared.Bucket.{Bucket}
-use Rattle.figures.specs.declared.Tally.{Tally}
+use Rattle.buckets.specs.declared.Bucket.{Bucket}
+use Rattle.buckets.specs.declared.Tally.{Tally}
 
 -- how many buckets there are
 abbrev pub bucketCount : ℕ

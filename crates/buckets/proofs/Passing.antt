@@ -19,14 +19,14 @@ use Rattle.model.proofs.Growth.{withRefs, Agree, unreferenced-past}
 use Rattle.model.proofs.Lists.{getD-any}
 use Rattle.model.proofs.Tables.{tabulate-eq}
 use Rattle.model.specs.Sums.{tabulate}
-use Rattle.figures.specs.Buckets.{bucketCount, bucketAfter, allEmpty, noBucket}
-use Rattle.figures.specs.inner.Pass.{touchOf, Limited, withTouch, passedAfter}
+use Rattle.buckets.specs.Buckets.{bucketCount, bucketAfter, allEmpty, noBucket}
+use Rattle.buckets.specs.Pass.{touchOf, Limited, withTouch, passedAfter}
 use Rattle.search.specs.inner.Quotients.{timeSince}
-use Rattle.figures.specs.declared.Bucket.{Bucket}
-use Rattle.figures.specs.declared.pass.Touch.{Touch}
-use Rattle.figures.specs.declared.pass.Passed.{Passed}
-use Rattle.figures.proofs.Filling.{bucketOver, bucketsOver, buckets-start, buckets-step, buckets-skip, bucket-eq}
-use Rattle.figures.proofs.Touches.{touchAt, touches, bucketAfter-over}
+use Rattle.buckets.specs.declared.Bucket.{Bucket}
+use Rattle.buckets.specs.declared.pass.Touch.{Touch}
+use Rattle.buckets.specs.declared.pass.Passed.{Passed}
+use Rattle.buckets.proofs.Filling.{bucketOver, bucketsOver, buckets-start, buckets-step, buckets-skip, bucket-eq}
+use Rattle.buckets.proofs.Touches.{touchAt, touches, bucketAfter-over}
 
 module _ (rows : List PriceRow) (T : Trace) where
   -- the touch in the step at place t

@@ -12,13 +12,13 @@ use Rattle.model.specs.declared.PriceRow.{PriceRow}
 use Rattle.model.specs.LastTouches.{lastTable}
 use Rattle.model.proofs.LastTouches.{last-time}
 use Rattle.model.proofs.Tables.{tabulate-eq}
-use Rattle.figures.specs.Buckets.{bucketCount, endBucket, allEmpty, noBucket}
-use Rattle.figures.specs.inner.Pass.{touchOf, Limited, withEnd}
+use Rattle.buckets.specs.Buckets.{bucketCount, endBucket, allEmpty, noBucket}
+use Rattle.buckets.specs.Pass.{touchOf, Limited, withEnd}
 use Rattle.search.specs.inner.Quotients.{timeSince}
-use Rattle.figures.specs.declared.Bucket.{Bucket}
-use Rattle.figures.specs.declared.pass.Touch.{Touch}
-use Rattle.figures.proofs.Filling.{bucketOver, bucketsOver, buckets-start, buckets-step}
-use Rattle.figures.proofs.Touches.{touchAt, endBucket-over}
+use Rattle.buckets.specs.declared.Bucket.{Bucket}
+use Rattle.buckets.specs.declared.pass.Touch.{Touch}
+use Rattle.buckets.proofs.Filling.{bucketOver, bucketsOver, buckets-start, buckets-step}
+use Rattle.buckets.proofs.Touches.{touchAt, endBucket-over}
 
 module _ (rows : List PriceRow) (T : Trace) where
   -- the end interval of segment i

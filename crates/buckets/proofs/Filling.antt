@@ -12,10 +12,10 @@ use borrow.Author.Tests.{eq-eqb, ne-eqb}
 use Rattle.model.specs.Sums.{sum, tabulate}
 use Rattle.model.proofs.Bounds.{product-within}
 use Rattle.model.proofs.Sums.{sum-eq}
-use Rattle.figures.specs.Buckets.{bucketCount, allEmpty, noBucket}
-use Rattle.figures.specs.inner.Pass.{Limited, withTouch, withEnd, Within, Roomy}
-use Rattle.figures.specs.declared.Bucket.{Bucket}
-use Rattle.figures.specs.declared.pass.Touch.{Touch}
+use Rattle.buckets.specs.Buckets.{bucketCount, allEmpty, noBucket}
+use Rattle.buckets.specs.Pass.{Limited, withTouch, withEnd, Within, Roomy}
+use Rattle.buckets.specs.declared.Bucket.{Bucket}
+use Rattle.buckets.specs.declared.pass.Touch.{Touch}
 use Rattle.model.proofs.Tables.{getD-tabulate, tabulate-eq, tabulate-const, tabulate-set}
 
 -- the sum of g over those of the first n touches x that count and go to bucket k

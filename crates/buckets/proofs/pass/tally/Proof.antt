@@ -7,13 +7,13 @@ use native.Mathlib.Omega.{arith}
 use lib.ListN.{take}
 use lib.Seq.{length-take-le}
 use Rattle.model.specs.Sheets.{runOf}
-use Rattle.figures.specs.Buckets.{tallyOf}
-use Rattle.figures.specs.inner.Pass.{RowsOf, passedOf, passedAfter}
-use Rattle.figures.specs.declared.pass.Passed.{Passed}
-use Rattle.figures.proofs.Filling.{roomy-start, roomy-more}
-use Rattle.figures.proofs.Passing.{pass-start}
-use Rattle.figures.proofs.pass.tally.Statement.{statement}
-use Rattle.figures.proofs.pass.tally.Tie as tie
+use Rattle.buckets.specs.Buckets.{tallyOf}
+use Rattle.buckets.specs.Pass.{RowsOf, passedOf, passedAfter}
+use Rattle.buckets.specs.declared.pass.Passed.{Passed}
+use Rattle.buckets.proofs.Filling.{roomy-start, roomy-more}
+use Rattle.buckets.proofs.Passing.{pass-start}
+use Rattle.buckets.proofs.pass.tally.Statement.{statement}
+use Rattle.buckets.proofs.pass.tally.Tie as tie
 
 -- the function's entry, from the quotients
 abbrev start : tie.After-quotients → tie.Start

@@ -1,7 +1,7 @@
 -- `pass::add_end` meets its contract. Assumes nothing.
 use borrow.Author.Needs.{needs}
-use Rattle.figures.proofs.pass.add_end.Statement.{statement}
-use Rattle.figures.proofs.pass.add_end.Tie as tie
+use Rattle.buckets.proofs.pass.add_end.Statement.{statement}
+use Rattle.buckets.proofs.pass.add_end.Tie as tie
 
 returns : tie.Need-returns
 returns c = rw (c .before .if1 .taken) (c .add-touch .ensures)

@@ -13,13 +13,13 @@ use Rattle.model.specs.Traces.{Trace, segs, steps, entry, sizeOf, touching, unr
 use Rattle.model.specs.declared.Kind.{Kind}
 use Rattle.model.specs.declared.PriceRow.{PriceRow}
 use Rattle.model.specs.Sheets.{RowsWithin, mostSteps, largestA, largestSize}
-use Rattle.figures.specs.Buckets.{bucketOf, filed, bucketAfter, ended, endBucket}
+use Rattle.buckets.specs.Buckets.{bucketOf, filed, bucketAfter, ended, endBucket}
 use Rattle.search.specs.FirstRow.{lastBucket}
-use Rattle.figures.specs.inner.Pass.{touchOf, unplaced, Limited}
+use Rattle.buckets.specs.Pass.{touchOf, unplaced, Limited}
 use Rattle.search.specs.inner.Quotients.{timeSince, IsBucket, IsPlace, Quoted, unitsFor, rateOf}
 use Rattle.search.proofs.RatedSegments.{place-bucket}
-use Rattle.figures.specs.declared.pass.Touch.{Touch}
-use Rattle.figures.proofs.Filling.{gathered, bucketOver}
+use Rattle.buckets.specs.declared.pass.Touch.{Touch}
+use Rattle.buckets.proofs.Filling.{gathered, bucketOver}
 
 module _ (kind : Kind) (a z n mark w : ℕ) (swap : w ≡ swapCost a z) where
   -- a segment with a mark up to step n was touched

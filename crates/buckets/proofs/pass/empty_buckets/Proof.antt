@@ -1,8 +1,8 @@
 -- `pass::empty_buckets` meets its contract. Assumes nothing.
 use borrow.Author.Needs.{needs}
-use Rattle.figures.specs.Buckets.{allEmpty}
-use Rattle.figures.proofs.pass.empty_buckets.Statement.{statement}
-use Rattle.figures.proofs.pass.empty_buckets.Tie as tie
+use Rattle.buckets.specs.Buckets.{allEmpty}
+use Rattle.buckets.proofs.pass.empty_buckets.Statement.{statement}
+use Rattle.buckets.proofs.pass.empty_buckets.Tie as tie
 
 returns : tie.Need-returns
 unfolding allEmpty

@@ -10,13 +10,13 @@ use lib.ListN.{length}
 use Rattle.model.specs.Sheets.{RunWithin, runOf}
 use Rattle.model.specs.LastTouches.{lastTable}
 use Rattle.model.specs.declared.PriceRow.{PriceRow}
-use Rattle.figures.specs.Buckets.{tallyOf}
-use Rattle.figures.specs.inner.Pass.{Limited, Roomy, RowsOf}
-use Rattle.figures.proofs.Filling.{roomy-start, roomy-end}
-use Rattle.figures.proofs.Ending.{endsUpTo, ending-start, ending-step}
-use Rattle.figures.proofs.Touches.{placed, placed-limited, touch-placed}
-use Rattle.figures.proofs.pass.ends.Statement.{statement}
-use Rattle.figures.proofs.pass.ends.Tie as tie
+use Rattle.buckets.specs.Buckets.{tallyOf}
+use Rattle.buckets.specs.Pass.{Limited, Roomy, RowsOf}
+use Rattle.buckets.proofs.Filling.{roomy-start, roomy-end}
+use Rattle.buckets.proofs.Ending.{endsUpTo, ending-start, ending-step}
+use Rattle.buckets.proofs.Touches.{placed, placed-limited, touch-placed}
+use Rattle.buckets.proofs.pass.ends.Statement.{statement}
+use Rattle.buckets.proofs.pass.ends.Tie as tie
 
 abbrev Inv-loop : tie.InvT-loop
 Inv-loop kind a rows qs rates sizes last steps buckets₀ i₀ buckets i =

@@ -2,10 +2,10 @@
 use borrow.Author.Needs.{needs}
 use Prim.Native.Nat.{_-_, _^_, _<_}
 use native.Mathlib.Omega.{arith}
-use Rattle.figures.proofs.Touches.{reuse-is, first-is}
+use Rattle.buckets.proofs.Touches.{reuse-is, first-is}
 use Rattle.model.proofs.Bounds.{retention-within, swap-within}
-use Rattle.figures.proofs.pass.touch_of.Statement.{statement}
-use Rattle.figures.proofs.pass.touch_of.Tie as tie
+use Rattle.buckets.proofs.pass.touch_of.Statement.{statement}
+use Rattle.buckets.proofs.pass.touch_of.Tie as tie
 
 swapped : (c : tie.After-swap-cost) → c .swap-cost .result .0 < 2 ^ 32
 swapped c =

@@ -1,0 +1,4 @@
+pub mod Ending
+pub mod Filling
+pub mod Passing
+pub mod Touches
