@@ -16,7 +16,8 @@ use Rattle.model.specs.declared.Kind.the-variants.{Time, Space}
 use Rattle.model.specs.declared.PriceRow.{PriceRow}
 use Rattle.model.proofs.Sums.{sum-eq}
 use Rattle.buckets.specs.Buckets.{bucketCount, filed, ended, bucketAfter, endBucket, tallyOf, noBucket}
-use Rattle.figures.specs.inner.Sweep.{added, summed, byKind, Holds}
+use Rattle.figures.specs.inner.Sweep.{added, summed}
+use Rattle.rowsums.specs.OneRow.{byKind, Holds}
 use Rattle.buckets.specs.declared.Bucket.{Bucket}
 use Rattle.model.proofs.Tables.{getD-tabulate}
 use Rattle.figures.proofs.Filed.{filed-all, filed-kept, ended-kept}
@@ -36,11 +37,6 @@ summed-more bs n e f = f ∙ rw e (sym (summed-suc bs n))
 -- what holds at most 256 items holds at most 2,048
 pub holds-more : (b : Bucket) → Holds mostSegs b → Holds mostSteps b
 holds-more b few = omega arith
-
--- a number chosen by the kind is within a bound of both
-pub byKind-within : (kind : Kind) (x y m : ℕ) → x ≤ m → y ≤ m → byKind kind x y ≤ m
-byKind-within Time x y m p q = p
-byKind-within Space x y m p q = q
 
 -- (u − 1) × z is R × z for kind time and R for kind space
 pub space-of : (kind : Kind) (z : ℕ) (o : Option ℕ)

@@ -17,7 +17,8 @@ use Rattle.buckets.specs.Buckets.{bucketCount, tallyOf}
 use Rattle.buckets.specs.Pass.{EndedAt}
 use Rattle.search.specs.inner.Quotients.{unitsFor, Quoted}
 use Rattle.figures.specs.Rows.{figuresAt}
-use Rattle.figures.specs.inner.Sweep.{summed, withStart, mostItems, Holds, Summable, RowFits, rowFrom, Tallied}
+use Rattle.figures.specs.inner.Sweep.{summed, withStart, Tallied}
+use Rattle.rowsums.specs.OneRow.{mostItems, Holds, Summable, RowFits, rowFrom}
 use Rattle.buckets.specs.declared.Bucket.{Bucket}
 use Rattle.buckets.specs.declared.Tally.{Tally}
 use Rattle.figures.specs.declared.rows.StartSwaps.{StartSwaps}

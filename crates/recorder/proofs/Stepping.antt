@@ -18,7 +18,8 @@ use Rattle.model.proofs.Bounds.{unit-within}
 use Rattle.buckets.specs.Pass.{touchOf, Limited, Within, withTouch, PassedOn, passedAfter, passedOf}
 use Rattle.search.specs.inner.Quotients.{timeSince, unitsFor, Quoted}
 use Rattle.buckets.specs.Buckets.{bucketCount, tallyOf, noBucket}
-use Rattle.figures.specs.inner.Sweep.{byKind, summed, Holds, Tallied}
+use Rattle.figures.specs.inner.Sweep.{summed, Tallied}
+use Rattle.rowsums.specs.OneRow.{byKind, Holds}
 use Rattle.buckets.specs.declared.Tally.{Tally}
 use Rattle.figures.proofs.Sweeping.{tallied-buckets, tallied-cost, tallied-volume}
 use Rattle.buckets.specs.declared.Bucket.{Bucket}

@@ -15,7 +15,7 @@ ghost use Prim.Native.Nat.{_+_, _<_, min};
 ghost use Rattle.model.specs.Sheets.{SheetValue, Valid, traceOf, mostRows};
 ghost use Rattle.buckets.specs.Buckets.{tallyOf};
 ghost use Rattle.figures.specs.Rows.{figuresAt};
-ghost use Rattle.figures.specs.inner.Sweep.{Summable, RowFits, wsoccFrom, rowFrom};
+ghost use Rattle.rowsums.specs.OneRow.{Summable, RowFits, wsoccFrom, rowFrom};
 ghost use Rattle.recorder.specs.Recorders.{recorderOf};
 ghost use Rattle.recorder.specs.inner.Passes.{headSwaps};
 ghost use Rattle.guards.specs.inner.Tests.{Tells};
@@ -36,8 +36,8 @@ fn occupancy(
     requires { ⌜ Summable cost volume all kept ends ⌝ }
     ensures { λ r. ⌜ r ≡ wsoccFrom kind row cost volume all kept ends ⌝ }
 {
-    let set = figures::rows::working_set(row, cost, volume, all, kept, ends);
-    figures::rows::by_kind(kind, set.space, set.memory)
+    let set = rowsums::working_set(row, cost, volume, all, kept, ends);
+    rowsums::by_kind(kind, set.space, set.memory)
 }
 
 // Whether the sums are such that an occupancy can be made of them.
@@ -88,7 +88,7 @@ fn row_of(
     if OCCUPANCY <= occupancy(kind, row, cost, volume, all, kept, ends) {
         return RowFigures::zero();
     }
-    figures::rows::row_figures(kind, a, row, steps, cost, volume, all, kept, ends)
+    rowsums::row_figures(kind, a, row, steps, cost, volume, all, kept, ends)
 }
 
 // The buckets of the end intervals at this moment.

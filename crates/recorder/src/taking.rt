@@ -114,7 +114,7 @@ pub fn take_all(recorder: Recorder, refs: &[u16]) -> Recorder
         steps: recorder.steps + refs.len(),
         last: table,
         buckets: next,
-        cost: figures::rows::by_kind(kind, all.count, all.volume),
+        cost: rowsums::by_kind(kind, all.count, all.volume),
         volume: all.volume,
     }
 }

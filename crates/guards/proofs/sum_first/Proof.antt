@@ -7,7 +7,8 @@ use native.Mathlib.Omega.{arith}
 use borrow.Author.Needs.{needs}
 use Rattle.model.specs.Sheets.{mostSteps}
 use Rattle.figures.proofs.Sweeps.{summed-none}
-use Rattle.figures.specs.inner.Sweep.{summed, Holds}
+use Rattle.figures.specs.inner.Sweep.{summed}
+use Rattle.rowsums.specs.OneRow.{Holds}
 use Rattle.guards.proofs.Guarding.{sum-more}
 use Rattle.guards.proofs.sum_first.Statement.{statement}
 use Rattle.guards.proofs.sum_first.Tie as tie

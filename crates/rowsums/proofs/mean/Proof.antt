@@ -1,12 +1,12 @@
--- `figures::rows::mean` meets its contract: wsocc is below 2 ^ 53, and the divisor is not 0 since d is not. Assumes nothing.
+-- `rowsums::mean` meets its contract: wsocc is below 2 ^ 53, and the divisor is not 0 since d is not. Assumes nothing.
 use Prim.Native.Nat.{_*_, _^_, _≤_}
 use native.Mathlib.Nat.{mul-pos}
 use native.Mathlib.Omega.{arith}
 use borrow.Author.Tests.{eq-eqb, ne-eqb}
 use Rattle.model.proofs.Bounds.{product-within}
 use borrow.Author.Needs.{needs}
-use Rattle.figures.proofs.rows.mean.Statement.{statement}
-use Rattle.figures.proofs.rows.mean.Tie as tie
+use Rattle.rowsums.proofs.mean.Statement.{statement}
+use Rattle.rowsums.proofs.mean.Tie as tie
 
 divisor-fits : (c : tie.Start) → c .args .d * c .args .refs ≤ 2 ^ 16 * 2 ^ 11
 divisor-fits c = product-within (c .args .d) (c .args .refs) (2 ^ 16) (2 ^ 11) (omega arith) (omega arith)

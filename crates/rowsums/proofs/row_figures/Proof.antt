@@ -1,4 +1,4 @@
--- `figures::rows::row_figures` meets its contract: each item is what the callee says, and the sums fit as `RowFits` says.
+-- `rowsums::row_figures` meets its contract: each item is what the callee says, and the sums fit as `RowFits` says.
 -- Assumes nothing.
 use Prim.Native.Nat.{_-_, _^_}
 use mathlib.Core.Path.{_≡_, ap}
@@ -6,10 +6,10 @@ use native.Mathlib.Omega.{arith}
 use borrow.Author.Needs.{needs}
 use Rattle.model.specs.declared.LoadUnits.{LoadUnits}
 use Rattle.model.proofs.Bounds.{product-within}
-use Rattle.figures.specs.inner.Sweep.{rowFrom, loadFrom}
-use Rattle.figures.proofs.Sweeps.{byKind-within}
-use Rattle.figures.proofs.rows.row_figures.Statement.{statement}
-use Rattle.figures.proofs.rows.row_figures.Tie as tie
+use Rattle.rowsums.specs.OneRow.{rowFrom, loadFrom}
+use Rattle.rowsums.proofs.ByKind.{byKind-within}
+use Rattle.rowsums.proofs.row_figures.Statement.{statement}
+use Rattle.rowsums.proofs.row_figures.Tie as tie
 
 mean-requires : tie.Need-mean-requires
 mean-requires c κs =

@@ -1,10 +1,10 @@
--- `figures::rows::load_of` meets its contract: the product is within 2 ^ 32. Assumes nothing.
+-- `rowsums::load_of` meets its contract: the product is within 2 ^ 32. Assumes nothing.
 use Prim.Native.Nat.{_*_, _^_, _≤_}
 use native.Mathlib.Omega.{arith}
 use Rattle.model.proofs.Bounds.{product-within}
 use borrow.Author.Needs.{needs}
-use Rattle.figures.proofs.rows.load_of.Statement.{statement}
-use Rattle.figures.proofs.rows.load_of.Tie as tie
+use Rattle.rowsums.proofs.load_of.Statement.{statement}
+use Rattle.rowsums.proofs.load_of.Tie as tie
 
 volumes-fit : (c : tie.Start) → c .args .a * c .args .missed ≤ 2 ^ 8 * 2 ^ 24
 volumes-fit c = product-within (c .args .a) (c .args .missed) (2 ^ 8) (2 ^ 24) (omega arith) (omega arith)

@@ -1,7 +1,7 @@
--- `figures::rows::working_set` meets its contract: each total is of what the callees give. Assumes nothing.
+-- `rowsums::working_set` meets its contract: each total is of what the callees give. Assumes nothing.
 use borrow.Author.Needs.{needs}
-use Rattle.figures.proofs.rows.working_set.Statement.{statement}
-use Rattle.figures.proofs.rows.working_set.Tie as tie
+use Rattle.rowsums.proofs.working_set.Statement.{statement}
+use Rattle.rowsums.proofs.working_set.Tie as tie
 
 returns : tie.Need-returns
 returns c =
