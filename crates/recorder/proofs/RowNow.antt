@@ -6,8 +6,6 @@ use native.Mathlib.Omega.{arith}
 use native.Mathlib.Numerals.{add-one}
 use lib.ListN.{length, getD, take}
 use Rattle.model.specs.Sheets.{SheetValue, Valid, traceOf, mostSegs, mostRows, mostSteps}
-use Rattle.model.specs.declared.Kind.{Kind}
-use Rattle.model.specs.declared.PriceRow.{PriceRow}
 use Rattle.model.specs.declared.RowFigures.{RowFigures}
 use Rattle.model.specs.Values.{zeros, zeroRows, headOf}
 use Rattle.model.specs.LastTouches.{lastTable}
@@ -18,30 +16,17 @@ use Rattle.buckets.specs.Pass.{EndedAt}
 use Rattle.search.specs.inner.Quotients.{unitsFor, Quoted}
 use Rattle.figures.specs.Rows.{figuresAt}
 use Rattle.figures.specs.inner.Sweep.{summed, withStart, Tallied}
-use Rattle.rowsums.specs.OneRow.{mostItems, Holds, Summable, RowFits, rowFrom}
+use Rattle.rowsums.specs.OneRow.{mostItems, Holds, RowFits, rowFrom}
 use Rattle.buckets.specs.declared.Bucket.{Bucket}
 use Rattle.buckets.specs.declared.Tally.{Tally}
 use Rattle.figures.specs.declared.rows.StartSwaps.{StartSwaps}
 use Rattle.figures.proofs.Starts.{starts-are}
 use Rattle.figures.proofs.Sweeps.{holds-more}
 use Rattle.figures.proofs.Sweeping.{SweptTo, all-fits, tallied-buckets, tallied-ends, tallied-all, tallied-fits, tallied-row}
-use Rattle.recorder.specs.inner.Passes.{headSwaps}
+use Rattle.rowguards.specs.Heads.{headSwaps}
 use Rattle.recorder.specs.Recorders.{recorderOf}
 use Rattle.recorder.specs.declared.Recorder.{Recorder}
 use Rattle.recorder.proofs.Standing.{front, padded-at, head-rows, few-warm}
-
--- sums from which no figure exceeds 64 bits are such that a working set can be made of them
-pub summable-of : {kind : Kind} {row : PriceRow} {refs cost volume : ℕ} {all kept ends : Bucket}
-    → RowFits kind row refs cost volume all kept ends → Summable cost volume all kept ends
-summable-of fits =
-    record {
-      cost-fits = fits .cost-fits;
-      volume-fits = fits .volume-fits;
-      all-holds = fits .all-holds;
-      kept-holds = fits .kept-holds;
-      ends-holds = fits .ends-holds;
-      parts = fits .parts;
-    }
 
 -- the end intervals are those of the sheet's tally
 ends-of : (v : SheetValue) → Valid v → (rows segs steps : ℕ) (qs : List ℕ) (b : List Bucket)

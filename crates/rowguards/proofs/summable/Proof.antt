@@ -1,9 +1,9 @@
--- `recorder::reading::summable` meets its contract. Assumes nothing.
+-- `rowguards::summable` meets its contract. Assumes nothing.
 use native.Mathlib.Omega.{arith}
 use borrow.Author.Needs.{needs}
 use Rattle.guards.proofs.Telling.{tells-false, failed, passed}
-use Rattle.recorder.proofs.reading.summable.Statement.{statement}
-use Rattle.recorder.proofs.reading.summable.Tie as tie
+use Rattle.rowguards.proofs.summable.Statement.{statement}
+use Rattle.rowguards.proofs.summable.Tie as tie
 
 returns : tie.Need-returns
 returns c = tells-false (λ s. omega arith)

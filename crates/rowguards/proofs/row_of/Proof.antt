@@ -1,10 +1,10 @@
--- `recorder::reading::row_of` meets its contract: sums from which no figure exceeds 64 bits pass each test. Assumes nothing.
+-- `rowguards::row_of` meets its contract: sums from which no figure exceeds 64 bits pass each test. Assumes nothing.
 use native.Mathlib.Omega.{arith}
 use borrow.Author.Needs.{needs}
-use Rattle.recorder.proofs.RowNow.{summable-of}
+use Rattle.rowguards.proofs.Fitting.{summable-of}
 use Rattle.guards.proofs.Telling.{failed, passed}
-use Rattle.recorder.proofs.reading.row_of.Statement.{statement}
-use Rattle.recorder.proofs.reading.row_of.Tie as tie
+use Rattle.rowguards.proofs.row_of.Statement.{statement}
+use Rattle.rowguards.proofs.row_of.Tie as tie
 
 returns : tie.Need-returns
 returns c = λ fits. absurd (omega (arith, c .before .if1 .taken, fits .refs-fit))

@@ -1,8 +1,8 @@
--- `recorder::reading::occupancy` meets its contract. Assumes nothing.
+-- `rowguards::occupancy` meets its contract. Assumes nothing.
 use mathlib.Core.Path.{_∙_}
 use borrow.Author.Needs.{needs}
-use Rattle.recorder.proofs.reading.occupancy.Statement.{statement}
-use Rattle.recorder.proofs.reading.occupancy.Tie as tie
+use Rattle.rowguards.proofs.occupancy.Statement.{statement}
+use Rattle.rowguards.proofs.occupancy.Tie as tie
 
 returns : tie.Need-returns
 returns c = c .by-kind .ensures ∙ rw (c .before .working-set .ensures)

@@ -1,11 +1,11 @@
--- `recorder::reading::start_now` meets its contract: the sizes and warm segments lent are those that the head counts. Assumes nothing.
+-- `rowguards::start_now` meets its contract: the sizes and warm segments lent are those that the head counts. Assumes nothing.
 use mathlib.Core.Path.{_≡_, refl, sym, _∙_}
 use native.Mathlib.Omega.{arith}
 use borrow.Author.Needs.{needs}
 use lib.ListN.{length}
 use lib.Seq.{length-take-le}
-use Rattle.recorder.proofs.reading.start_now.Statement.{statement}
-use Rattle.recorder.proofs.reading.start_now.Tie as tie
+use Rattle.rowguards.proofs.start_now.Statement.{statement}
+use Rattle.rowguards.proofs.start_now.Tie as tie
 
 sizes-length : (s : tie.Start) → length (s .args .head .sizes) ≡ 256
 sizes-length s = search needs
