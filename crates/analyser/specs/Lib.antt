@@ -1,10 +1,3 @@
 pub mod Answers
-pub mod Curving
 pub mod Demand
-pub mod Importing
-pub mod Joining
-pub mod Modified
-pub mod Operating
-pub mod Recording
 pub mod RoundTrip
-pub mod Windowing

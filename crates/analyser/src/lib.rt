@@ -1,18 +1,6 @@
-// The public calls of the segment trace analyser, on bytes. None relies on a caller's check: each refuses for itself, and a refused call
-// gives zeros and changes nothing.
+// The public calls of document 01 and the page for the binder, on bytes. None relies on a caller's check: each refuses for itself, and a
+// refused call gives zeros and changes nothing.
 // What each call answers is written in specs/ here and in the crates below; nothing is assumed.
-pub mod billing;
-pub mod converting;
-pub mod curving;
-pub mod importing;
-pub mod margins;
-pub mod modifying;
-pub mod operating;
-pub mod pairing;
-pub mod recording;
-pub mod sizing;
-pub mod windowing;
-
 use figures::FiguresAnswer;
 use model::PlaceAnswer;
 use model::Sheet;

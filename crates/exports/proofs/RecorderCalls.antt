@@ -11,7 +11,7 @@ use Rattle.figures.specs.declared.FiguresAnswer.{FiguresAnswer}
 use Rattle.recorder.specs.Recorders.{recorderOf, appended, Figured}
 use Rattle.recorder.specs.declared.Recorder.{Recorder}
 use Rattle.recorder.specs.declared.TouchAnswer.{TouchAnswer}
-use Rattle.analyser.specs.Recording.{startAnswer}
+use Rattle.recordcalls.specs.Recording.{startAnswer}
 use Rattle.numbers.specs.Figures.{figureList}
 use Rattle.numbers.specs.Recorders.{RecorderLists, lists, recorderIn, listsOf}
 use Rattle.numbers.specs.inner.Stored.{HeadStored, TakenStored}

@@ -9,7 +9,7 @@ use Rattle.model.specs.declared.Verdict.{Verdict}
 use Rattle.model.specs.declared.Verdict.the-variants.{Accepted, Refused}
 use Rattle.model.specs.Places.{Result, refuses, answerFor, PlaceLeft}
 use Rattle.curves.specs.declared.CurveAnswer.{CurveAnswer}
-use Rattle.analyser.specs.Curving.{lruResult, LruLeft}
+use Rattle.listcalls.specs.Curving.{lruResult, LruLeft}
 use Rattle.exports.specs.Curving.{LruCall}
 use Rattle.exports.specs.Exported.{orOld, PlaceCall}
 

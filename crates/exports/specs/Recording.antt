@@ -10,7 +10,7 @@ use Rattle.recorder.specs.declared.Recorder.{Recorder}
 use Rattle.recorder.specs.declared.TouchAnswer.{TouchAnswer}
 use Rattle.numbers.specs.Figures.{figureList}
 use Rattle.numbers.specs.Recorders.{RecorderLists, recorderIn, listsOf, withTaken, idleCounts}
-use Rattle.analyser.specs.Recording.{startAnswer}
+use Rattle.recordcalls.specs.Recording.{startAnswer}
 use Rattle.exports.specs.Exported.{orOld}
 
 -- start: accepted, the lists are those of the answer's recorder; refused, they are as they were

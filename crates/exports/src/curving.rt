@@ -3,7 +3,7 @@
 use crate::tell;
 use model::Verdict;
 ghost use mathlib.Core.Path.{_≡_};
-ghost use Rattle.analyser.specs.Curving.{lruPlainResult};
+ghost use Rattle.listcalls.specs.Curving.{lruPlainResult};
 ghost use Rattle.exports.specs.Curving.{LruCall};
 ghost use Rattle.exports.specs.Exported.{orOld, PlaceCall};
 
@@ -29,7 +29,7 @@ pub extern "C" fn segtrace_lru(
     ensures { λ r. ⌜ LruCall (now (sheet .entry)) (now (out .entry)) (now (out .exit))
         (now (written .entry)) (now (written .exit)) (now (looked .entry)) (now (looked .exit)) r ⌝ }
 {
-    let answer = analyser::curving::lru(sheet, out);
+    let answer = listcalls::curving::lru(sheet, out);
     let placed = answer.placed;
     let verdict = placed.verdict;
     *looked = or_old(verdict, answer.looked, *looked);
@@ -42,5 +42,5 @@ pub extern "C" fn segtrace_lru_plain(sheet: &[u8], out: &mut [u64], written: &mu
     ensures { λ r. ⌜ PlaceCall (lruPlainResult (now (sheet .entry))) (now (out .entry)) (now (out .exit))
         (now (written .entry)) (now (written .exit)) r ⌝ }
 {
-    tell(analyser::curving::lru_plain(sheet, out), written)
+    tell(listcalls::curving::lru_plain(sheet, out), written)
 }

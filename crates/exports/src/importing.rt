@@ -1,7 +1,7 @@
 // The call on a trace in the din text form: the trace as a sheet.
-// What it returns and leaves is written in specs/Exported.antt and in crate `analyser`; nothing is assumed.
+// What it returns and leaves is written in specs/Exported.antt and in crate `sheetcalls`; nothing is assumed.
 use crate::tell;
-ghost use Rattle.analyser.specs.Importing.{importResult};
+ghost use Rattle.sheetcalls.specs.Importing.{importResult};
 ghost use Rattle.exports.specs.Exported.{PlaceCall};
 
 // The sheet of a trace with pages of 2 to the power k bytes and the rows of a given sheet, and its length: the given sheet's refusals, 23,
@@ -18,7 +18,7 @@ pub extern "C" fn segtrace_import_din(
         (now (written .entry)) (now (written .exit)) r ⌝ }
 {
     tell(
-        analyser::importing::import_din(trace, k, sheet, out),
+        sheetcalls::importing::import_din(trace, k, sheet, out),
         written,
     )
 }

@@ -17,8 +17,9 @@ ghost use Rattle.model.specs.Refusals.{verdictNumber};
 ghost use Rattle.sheet.specs.Reading.{readSheet};
 ghost use Rattle.sheet.specs.Answers.{answerOf};
 ghost use Rattle.numbers.specs.Figures.{figureList};
-ghost use Rattle.analyser.specs.Answers.{toForm2Result, toForm1Result, figuresAnswer, listingResult, pageResult, scheduleResult};
-ghost use Rattle.analyser.specs.Answers.{pricing, marginAnswer, sizeAnswer, billAnswer};
+ghost use Rattle.analyser.specs.Answers.{figuresAnswer, listingResult, pageResult, scheduleResult, pricing};
+ghost use Rattle.rowcalls.specs.Answers.{marginAnswer, sizeAnswer, billAnswer};
+ghost use Rattle.sheetcalls.specs.Converting.{toForm2Result, toForm1Result};
 ghost use Rattle.exports.specs.Exported.{orOld, priceList, rewriteResult, rowsResult, PlaceCall};
 
 // Whether the bytes are a sheet: the sheet's refusals.
@@ -66,7 +67,7 @@ pub extern "C" fn segtrace_to_form_2(sheet: &[u8], out: &mut [u8], written: &mut
     ensures { λ r. ⌜ PlaceCall (toForm2Result (now (sheet .entry))) (now (out .entry)) (now (out .exit))
         (now (written .entry)) (now (written .exit)) r ⌝ }
 {
-    tell(analyser::converting::to_form_2(sheet, out), written)
+    tell(sheetcalls::converting::to_form_2(sheet, out), written)
 }
 
 // A sheet of form 2 in form 1, and its length: the sheet's refusals, where any other form is 4, 17, 11.
@@ -75,7 +76,7 @@ pub extern "C" fn segtrace_to_form_1(sheet: &[u8], out: &mut [u8], written: &mut
     ensures { λ r. ⌜ PlaceCall (toForm1Result (now (sheet .entry))) (now (out .entry)) (now (out .exit))
         (now (written .entry)) (now (written .exit)) r ⌝ }
 {
-    tell(analyser::converting::to_form_1(sheet, out), written)
+    tell(sheetcalls::converting::to_form_1(sheet, out), written)
 }
 
 // The figures of a row in the listing's order: the sheet's refusals, 7.
@@ -186,7 +187,7 @@ pub extern "C" fn segtrace_margin(sheet: &[u8], row: u64, reference: u64, margin
         × (now (margin .exit) ≡ orOld (marginAnswer (now (sheet .entry)) row reference .verdict)
         (marginAnswer (now (sheet .entry)) row reference .margin) (now (margin .entry))) ⌝ }
 {
-    let answer = analyser::margins::margin(sheet, row as usize, reference as usize);
+    let answer = rowcalls::margins::margin(sheet, row as usize, reference as usize);
     let verdict = answer.verdict;
     let value = answer.margin;
     match verdict {
@@ -205,7 +206,7 @@ pub extern "C" fn segtrace_size(sheet: &[u8], ceiling: u64, row: &mut u64) -> u6
         × (now (row .exit) ≡ orOld (sizeAnswer (now (sheet .entry)) ceiling .verdict)
         (sizeAnswer (now (sheet .entry)) ceiling .row) (now (row .entry))) ⌝ }
 {
-    let answer = analyser::sizing::size(sheet, ceiling);
+    let answer = rowcalls::sizing::size(sheet, ceiling);
     let verdict = answer.verdict;
     match verdict {
         Verdict::Accepted => {
@@ -230,7 +231,7 @@ pub extern "C" fn segtrace_bill(
         × (now (cents .exit) ≡ orOld (billAnswer (now (sheet .entry)) row «memory_rate» «load_rate» minimum .verdict)
         (billAnswer (now (sheet .entry)) row «memory_rate» «load_rate» minimum .cents .0) (now (cents .entry))) ⌝ }
 {
-    let answer = analyser::billing::bill(sheet, row as usize, memory_rate, load_rate, minimum);
+    let answer = rowcalls::billing::bill(sheet, row as usize, memory_rate, load_rate, minimum);
     let verdict = answer.verdict;
     match verdict {
         Verdict::Accepted => {

@@ -31,7 +31,7 @@ pub extern "C" fn segtrace_recorder_start(
         (lists (now (head .exit)) (now (counts .exit)) (now (sizes .exit)) (now (holds .exit))
         (now (h .exit)) (now (d .exit)) (now (last .exit)) (now (sums .exit))) r ⌝ }
 {
-    let answer = analyser::recording::start(sheet);
+    let answer = recordcalls::start(sheet);
     let verdict = answer.verdict;
     let r = answer.recorder;
     match verdict {
@@ -64,7 +64,7 @@ pub extern "C" fn segtrace_recorder_touch(
         (now (h .exit)) (now (d .exit)) (now (last .exit)) (now (sums .exit))) r ⌝ }
 {
     let r = recorder_of(head, counts, sizes, holds, h, d, last, sums);
-    let answer = analyser::recording::touch(r, segment as usize);
+    let answer = recordcalls::touch(r, segment as usize);
     let verdict = answer.verdict;
     let next = answer.recorder;
     match verdict {
@@ -104,7 +104,7 @@ pub extern "C" fn segtrace_recorder_touch_all(
         (now (h .exit)) (now (d .exit)) (now (last .exit)) (now (sums .exit))) r ⌝ }
 {
     let r = recorder_of(head, counts, sizes, holds, h, d, last, sums);
-    let answer = analyser::recording::touch_all(r, segments);
+    let answer = recordcalls::touch_all(r, segments);
     let verdict = answer.verdict;
     let after = answer.recorder;
     match verdict {
@@ -136,7 +136,7 @@ pub extern "C" fn segtrace_recorder_figures(
         row (now (figures .entry)) (now (figures .exit)) r ⌝ }
 {
     let r = recorder_of(head, counts, sizes, holds, h, d, last, sums);
-    let answer = analyser::recording::figures(r, row as usize);
+    let answer = recordcalls::figures(r, row as usize);
     let verdict = answer.verdict;
     match verdict {
         Verdict::Accepted => {

@@ -1,0 +1,5 @@
+pub mod GivenLists
+pub mod LookedAt
+pub mod LruFromBytes
+pub mod PointsFromBytes
+pub mod WindowsFromBytes
