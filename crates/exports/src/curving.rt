@@ -1,21 +1,9 @@
 // The misses of least-recently-used replacement for other languages.
-// What is returned and left is written in specs/; nothing is assumed.
-use crate::tell;
-use model::Verdict;
-ghost use mathlib.Core.Path.{_≡_};
+// What is returned and left is written in crate `lentcalls`; nothing is assumed.
+use lentcalls::tell;
 ghost use Rattle.listcalls.specs.Curving.{lruPlainResult};
-ghost use Rattle.exports.specs.Curving.{LruCall};
-ghost use Rattle.exports.specs.Exported.{orOld, PlaceCall};
-
-// The new number, or where the call is refused the old one.
-fn or_old(verdict: Verdict, new: u64, old: u64) -> u64
-    ensures { λ r. ⌜ r ≡ orOld verdict new old ⌝ }
-{
-    match verdict {
-        Verdict::Accepted => new,
-        Verdict::Refused(_) => old,
-    }
-}
+ghost use Rattle.lentcalls.specs.Curving.{LruCall};
+ghost use Rattle.lentcalls.specs.Exported.{PlaceCall};
 
 // The misses with 1, 2, .., segs frames, by stack distances, how many numbers, and the entries of the recency list that were looked at: the
 // sheet's refusals, 26, 27, 11.
@@ -29,11 +17,7 @@ pub extern "C" fn segtrace_lru(
     ensures { λ r. ⌜ LruCall (now (sheet .entry)) (now (out .entry)) (now (out .exit))
         (now (written .entry)) (now (written .exit)) (now (looked .entry)) (now (looked .exit)) r ⌝ }
 {
-    let answer = listcalls::curving::lru(sheet, out);
-    let placed = answer.placed;
-    let verdict = placed.verdict;
-    *looked = or_old(verdict, answer.looked, *looked);
-    tell(placed, written)
+    lentcalls::lru(sheet, out, written, looked)
 }
 
 // The same misses by simulating each number of frames in turn: the sheet's refusals, 26, 27, 11.

@@ -1,8 +1,8 @@
 // The call on a trace in the din text form: the trace as a sheet.
-// What it returns and leaves is written in specs/Exported.antt and in crate `sheetcalls`; nothing is assumed.
-use crate::tell;
+// What it returns and leaves is written in crates `lentcalls` and `sheetcalls`; nothing is assumed.
+use lentcalls::tell;
 ghost use Rattle.sheetcalls.specs.Importing.{importResult};
-ghost use Rattle.exports.specs.Exported.{PlaceCall};
+ghost use Rattle.lentcalls.specs.Exported.{PlaceCall};
 
 // The sheet of a trace with pages of 2 to the power k bytes and the rows of a given sheet, and its length: the given sheet's refusals, 23,
 // 24, 25, 11.

@@ -1,6 +1,6 @@
 // The analyser's calls for programs in C and other languages, as include/segtrace.h declares them: on numbers, slices and lists of
 // numbers. Each returns 0 or the number of the refusal; refused, it leaves all that it was lent as it was.
-// What each returns and leaves is written in specs/; nothing is assumed.
+// What each returns and leaves is written in specs/ of `lentcalls` and `lentrecorder`; nothing is assumed.
 pub mod curving;
 pub mod importing;
 pub mod modifying;
@@ -9,7 +9,7 @@ pub mod pairing;
 pub mod recording;
 pub mod windowing;
 
-use model::PlaceAnswer;
+use lentcalls::tell;
 use model::RowFigures;
 use model::Verdict;
 ghost use mathlib.Core.Path.{_≡_};
@@ -20,7 +20,7 @@ ghost use Rattle.numbers.specs.Figures.{figureList};
 ghost use Rattle.analyser.specs.Answers.{figuresAnswer, listingResult, pageResult, scheduleResult, pricing};
 ghost use Rattle.rowcalls.specs.Answers.{marginAnswer, sizeAnswer, billAnswer};
 ghost use Rattle.sheetcalls.specs.Converting.{toForm2Result, toForm1Result};
-ghost use Rattle.exports.specs.Exported.{orOld, priceList, rewriteResult, rowsResult, PlaceCall};
+ghost use Rattle.lentcalls.specs.Exported.{orOld, priceList, rewriteResult, rowsResult, PlaceCall};
 
 // Whether the bytes are a sheet: the sheet's refusals.
 #[no_mangle]
@@ -30,21 +30,6 @@ pub extern "C" fn segtrace_check(sheet: &[u8]) -> u64
     let answer = analyser::read(sheet);
     let verdict = answer.verdict;
     model::verdict_number(verdict)
-}
-
-// What a call that wrote into a place returns, and its length into `written`, unless it was refused.
-fn tell(answer: PlaceAnswer, written: &mut u64) -> u64
-    ensures { λ r. ⌜ (r ≡ verdictNumber (answer .verdict))
-        × (now (written .exit) ≡ orOld (answer .verdict) (answer .length) (now (written .entry))) ⌝ }
-{
-    let verdict = answer.verdict;
-    match verdict {
-        Verdict::Accepted => {
-            *written = answer.length as u64;
-            0
-        }
-        Verdict::Refused(why) => model::number(why),
-    }
 }
 
 // The sheet read and written again, and its length: the sheet's refusals, 11.
@@ -107,19 +92,7 @@ pub extern "C" fn segtrace_all_figures(sheet: &[u8], out: &mut [u64], written: &
     ensures { λ r. ⌜ PlaceCall (rowsResult (now (sheet .entry))) (now (out .entry)) (now (out .exit))
         (now (written .entry)) (now (written .exit)) r ⌝ }
 {
-    let all = records::all_records(sheet, out.len() / RowFigures::ITEMS);
-    let answer = all.answer;
-    let verdict = answer.verdict;
-    match verdict {
-        Verdict::Accepted => {
-            let n = answer.length;
-            let figures = all.figures;
-            let end = numbers::put_rows(figures, n, out);
-            *written = end as u64;
-            0
-        }
-        Verdict::Refused(why) => model::number(why),
-    }
+    lentcalls::all_figures(sheet, out, written)
 }
 
 // The listing, and its length: the sheet's refusals, 11.
@@ -169,15 +142,7 @@ pub extern "C" fn segtrace_price(
         × (now (price .exit) ≡ orOld (pricing (now (sheet .entry)) row (now (schedule .entry)) .verdict)
         (priceList (pricing (now (sheet .entry)) row (now (schedule .entry)))) (now (price .entry))) ⌝ }
 {
-    let answer = analyser::price(sheet, row as usize, schedule);
-    let verdict = answer.verdict;
-    match verdict {
-        Verdict::Accepted => {
-            *price = [answer.memory.0, answer.load.0, answer.total];
-            0
-        }
-        Verdict::Refused(why) => model::number(why),
-    }
+    lentcalls::price(sheet, row, schedule, price)
 }
 
 // The margin of a reference, counted from 1, at a row: the sheet's refusals, 7, 14, 15.
@@ -206,15 +171,7 @@ pub extern "C" fn segtrace_size(sheet: &[u8], ceiling: u64, row: &mut u64) -> u6
         × (now (row .exit) ≡ orOld (sizeAnswer (now (sheet .entry)) ceiling .verdict)
         (sizeAnswer (now (sheet .entry)) ceiling .row) (now (row .entry))) ⌝ }
 {
-    let answer = rowcalls::sizing::size(sheet, ceiling);
-    let verdict = answer.verdict;
-    match verdict {
-        Verdict::Accepted => {
-            *row = answer.row as u64;
-            0
-        }
-        Verdict::Refused(why) => model::number(why),
-    }
+    lentcalls::size(sheet, ceiling, row)
 }
 
 // The bill of a row in cents, at two rates and a minimum: the sheet's refusals, 7, 18.

@@ -1,8 +1,8 @@
 // The schedule call of form 4 for other languages.
-// What is returned and left is written in specs/Exported.antt; nothing is assumed.
-use crate::tell;
+// What is returned and left is written in crate `lentcalls`; nothing is assumed.
+use lentcalls::tell;
 ghost use Rattle.storecalls.specs.Modified.{modifiedResult};
-ghost use Rattle.exports.specs.Exported.{PlaceCall};
+ghost use Rattle.lentcalls.specs.Exported.{PlaceCall};
 
 // The schedule of the least total with stores counted of a row, and its length: the sheet's refusals, where any form but 4 is 4, 7, 11.
 #[no_mangle]

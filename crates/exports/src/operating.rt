@@ -1,8 +1,8 @@
 // Every operating point of a sheet for other languages.
-// What is returned and left is written in specs/Exported.antt; nothing is assumed.
-use crate::tell;
+// What is returned and left is written in crate `lentcalls`; nothing is assumed.
+use lentcalls::tell;
 ghost use Rattle.listcalls.specs.Operating.{pointsResult};
-ghost use Rattle.exports.specs.Exported.{PlaceCall};
+ghost use Rattle.lentcalls.specs.Exported.{PlaceCall};
 
 // Every operating point as four numbers, R, w, optmem and load, and how many numbers: the sheet's refusals, 11.
 #[no_mangle]

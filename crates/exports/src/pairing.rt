@@ -1,8 +1,8 @@
 // The call on two sheets: the two as one.
-// What it returns and leaves is written in specs/Exported.antt and in crate `joincalls`; nothing is assumed.
-use crate::tell;
+// What it returns and leaves is written in crates `lentcalls` and `joincalls`; nothing is assumed.
+use lentcalls::tell;
 ghost use Rattle.joincalls.specs.Joining.{joinResult};
-ghost use Rattle.exports.specs.Exported.{PlaceCall};
+ghost use Rattle.lentcalls.specs.Exported.{PlaceCall};
 
 // Two sheets of form 2 or 3 as one of form 3, and its length: the first's refusals, then the second's, where form 1 is 4, 20, 21, 22, 11.
 #[no_mangle]

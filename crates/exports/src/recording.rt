@@ -1,16 +1,12 @@
 // The recorder's calls, on a recorder that the caller holds as lists of numbers. Whatever numbers stand there, each call returns.
-// What each returns and leaves is written in specs/Recording.antt; nothing is assumed.
+// What each returns and leaves is written in crate `lentrecorder`; nothing is assumed.
 use buckets::Bucket;
 use buckets::Tally;
 use model::RowFigures;
 use model::Sheet;
-use model::Verdict;
-use numbers::recorders::recorder_of;
-use numbers::recorders::store_head;
-use numbers::recorders::store_taken;
 ghost use Rattle.recorder.specs.Recorders.{Touched, TouchedAll};
 ghost use Rattle.numbers.specs.Recorders.{lists};
-ghost use Rattle.exports.specs.Recording.{StartCall, TouchCall, IdleCall, FiguresCall};
+ghost use Rattle.lentrecorder.specs.Recording.{StartCall, TouchCall, IdleCall, FiguresCall};
 
 // A recorder with the kind, a, sizes, rows and warm segments of a sheet and no steps: the sheet's refusals.
 #[no_mangle]
@@ -31,17 +27,7 @@ pub extern "C" fn segtrace_recorder_start(
         (lists (now (head .exit)) (now (counts .exit)) (now (sizes .exit)) (now (holds .exit))
         (now (h .exit)) (now (d .exit)) (now (last .exit)) (now (sums .exit))) r ⌝ }
 {
-    let answer = recordcalls::start(sheet);
-    let verdict = answer.verdict;
-    let r = answer.recorder;
-    match verdict {
-        Verdict::Accepted => {
-            store_head(r, head, sizes, holds, h, d);
-            store_taken(r, counts, last, sums);
-            0
-        }
-        Verdict::Refused(why) => model::number(why),
-    }
+    lentrecorder::start(sheet, head, counts, sizes, holds, h, d, last, sums)
 }
 
 // Takes one reference: 4, 13.
@@ -63,17 +49,7 @@ pub extern "C" fn segtrace_recorder_touch(
         (lists (now (head .exit)) (now (counts .exit)) (now (sizes .exit)) (now (holds .exit))
         (now (h .exit)) (now (d .exit)) (now (last .exit)) (now (sums .exit))) r ⌝ }
 {
-    let r = recorder_of(head, counts, sizes, holds, h, d, last, sums);
-    let answer = recordcalls::touch(r, segment as usize);
-    let verdict = answer.verdict;
-    let next = answer.recorder;
-    match verdict {
-        Verdict::Accepted => {
-            store_taken(next, counts, last, sums);
-            0
-        }
-        Verdict::Refused(why) => model::number(why),
-    }
+    lentrecorder::touch(head, counts, sizes, holds, h, d, last, sums, segment)
 }
 
 // Takes one step without a touch, by the counts alone: 13.
@@ -103,17 +79,7 @@ pub extern "C" fn segtrace_recorder_touch_all(
         (lists (now (head .exit)) (now (counts .exit)) (now (sizes .exit)) (now (holds .exit))
         (now (h .exit)) (now (d .exit)) (now (last .exit)) (now (sums .exit))) r ⌝ }
 {
-    let r = recorder_of(head, counts, sizes, holds, h, d, last, sums);
-    let answer = recordcalls::touch_all(r, segments);
-    let verdict = answer.verdict;
-    let after = answer.recorder;
-    match verdict {
-        Verdict::Accepted => {
-            store_taken(after, counts, last, sums);
-            0
-        }
-        Verdict::Refused(why) => model::number(why),
-    }
+    lentrecorder::touch_all(head, counts, sizes, holds, h, d, last, sums, segments)
 }
 
 // The figures of a row at this moment: 7.
@@ -135,14 +101,5 @@ pub extern "C" fn segtrace_recorder_figures(
         (now (h .entry)) (now (d .entry)) (now (last .entry)) (now (sums .entry)))
         row (now (figures .entry)) (now (figures .exit)) r ⌝ }
 {
-    let r = recorder_of(head, counts, sizes, holds, h, d, last, sums);
-    let answer = recordcalls::figures(r, row as usize);
-    let verdict = answer.verdict;
-    match verdict {
-        Verdict::Accepted => {
-            *figures = numbers::of_row(answer.figures);
-            0
-        }
-        Verdict::Refused(why) => model::number(why),
-    }
+    lentrecorder::figures(head, counts, sizes, holds, h, d, last, sums, row, figures)
 }

@@ -1,8 +1,8 @@
 // The window recursion for other languages.
-// What is returned and left is written in specs/Exported.antt; nothing is assumed.
-use crate::tell;
+// What is returned and left is written in crate `lentcalls`; nothing is assumed.
+use lentcalls::tell;
 ghost use Rattle.listcalls.specs.Windowing.{windowsResult};
-ghost use Rattle.exports.specs.Exported.{PlaceCall};
+ghost use Rattle.lentcalls.specs.Exported.{PlaceCall};
 
 // wsocc at the windows 1, 2, .., steps, and how many numbers: the sheet's refusals, 28, 26, 27, 11.
 #[no_mangle]

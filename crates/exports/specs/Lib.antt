@@ -1,3 +1,0 @@
-pub mod Curving
-pub mod Exported
-pub mod Recording

@@ -1,0 +1,2 @@
+pub mod Curving
+pub mod Exported
