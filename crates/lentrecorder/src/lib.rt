@@ -1,8 +1,8 @@
 // The recorder's calls on a recorder that the caller holds as lists of numbers, as plain functions that crate `exports` hands on. Whatever
 // numbers stand there, each call returns.
 // What each returns and leaves is written in specs/Recording.antt; nothing is assumed.
-use figures::Bucket;
-use figures::Tally;
+use buckets::Bucket;
+use buckets::Tally;
 use model::RowFigures;
 use model::Sheet;
 use model::Verdict;
