@@ -15,7 +15,7 @@ use Rattle.model.specs.declared.Kind.{Kind}
 use Rattle.model.proofs.LastTouches.{listed-none}
 use Rattle.model.proofs.Sums.{sum-none, sum-suc, sum-zero}
 use Rattle.model.proofs.Tables.{getD-tabulate}
-use Rattle.pricing.specs.inner.Steps.{startCost}
+use Rattle.pricing.specs.inner.StartCost.{startCost}
 
 -- the table is 0 exactly at the warm segments
 start-zero : (warm : List ℕ) (i : ℕ) → i < 256 → eqb (getD (startTable warm) i 0) 0 ≡ listed warm i

@@ -3,12 +3,12 @@
 use Prim.Native.Nat.{ℕ, zero, suc, _*_, _≤_, _<_}
 use mathlib.Core.Path.{_≡_, refl, _∙_}
 use mathlib.Core.Logic.{⊎-elim}
-use mathlib.Core.Bool.{Bool, true, false, cond, not, _&&_, _||_}
+use mathlib.Core.Bool.{Bool, true, false, cond, not, _&&_}
 use mathlib.Core.List.{List}
 use native.Mathlib.Omega.{arith}
 use lib.Dec.{eqb, ltb}
 use lib.ListN.{length}
-use borrow.Author.Tests.{eqb-true, eq-eqb, ltb-true, lt-ltb, not-false}
+use borrow.Author.Tests.{eqb-true, eq-eqb, ltb-true, not-false}
 use Rattle.model.specs.Traces.{Trace, segs, steps, entry, touched}
 use Rattle.model.specs.Figures.{load, optmem, opttotal}
 use Rattle.model.specs.Schedules.{held, Permitted, scheduleMemory, scheduleLoad, scheduleTotal, optimalSchedule}
@@ -17,20 +17,12 @@ use Rattle.model.specs.declared.Refusal.the-variants.{ScheduleLength, TouchedNo
 use Rattle.model.specs.declared.Verdict.{Verdict}
 use Rattle.model.specs.declared.Verdict.the-variants.{Accepted, Refused}
 use Rattle.model.proofs.Sums.{last-or-below}
-use Rattle.model.proofs.Touches.{touched-at, touched-below, entry-touched}
+use Rattle.model.proofs.Touches.{touched-at}
 use Rattle.model.proofs.Optimal.{optimal-permitted, optimal-memory, optimal-load, optimal-total}
 use Rattle.pricing.specs.declared.PriceAnswer.{PriceAnswer}
-use Rattle.pricing.specs.Checking.{missing, enters, someEnters, stepVerdict}
-use Rattle.pricing.specs.Checking.{firstOf, stepsVerdict, scheduleVerdict, noPrice, priceAnswer}
-
--- the parts of a disjunction that is false
-pub or-left : (a b : Bool) → a || b ≡ false → a ≡ false
-or-left true b e = e
-or-left false b e = refl
-
-pub or-right : (a b : Bool) → a || b ≡ false → b ≡ false
-or-right true b e = let z : _≡_ {A = ℕ} 0 1 = cc in absurd (omega arith)
-or-right false b e = e
+use Rattle.pricing.specs.Checking.{scheduleVerdict, noPrice, priceAnswer}
+use Rattle.stepprice.specs.StepVerdicts.{missing, enters, someEnters, stepVerdict, firstOf, stepsVerdict}
+use Rattle.stepprice.proofs.StepFaults.{none-enters, step-accepted, held-touched}
 
 -- two verdicts are accepted where the first of them is
 first-left : (v w : Verdict) → firstOf v w ≡ Accepted → v ≡ Accepted
@@ -42,26 +34,13 @@ first-right Accepted w e = e
 first-right (Refused r) w e = let z : _≡_ {A = ℕ} 0 1 = cc in absurd (omega arith)
 
 module _ (T : Trace) (p : List ℕ) where
-  -- none of the first n enters exactly where each of them does not
-  pub none-enters : (t n : ℕ) → someEnters T p t n ≡ false → (i : ℕ) → i < n → enters T p t i ≡ false
-  unfolding someEnters
-  none-enters t zero e i lt = absurd (omega arith)
-  none-enters t (suc n) e i lt =
-      ⊎-elim
-      (λ s. rw s (or-right (someEnters T p t n) (enters T p t n) e))
-      (λ l. none-enters t n (or-left (someEnters T p t n) (enters T p t n) e) i l)
-      (last-or-below n i lt)
-
+  -- none of the first n enters where each of them does not
   pub enters-none : (t n : ℕ) → ((i : ℕ) → i < n → enters T p t i ≡ false) → someEnters T p t n ≡ false
   unfolding someEnters
   enters-none t zero each = refl
   enters-none t (suc n) each = rw (enters-none t n (λ i l. each i (omega arith)), each n (omega arith))
 
-  -- a step is accepted where it has neither fault
-  pub step-accepted : (t : ℕ) → missing T p t ≡ false → someEnters T p t 256 ≡ false → stepVerdict T p t ≡ Accepted
-  unfolding stepVerdict
-  step-accepted t m e = rw (m, e)
-
+  -- an accepted step has neither fault
   accepted-step : (t : ℕ) → stepVerdict T p t ≡ Accepted → (missing T p t ≡ false) × (someEnters T p t 256 ≡ false)
   unfolding stepVerdict
   accepted-step t = go (missing T p t) (someEnters T p t 256)
@@ -85,11 +64,6 @@ module _ (T : Trace) (p : List ℕ) where
   unfolding stepsVerdict
   steps-accepted zero each = refl
   steps-accepted (suc n) each = rw (steps-accepted n (λ t l. each t (omega arith)), each n (omega arith))
-
-  -- one accepted step more
-  pub one-more : (n : ℕ) → stepsVerdict T p n ≡ Accepted → stepVerdict T p n ≡ Accepted → stepsVerdict T p (suc n) ≡ Accepted
-  unfolding stepsVerdict
-  one-more n before e = rw (before, e)
 
   -- the earliest faulty step decides, however many follow
   pub first-fault : (n t : ℕ) (r : Refusal) → t < n → stepsVerdict T p t ≡ Accepted → stepVerdict T p t ≡ Refused r
@@ -119,13 +93,6 @@ module _ (T : Trace) (p : List ℕ) where
       go true q v = (eqb-true (length p) (32 * steps T) q, v)
       go false q v = let z : _≡_ {A = ℕ} 0 1 = cc in absurd (omega arith)
 
-  -- in a step that lacks nothing, the touched segment is held
-  pub held-touched : (t i : ℕ) → missing T p t ≡ false → touched T t i ≡ true → held T p (suc t) i ≡ true
-  unfolding missing
-  held-touched t i none m =
-      let same = entry-touched T t i m in
-      not-false (held T p (suc t) i) (rw (same, lt-ltb i (segs T) (touched-below T t i m)) at none)
-
   -- a segment that does not enter, and is held untouched, was held before
   stays : (t i : ℕ) → enters T p t i ≡ false → touched T t i ≡ false → held T p (suc t) i ≡ true → held T p t i ≡ true
   unfolding enters
@@ -139,8 +106,8 @@ module _ (T : Trace) (p : List ℕ) where
       λ t lt. accepted-step t (accepted-steps (steps T) all t lt) in
       record {
         whole = whole;
-        touched-held = λ t i lt m. held-touched t i (each t lt .0) m;
-        others-stay = λ t i lt l m h. stays t i (none-enters t 256 (each t lt .1) i l) m h;
+        touched-held = λ t i lt m. held-touched T p t i (each t lt .0) m;
+        others-stay = λ t i lt l m h. stays t i (none-enters T p t 256 (each t lt .1) i l) m h;
       }
 
   -- a permitted schedule lacks no touched segment, and no other segment enters
@@ -165,7 +132,7 @@ module _ (T : Trace) (p : List ℕ) where
   pub permitted-accepted : Permitted T p → scheduleVerdict T p ≡ Accepted
   permitted-accepted ok =
       whole-verdict (ok .whole)
-      ∙ steps-accepted (steps T) (λ t lt. step-accepted t (lacks-none ok t lt) (enters-none t 256 (λ i l. enters-not ok t i lt l)))
+      ∙ steps-accepted (steps T) (λ t lt. step-accepted T p t (lacks-none ok t lt) (enters-none t 256 (λ i l. enters-not ok t i lt l)))
 
 -- what pricing an accepted schedule answers
 abbrev pub priced : ℕ → ℕ → ℕ → PriceAnswer

@@ -8,8 +8,9 @@ use denote.Ref.{now}
 use borrow.Author.Needs.{needs}
 use borrow.Author.Tests.{ne-eqb}
 use Rattle.model.specs.Sheets.{runOf}
-use Rattle.pricing.specs.inner.Steps.{Through}
-use Rattle.pricing.proofs.Costing.{through-none, through-within, through-all}
+use Rattle.stepprice.specs.Steps.{Through}
+use Rattle.stepprice.proofs.StepCosts.{through-within}
+use Rattle.pricing.proofs.Costing.{through-none, through-all}
 use Rattle.pricing.proofs.Verdicts.{first-fault, whole-verdict, other-length, refused-answer}
 use Rattle.pricing.proofs.price_from.Statement.{statement}
 use Rattle.pricing.proofs.price_from.Tie as tie
@@ -29,7 +30,7 @@ returns c = c .refused .ensures ∙ sym (refused-answer _ _ _ _ _ (other-length 
 loop-holds : tie.Need-loop-holds Inv-loop μ-loop
 loop-holds c =
     let s = c .before .before .before .before .before .before in
-    (omega arith, through-none _ (s .pre .0) _ (now (s .args .warm)) _ (λ i. refl) (c .start-cost .ensures))
+    (omega arith, through-none _ _ (now (s .args .warm)) _ (λ i. refl) (c .start-cost .ensures))
 
 step-requires : tie.Need-step-requires Inv-loop μ-loop
 step-requires c κs =

@@ -1,0 +1,5 @@
+pub mod Changing
+pub mod Runs
+pub mod StepCosts
+pub mod StepFaults
+pub mod Words

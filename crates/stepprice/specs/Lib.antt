@@ -1,0 +1,3 @@
+pub mod inner
+pub mod StepVerdicts
+pub mod Steps

@@ -1,0 +1,38 @@
+-- Which refusal the steps of a schedule handed in get: 9 or 10 of the earliest faulty step. Assumes nothing.
+use Prim.Native.Nat.{ℕ, zero, suc}
+use mathlib.Core.Bool.{Bool, false, cond, not, _&&_, _||_}
+use mathlib.Core.List.{List}
+use lib.Dec.{ltb}
+use Rattle.model.specs.Traces.{Trace, segs, entry, touched}
+use Rattle.model.specs.Schedules.{held}
+use Rattle.model.specs.declared.Refusal.the-variants.{TouchedNotHeld, HeldNotBefore}
+use Rattle.model.specs.declared.Verdict.{Verdict}
+use Rattle.model.specs.declared.Verdict.the-variants.{Accepted, Refused}
+
+-- the step at place t touches a segment that is not held in it
+unfoldable pub missing : Trace → List ℕ → ℕ → Bool
+missing T p t = ltb (entry T t) (segs T) && not (held T p (suc t) (entry T t))
+
+-- segment i is held in the step at place t, untouched, and was not held in the step before
+unfoldable pub enters : Trace → List ℕ → ℕ → ℕ → Bool
+enters T p t i = (held T p (suc t) i && not (touched T t i)) && not (held T p t i)
+
+-- one of the segments 0 to n - 1 does so
+unfoldable pub someEnters : Trace → List ℕ → ℕ → ℕ → Bool
+someEnters T p t zero = false
+someEnters T p t (suc n) = someEnters T p t n || enters T p t n
+
+-- the step at place t by itself: 9 where the touched segment is not held, else 10 where another enters
+unfoldable pub stepVerdict : Trace → List ℕ → ℕ → Verdict
+stepVerdict T p t =
+    cond (missing T p t) (Refused TouchedNotHeld) (cond (someEnters T p t 256) (Refused HeldNotBefore) Accepted)
+
+-- the first refusal of two stands
+abbrev pub firstOf : Verdict → Verdict → Verdict
+firstOf Accepted v = v
+firstOf (Refused r) v = Refused r
+
+-- the first n steps: the earliest faulty one decides
+unfoldable pub stepsVerdict : Trace → List ℕ → ℕ → Verdict
+stepsVerdict T p zero = Accepted
+stepsVerdict T p (suc n) = firstOf (stepsVerdict T p n) (stepVerdict T p n)
