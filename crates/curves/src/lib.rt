@@ -46,7 +46,7 @@ pub fn sheet_curve(s: Sheet, out: &mut [u64]) -> CurveAnswer
             if out.len() < segs {
                 return no_curve(Refusal::PlaceTooShort);
             }
-            let looked = frames::distances::curve(&sizes[..segs], &touches[..steps], out);
+            let looked = distancepass::curve(&sizes[..segs], &touches[..steps], out);
             CurveAnswer {
                 placed: PlaceAnswer {
                     verdict: Verdict::Accepted,
@@ -75,7 +75,7 @@ pub fn sheet_curve_plain(s: Sheet, place: &mut [u64]) -> PlaceAnswer
             if place.len() < segs {
                 return PlaceAnswer::refused(Refusal::PlaceTooShort);
             }
-            frames::plain::curve(&sizes[..segs], &touches[..steps], place);
+            plainframes::curve(&sizes[..segs], &touches[..steps], place);
             PlaceAnswer {
                 verdict: Verdict::Accepted,
                 length: segs,

@@ -9,6 +9,7 @@ use Rattle.model.specs.Places.{Result, gives, refuses}
 use Rattle.model.specs.Sheets.{HeadValue, runOf}
 use Rattle.model.specs.Traces.{Trace, segs, steps, refsOf}
 use Rattle.model.specs.declared.Kind.{Kind}
+use Rattle.model.specs.declared.Kind.the-variants.{Time}
 use Rattle.model.specs.declared.Refusal.the-variants.{SizeNotOne, WarmSegment}
 use Rattle.model.specs.declared.Verdict.{Verdict}
 use Rattle.model.specs.declared.Verdict.the-variants.{Accepted, Refused}
@@ -35,6 +36,10 @@ onesFor head list = listAfter (onesVerdict (head .sizes) (length (head .warm))) 
 -- what holds of every run with these sizes and entries and no warm segment, whatever its kind and its weight
 abbrev pub EveryRun : List ℕ → List ℕ → (Trace → Type 0) → Type 0
 EveryRun sizes refs P = (kind : Kind) (a : ℕ) → P (runOf kind a sizes [] refs)
+
+-- a run with these sizes and entries and no warm segment; neither its kind nor its weight counts here
+abbrev pub touchesOf : List ℕ → List ℕ → Trace
+touchesOf sizes refs = runOf Time 0 sizes [] refs
 
 -- by distances: the misses with 1, 2, .., segs frames, and then what stood beyond them; the entries looked at, and their bound
 pub record ByDistances (T : Trace) (place place' : List ℕ) (looked : ℕ) : Type 0 where

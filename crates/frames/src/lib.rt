@@ -1,9 +1,5 @@
-// The misses of least-recently-used replacement with 1, 2, .., segs frames: by stack distances in one pass, and by simulating each number
-// of frames in turn. What they are is written in crate `lru`; nothing is assumed.
-pub mod distances;
-pub mod plain;
-mod recency;
-
+// Whether a sheet has misses with 1, 2, .., segs frames: every size is 1, and no segment is warm. What the engines that count them leave is
+// written in specs/; nothing is assumed.
 use model::Refusal;
 use model::Verdict;
 ghost use mathlib.Core.Path.{_≡_};
