@@ -12,7 +12,7 @@ use Rattle.sheet.specs.Writing.{sheetText}
 use Rattle.sheet.proofs.Accepted.{accepted-valid}
 use Rattle.sheet.proofs.Lengths.{text-within}
 use Rattle.din.specs.Import.{imported}
-use Rattle.din.specs.Lines.{linesOf}
+use Rattle.dinlines.specs.Lines.{linesOf}
 use Rattle.din.specs.Traced.{lineCount}
 use Rattle.din.proofs.Results.{imported-is, imported-valid, imported-read, imported-refs, imported-number, imported-new, imported-same}
 use Rattle.sheetcalls.specs.Importing.{importedResult, importResult, importedValue, ImportedFromBytes}

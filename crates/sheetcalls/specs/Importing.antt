@@ -12,8 +12,8 @@ use Rattle.sheet.specs.Accepting.{onSheet}
 use Rattle.sheet.specs.Reading.{accepted, readSheet}
 use Rattle.sheet.specs.Writing.{sheetText}
 use Rattle.din.specs.Import.{sheetOfPages, imported}
-use Rattle.din.specs.Lines.{linesOf}
-use Rattle.din.specs.Pages.{placeIn, firsts}
+use Rattle.dinlines.specs.Lines.{linesOf}
+use Rattle.dinpages.specs.Pages.{placeIn, firsts}
 use Rattle.din.specs.Traced.{lineCount, pagesIn, pageAt, pagesBefore}
 
 -- the sheet of a trace with the rows: 23, 24 and 25 line by line, then 11 by the place

@@ -1,0 +1,3 @@
+pub mod DigitValues
+pub mod Digits
+pub mod FirstLines

@@ -1,0 +1,5 @@
+pub mod Firsts
+pub mod Going
+pub mod Powers
+pub mod Probing
+pub mod Table
