@@ -83,7 +83,7 @@ fn kind_for(s: &[u8], taken: bool) -> KindAt
 }
 
 // The refusal, where so many sizes may have been read.
-fn no_head(why: Refusal, segs: usize) -> HeadRead
+pub fn no_head(why: Refusal, segs: usize) -> HeadRead
     ensures { λ r. ⌜ r ≡ noHead why segs ⌝ }
 {
     HeadRead {

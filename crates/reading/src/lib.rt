@@ -1,5 +1,6 @@
 // Reading a sheet: any bytes to the sheet that they stand for, or the refusal; its form, its head, and then the entries of its steps. Each
 // function reads from the head of the bytes that it is lent, and gives the place of what follows. Nothing is assumed.
+use headlines::HeadRead;
 use model::Head;
 use model::Refusal;
 use model::Sheet;
@@ -21,9 +22,20 @@ ghost use Rattle.sheet.specs.Lines.{andThen};
 ghost use Rattle.sheet.specs.Order.{headPart, entriesPart, runPart};
 ghost use Rattle.sheet.specs.Reading.{atEnd, namedForm, readForms, readSheet, rejected};
 ghost use Rattle.scan.specs.AtPlace.{parsedNumber, numberNext, parsedLines, linesNext, Filled};
-ghost use Rattle.reading.specs.inner.AtPlace.{formLine};
-ghost use Rattle.headlines.specs.HeadsAtPlace.{HeadFilled};
+ghost use Rattle.model.specs.declared.Head.{Head};
+ghost use Rattle.scan.specs.declared.numbers.LinesRead.the-variants.{Refused as NoLines};
+ghost use Rattle.reading.specs.inner.AtPlace.{formLine, sheetOn, answerAt, answerWith};
+ghost use Rattle.headlines.specs.HeadsAtPlace.{HeadFilled, headWith};
 ghost use Rattle.touchlines.specs.TouchesAtPlace.{entriesWith, markCount};
+
+// What was read of a sheet whose lists stand in the slices that were lent: its form, the rest of its head, how many steps there are, and
+// the place of what follows, or the refusal.
+struct SheetRead {
+    lines: LinesRead,
+    form: u8,
+    head: HeadRead,
+    steps: usize,
+}
 
 // The answer where the bytes are refused.
 fn refused(why: Refusal) -> SheetAnswer
@@ -78,35 +90,26 @@ fn entry_lines(s: &[u8], form: u8, segs: usize, out: &mut [u16], marks: &mut [bo
     numbers::counted_lines(s, b"refs=", 0, b"ref=", 0, last, out)
 }
 
-// Reads the entries of a sheet with this form and head, to the end.
-fn run_lines(s: &[u8], form: u8, head: Head) -> SheetAnswer
-    requires { ⌜ HeadFilled head ⌝ }
-    requires { ⌜ 1 ≤ head .segs ⌝ }
-    ensures { λ r. ⌜ r ≡ answerOf (atEnd (runPart form (headValueOf head) .reads (now (s .entry)))) ⌝ }
+// Reads the entries of a sheet of this form, to the end, into the front of `touches`, and from form 4 on its marks into that of `marks`.
+fn run_lines(s: &[u8], form: u8, segs: usize, touches: &mut [u16], marks: &mut [bool]) -> CountedAt
+    requires { ⌜ (1 ≤ segs) × (segs ≤ mostSegs) ⌝ }
+    requires { ⌜ (now touches ≡ idles mostSteps) × (now marks ≡ blankMarks mostSteps) ⌝ }
+    ensures { λ r. ⌜ ((head : Head) → HeadFilled head → head .segs ≡ segs
+        → answerAt (r .lines) (sheetOn form head (r .count) (now (touches .exit)) (now (marks .exit)))
+        ≡ answerOf (atEnd (runPart form (headValueOf head) .reads (now (s .entry))))) ⌝ }
 {
-    let mut touches = blank_touches();
-    let mut marks = blank_marks();
-    let most = touches.len();
-    let found = entry_lines(s, form, head.segs, &mut touches[..most], &mut marks[..most]);
+    let found = entry_lines(s, form, segs, touches, marks);
     let lines = found.lines;
-    let steps = found.count;
     match lines {
-        LinesRead::Refused(why) => refused(why),
+        LinesRead::Refused(_) => found,
         LinesRead::Done(end) => {
             if end < s.len() {
-                return refused(Refusal::BytesAfterEnd);
+                return CountedAt {
+                    lines: LinesRead::Refused(Refusal::BytesAfterEnd),
+                    count: 0,
+                };
             }
-            SheetAnswer {
-                verdict: Verdict::Accepted,
-                sheet: Sheet {
-                    form: form,
-                    head: head,
-                    steps: steps,
-                    touches: touches,
-                    marked: mark_count(form, steps),
-                    marks: marks,
-                },
-            }
+            found
         }
     }
 }
@@ -175,33 +178,100 @@ fn blank_sizes() -> [u16; Sheet::MAX_SEGS]
     [0u16; Sheet::MAX_SEGS]
 }
 
-// Reads the lines after the form line, to the end, of a sheet whose form is taken or is not.
-fn sheet_lines(s: &[u8], taken: bool, form: u8) -> SheetAnswer
-    ensures { λ r. ⌜ r ≡ answerOf (atEnd (andThen (headPart taken (leb 3 form) .reads (now (s .entry)))
-        (λ head rest. runPart form head .reads rest))) ⌝ }
+// Reads the lines after the form line, to the end, of a sheet whose form is taken or is not; its lists go into the slices.
+fn sheet_lines(
+    s: &[u8],
+    taken: bool,
+    form: u8,
+    sizes: &mut [u16],
+    holds: &mut [u16],
+    touches: &mut [u16],
+    marks: &mut [bool],
+) -> SheetRead
+    requires { ⌜ (now sizes ≡ zeros mostSegs) × (now holds ≡ zeros mostSegs) ⌝ }
+    requires { ⌜ (now touches ≡ idles mostSteps) × (now marks ≡ blankMarks mostSteps) ⌝ }
+    ensures { λ r. ⌜ answerWith r (now (sizes .exit)) (now (holds .exit)) (now (touches .exit)) (now (marks .exit))
+        ≡ answerOf (atEnd (andThen (headPart taken (leb 3 form) .reads (now (s .entry))) (λ head rest. runPart form head .reads rest))) ⌝ }
 {
-    let mut sizes = blank_sizes();
-    let mut holds = blank_sizes();
-    let most = sizes.len();
-    let found = headlines::head_lines(s, taken, 3 <= form, &mut sizes[..most], &mut holds[..most]);
+    let found = headlines::head_lines(s, taken, 3 <= form, sizes, holds);
     let lines = found.lines;
     match lines {
-        LinesRead::Refused(why) => refused(why),
+        LinesRead::Refused(why) => no_sheet(why),
         LinesRead::Done(at) => {
-            let kind = found.kind;
-            let prices = found.prices;
-            let head = Head {
-                kind: kind,
-                a: found.a,
-                segs: found.segs,
-                sizes: sizes,
-                rows: found.rows,
-                prices: prices,
-                warm: found.warm,
-                holds: holds,
-            };
-            run_lines(&s[at..], form, head)
+            let run = run_lines(&s[at..], form, found.segs, touches, marks);
+            let rest = run.lines;
+            SheetRead {
+                lines: rest,
+                form: form,
+                head: found,
+                steps: run.count,
+            }
         }
+    }
+}
+
+// The refusal.
+fn no_sheet(why: Refusal) -> SheetRead
+    ensures { λ r. ⌜ r .lines ≡ NoLines why ⌝ }
+{
+    SheetRead {
+        lines: LinesRead::Refused(why),
+        form: 1,
+        head: headlines::no_head(why, 0),
+        steps: 0,
+    }
+}
+
+// Reads a sheet of one of the forms `lo` to `hi`; its lists go into the slices.
+fn all_lines(
+    bytes: &[u8],
+    lo: u8,
+    hi: u8,
+    sizes: &mut [u16],
+    holds: &mut [u16],
+    touches: &mut [u16],
+    marks: &mut [bool],
+) -> SheetRead
+    requires { ⌜ (now sizes ≡ zeros mostSegs) × (now holds ≡ zeros mostSegs) ⌝ }
+    requires { ⌜ (now touches ≡ idles mostSteps) × (now marks ≡ blankMarks mostSteps) ⌝ }
+    ensures { λ r. ⌜ answerWith r (now (sizes .exit)) (now (holds .exit)) (now (touches .exit)) (now (marks .exit))
+        ≡ answerOf (readForms lo hi (now (bytes .entry))) ⌝ }
+{
+    if too_long(bytes) {
+        return no_sheet(Refusal::SheetTooLong);
+    }
+    match form_line(bytes, lo, hi) {
+        NumberAt::Refused(why) => no_sheet(why),
+        NumberAt::Number(form, first) => {
+            let taken = lo as u32 <= form;
+            sheet_lines(
+                &bytes[first..],
+                taken,
+                form as u8,
+                sizes,
+                holds,
+                touches,
+                marks,
+            )
+        }
+    }
+}
+
+// The head that was read, with its lists.
+fn head_of(read: HeadRead, sizes: [u16; Sheet::MAX_SEGS], holds: [u16; Sheet::MAX_SEGS]) -> Head
+    ensures { λ r. ⌜ r ≡ headWith read sizes holds ⌝ }
+{
+    let kind = read.kind;
+    let prices = read.prices;
+    Head {
+        kind: kind,
+        a: read.a,
+        segs: read.segs,
+        sizes: sizes,
+        rows: read.rows,
+        prices: prices,
+        warm: read.warm,
+        holds: holds,
     }
 }
 
@@ -209,14 +279,36 @@ fn sheet_lines(s: &[u8], taken: bool, form: u8) -> SheetAnswer
 pub fn read_forms(bytes: &[u8], lo: u8, hi: u8) -> SheetAnswer
     ensures { λ r. ⌜ r ≡ answerOf (readForms lo hi (now (bytes .entry))) ⌝ }
 {
-    if too_long(bytes) {
-        return refused(Refusal::SheetTooLong);
+    let mut sizes = blank_sizes();
+    let mut holds = blank_sizes();
+    let mut touches = blank_touches();
+    let mut marks = blank_marks();
+    let segs = sizes.len();
+    let steps = touches.len();
+    let found = all_lines(
+        bytes,
+        lo,
+        hi,
+        &mut sizes[..segs],
+        &mut holds[..segs],
+        &mut touches[..steps],
+        &mut marks[..steps],
+    );
+    let lines = found.lines;
+    match lines {
+        LinesRead::Refused(why) => return refused(why),
+        LinesRead::Done(_) => {}
     }
-    match form_line(bytes, lo, hi) {
-        NumberAt::Refused(why) => refused(why),
-        NumberAt::Number(form, first) => {
-            sheet_lines(&bytes[first..], lo as u32 <= form, form as u8)
-        }
+    SheetAnswer {
+        verdict: Verdict::Accepted,
+        sheet: Sheet {
+            form: found.form,
+            head: head_of(found.head, sizes, holds),
+            steps: found.steps,
+            touches: touches,
+            marked: mark_count(found.form, found.steps),
+            marks: marks,
+        },
     }
 }
 

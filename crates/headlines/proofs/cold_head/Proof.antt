@@ -23,11 +23,13 @@ room : (c : tie.Start) → length (c .args .sizes .now) ≡ mostSegs
 room c = ap length (c .pre) ∙ zeros-length mostSegs
 
 -- the sizes stand at the front of zeros
-sized : (c : tie.After-counted-lines) → Filled (c .counted-lines .result .count) (c .counted-lines .last .1 .1 .1 .1 .1 .1 .0) (zeros mostSegs)
+sized : (c : tie.After-counted-lines)
+    → Filled (c .counted-lines .result .count) (c .counted-lines .last .1 .1 .1 .1 .1 .1 .0) (zeros mostSegs)
 sized c = subst (Filled _ _) (c .before .before .before .before .before .before .pre) (c .counted-lines .ensures .1 .1)
 
 -- the lines of the sizes end within the bytes
-place : (c : tie.After-lines2) → c .lines2 .given .0 .0 ≤ length (c .before .before .before .before .before .before .before .before .before .before .args .s .now)
+place : (c : tie.After-lines2) → c .lines2 .given .0 .0
+    ≤ length (c .before .before .before .before .before .before .before .before .before .before .args .s .now)
 place c = omega (arith, c .before .before .before .before .counted-lines .ensures .1 .0, ap linesNext (c .lines2 .given .1))
 
 counted-lines-requires : tie.Need-counted-lines-requires

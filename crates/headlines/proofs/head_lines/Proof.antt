@@ -63,7 +63,8 @@ after-requires c κs =
     omega (
       arith,
       k .before .before .before .before .before .before .good,
-      tail-place (k .before .before .before .before .before .before .args .s .now) (k .kind .given .0 .1 .0 + w .n .given .0 .1 .0) (linesNext (t .table-lines .result .lines))
+      tail-place (k .before .before .before .before .before .before .args .s .now) (k .kind .given .0 .1 .0 + w .n .given .0 .1 .0)
+          (linesNext (t .table-lines .result .lines))
           (place w) (t .table-lines .ensures .within),
     )
 
@@ -97,7 +98,8 @@ returns-3 c =
     let k = w .before .before .before .before .before .before in
     let e₁ = sym (k .before .before .kind-for .ensures .0) ∙ ap (parsedKind _) (k .kind .given .1) in
     let e₂ = sym (w .before .before .number-line .ensures .0) ∙ ap (parsedNumber _) (w .n .given .1) in
-    head-after _ _ (k .before .before .before .before .before .before .args .s .now) (k .kind .given .0 .1 .0) (w .n .given .0 .1 .0) _ _ (t .table-lines .result) (c .after .result)
+    head-after _ _ (k .before .before .before .before .before .before .args .s .now) (k .kind .given .0 .1 .0) (w .n .given .0 .1 .0) _ _
+    (t .table-lines .result) (c .after .result)
     _ _ e₁ e₂ (place w) (t .table-lines .ensures) (c .after .ensures)
 
 pub head-lines-spec : {M : Type 1} → statement M

@@ -14,11 +14,13 @@ use Rattle.headlines.proofs.table_lines.Statement.{statement}
 use Rattle.headlines.proofs.table_lines.Tie as tie
 
 -- the lines of the sizes and the rows end within the bytes
-place : (c : tie.After-lines) → c .lines .given .0 .0 ≤ length (c .before .before .before .before .before .before .before .before .before .before .args .s .now)
+place : (c : tie.After-lines) → c .lines .given .0 .0
+    ≤ length (c .before .before .before .before .before .before .before .before .before .before .args .s .now)
 place c = head-place _ _ _ _ _ _ (c .before .before .before .before .before .cold-head .ensures) (c .lines .given .1)
 
 returns : tie.Need-returns
-returns c = cold-later _ _ _ _ _ _ _ (not-true _ (c .if1 .taken)) (c .before .before .before .before .before .before .before .before .pre .1) (c .before .before .before .cold-head .ensures)
+returns c = cold-later _ _ _ _ _ _ _ (not-true _ (c .if1 .taken))
+    (c .before .before .before .before .before .before .before .before .pre .1) (c .before .before .before .cold-head .ensures)
 
 sub-warm-lines : tie.Need-sub-warm-lines
 sub-warm-lines c = omega (arith, place (c .before))
@@ -33,7 +35,8 @@ warm-lines-requires c κs =
     let f = h .cold-head .ensures in
     let z = zeros-length mostSegs in
     let g = f .filled .sizes .within in (
-      table-segs _ _ _ _ (h .before .before .before .before .before .args .s .now) _ (f .filled) (head-parsed _ _ _ _ _ _ f (w .lines .given .1)),
+      table-segs _ _ _ _ (h .before .before .before .before .before .args .s .now) _ (f .filled)
+          (head-parsed _ _ _ _ _ _ f (w .lines .given .1)),
       omega (arith, z, g),
       omega (arith, z, g, ap length (h .before .before .before .before .before .pre .1)),
     )
@@ -41,7 +44,8 @@ warm-lines-requires c κs =
 returns-2 : tie.Need-returns-2
 returns-2 c =
     let h = c .before .before .before .before .before in
-    cold-refused _ _ _ _ _ _ _ (not-false _ (c .before .before .if1 .left)) (h .cold-head .ensures) _ (c .enum-told .given .1) (h .before .before .before .before .before .pre .1)
+    cold-refused _ _ _ _ _ _ _ (not-false _ (c .before .before .if1 .left)) (h .cold-head .ensures) _ (c .enum-told .given .1)
+    (h .before .before .before .before .before .pre .1)
 
 returns-3 : tie.Need-returns-3
 returns-3 c =

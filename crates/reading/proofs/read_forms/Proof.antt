@@ -1,59 +1,82 @@
--- `reading::read_forms` meets its contract: the length, the form line, and what `sheet_lines` answers to the rest. Assumes nothing.
-use mathlib.Core.Path.{sym, ap, _∙_}
-use Prim.Native.Nat.{_≤_}
+-- `reading::read_forms` meets its contract: the answer to what `all_lines` reads into blank lists. Assumes nothing.
+use mathlib.Core.Path.{_≡_, sym, ap, _∙_}
 use native.Mathlib.Omega.{arith}
 use borrow.Author.Needs.{needs}
 use lib.ListN.{length}
-use Rattle.sheet.specs.Answers.{answerOf}
-use Rattle.sheet.specs.Order.{bodyPart}
-use Rattle.sheet.specs.Reading.{atEnd}
-use Rattle.scan.specs.AtPlace.{parsedNumber, numberNext}
-use Rattle.scan.proofs.Stages.{stage-read, stage-refused}
-use Rattle.reading.proofs.ReadStages.{answer-long, answer-short, form-bound}
+use lib.Seq.{length-take-le, take-all}
+use Rattle.model.specs.Sheets.{mostSegs, mostSteps}
+use Rattle.model.proofs.Values.{zeros-length, idles-length, blank-marks-length}
+use Rattle.reading.proofs.Answered.{none-answered, read-answered}
 use Rattle.reading.proofs.read_forms.Statement.{statement}
 use Rattle.reading.proofs.read_forms.Tie as tie
 
--- the form line ends within the bytes
-first : (c : tie.After-form) → c .form .given .0 .1 .0 ≤ length (c .before .before .before .before .before .before .args .bytes .now)
-first c = omega (arith, c .before .before .form-line .ensures .1, ap numberNext (c .form .given .1))
+-- the lengths of the blank lists
+sizes-length : (c : tie.After-blank-sizes) → length (c .blank-sizes .result) ≡ 256
+sizes-length c = ap length (c .blank-sizes .ensures) ∙ zeros-length mostSegs
+
+holds-length : (c : tie.After-blank-sizes2) → length (c .blank-sizes2 .result) ≡ 256
+holds-length c = ap length (c .blank-sizes2 .ensures) ∙ zeros-length mostSegs
+
+touches-length : (c : tie.After-blank-touches) → length (c .blank-touches .result) ≡ 2048
+touches-length c = ap length (c .blank-touches .ensures) ∙ idles-length mostSteps
+
+marks-length : (c : tie.After-blank-marks) → length (c .blank-marks .result) ≡ 2048
+marks-length c = ap length (c .blank-marks .ensures) ∙ blank-marks-length mostSteps
+
+slice-aggregate-all-lines : tie.Need-slice-aggregate-all-lines
+slice-aggregate-all-lines c =
+    let b = c .before .before .before .before in
+    sym (length-take-le 256 (b .blank-sizes .result) (omega (arith, sizes-length b)))
+
+slice-aggregate-all-lines-2 : tie.Need-slice-aggregate-all-lines-2
+slice-aggregate-all-lines-2 c =
+    let b = c .before .before .before .before in
+    sym (length-take-le 256 (b .blank-sizes2 .result) (omega (arith, holds-length b)))
+
+slice-aggregate-all-lines-3 : tie.Need-slice-aggregate-all-lines-3
+slice-aggregate-all-lines-3 c =
+    let b = c .before .before .before .before in
+    sym (length-take-le 2048 (b .blank-touches .result) (omega (arith, touches-length b)))
+
+slice-aggregate-all-lines-4 : tie.Need-slice-aggregate-all-lines-4
+slice-aggregate-all-lines-4 c =
+    let b = c .before .before .before .before in
+    sym (length-take-le 2048 (b .blank-marks .result) (omega (arith, marks-length b)))
+
+all-lines-requires : tie.Need-all-lines-requires
+all-lines-requires c κs =
+    let u = c .before .before .before .before in
+    let t = u .before in
+    let d = t .before in
+    let b = d .before in (
+      (
+        take-all 256 (b .blank-sizes .result) (omega (arith, sizes-length b)) ∙ b .blank-sizes .ensures,
+        take-all 256 (d .blank-sizes2 .result) (omega (arith, holds-length d)) ∙ d .blank-sizes2 .ensures,
+      ),
+      (
+        take-all 2048 (t .blank-touches .result) (omega (arith, touches-length t)) ∙ t .blank-touches .ensures,
+        take-all 2048 (u .blank-marks .result) (omega (arith, marks-length u)) ∙ u .blank-marks .ensures,
+      ),
+    )
 
 returns : tie.Need-returns
 returns c =
-    let t = c .before in
-    c .refused .ensures ∙ sym (answer-long _ _ _ _ (t .before .too-long .ensures) (t .if1 .taken))
-
-sub-sheet-lines : tie.Need-sub-sheet-lines
-sub-sheet-lines c = omega (arith, first (c .before))
-
-part-sheet-lines-start : tie.Need-part-sheet-lines-start
-part-sheet-lines-start c = omega (arith, first (c .before))
-
-cast-sheet-lines : tie.Need-cast-sheet-lines
-cast-sheet-lines c =
-    let k = c .before .before in
-    let i = k .before .before .before .before .before .before in
-    let e = sym (k .before .before .form-line .ensures .0) ∙ ap (parsedNumber _) (k .form .given .1) in
-    omega (arith, form-bound (i .args .lo) (i .args .hi) (i .args .bytes .now) _ _ (omega (arith, i .fits .hi)) e)
+    let w = c .before .before in
+    let a = w .before .before .before .before .before .before .all-lines in
+    c .refused .ensures ∙ (sym (none-answered (a .result) _ _ _ _ _ (w .lines .given .1)) ∙ a .ensures)
 
 returns-2 : tie.Need-returns-2
 returns-2 c =
-    let w = c .before .before in
-    let f = w .before .before in
-    let b = f .before .before in
-    let e = sym (f .form-line .ensures .0) ∙ ap (parsedNumber _) (w .why .given .1) in
-    answer-short _ _ _ _ _ (b .too-long .ensures) (f .before .if1 .left)
-    (stage-refused (λ q. answerOf (atEnd q)) _ _ _ _ (c .refused2 .ensures) e)
-
-returns-3 : tie.Need-returns-3
-unfolding bodyPart
-returns-3 c =
-    let k = c .before .before .before in
-    let f = k .before .before in
-    let b = f .before .before in
-    let s = b .before .before .args .bytes .now in
-    let e = sym (f .form-line .ensures .0) ∙ ap (parsedNumber _) (k .form .given .1) in
-    answer-short _ _ s _ _ (b .too-long .ensures) (f .before .if1 .left)
-    (stage-read (λ q. answerOf (atEnd q)) _ _ (k .form .given .0 .0) s (k .form .given .0 .1 .0) _ (c .sheet-lines .ensures) e)
+    let e = c .before .before in
+    let r = e .before .before .before .before .before .before in
+    let u = r .before .before .before .before .before in
+    let t = u .before in
+    let d = t .before in
+    let b = d .before in
+    read-answered (r .all-lines .result) _ _ _ _ (b .blank-sizes .result) _ (d .blank-sizes2 .result) _ (t .blank-touches .result) _
+    (u .blank-marks .result) 256 2048 (e .enum-told .given .1) (c .before .head-of .ensures) (c .mark-count .ensures)
+    (omega (arith, sizes-length b)) (omega (arith, holds-length d)) (omega (arith, touches-length t)) (omega (arith, marks-length u))
+    ∙ r .all-lines .ensures
 
 pub read-forms-spec : {M : Type 1} → statement M
 read-forms-spec =
@@ -61,15 +84,21 @@ read-forms-spec =
     (tie.spec
     (λ c κs. search needs)
     (λ c κs. search needs)
+    (λ c κs. search needs)
+    (λ c κs. search needs)
+    (λ c. search needs)
+    slice-aggregate-all-lines
+    (λ c. search needs)
+    slice-aggregate-all-lines-2
+    (λ c. search needs)
+    slice-aggregate-all-lines-3
+    (λ c. search needs)
+    slice-aggregate-all-lines-4
+    all-lines-requires
+    (λ c. search needs)
+    (λ c κs. search needs)
     returns
-    (λ c κs. search needs)
     (λ c. search needs)
     (λ c κs. search needs)
-    (λ c. search needs)
-    sub-sheet-lines
-    part-sheet-lines-start
-    (λ c. search needs)
-    cast-sheet-lines
     (λ c κs. search needs)
-    returns-2
-    returns-3)
+    returns-2)

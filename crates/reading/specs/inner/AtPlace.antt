@@ -1,11 +1,46 @@
--- The form line as the code reads it: the definitions read it with what follows. Assumes nothing.
+-- The form line as the code reads it, and the answer to what was read: the lists of a sheet stand in slices that were lent. Assumes
+-- nothing.
 use Prim.Native.Nat.{ℕ, max}
-use mathlib.Core.Bool.{cond}
+use mathlib.Core.Bool.{Bool, cond}
 use mathlib.Core.List.{List}
+use lib.Dec.{leb}
 use lib.ListN.{take}
+use Rattle.model.specs.declared.Head.{Head}
+use Rattle.model.specs.declared.Sheet.{Sheet}
+use Rattle.model.specs.declared.Verdict.the-variants.{Accepted}
 use Rattle.lines.specs.Keys.{formKey}
 use Rattle.sheet.specs.Lines.{Parsed, read, sameBytes, numberLine}
+use Rattle.sheet.specs.Answers.{answerOf}
+use Rattle.sheet.specs.Reading.{rejected}
+use Rattle.sheet.specs.declared.SheetAnswer.{SheetAnswer}
+use Rattle.scan.specs.declared.numbers.LinesRead.{LinesRead}
+use Rattle.scan.specs.declared.numbers.LinesRead.the-variants.{Done, Refused as NoLines}
+use Rattle.headlines.specs.HeadsAtPlace.{headWith}
+use Rattle.touchlines.specs.TouchesAtPlace.{markCount}
+use Rattle.reading.specs.declared.SheetRead.{SheetRead}
 
 -- the form lo to hi of the form line, or 1 where the bytes do not begin with its key
 abbrev pub formLine : ℕ → ℕ → List ℕ → Parsed ℕ
 formLine lo hi s = cond (sameBytes (take 5 s) formKey) (numberLine formKey (max 2 lo) hi s) (read 1 s)
+
+-- a sheet of a form with a head, so many steps, and its entries and marks
+abbrev pub sheetOn : ℕ → Head → ℕ → List ℕ → List Bool → Sheet
+sheetOn form head steps touches marks =
+    record {
+      form = form;
+      head = head;
+      steps = steps;
+      touches = touches;
+      marked = markCount (leb 4 form) steps;
+      marks = marks;
+    }
+
+-- the answer where the lines were read to the end of the bytes, and where they were refused
+abbrev pub answerAt : LinesRead → Sheet → SheetAnswer
+answerAt (Done next) sheet = record { verdict = Accepted; sheet = sheet }
+answerAt (NoLines why) sheet = answerOf (rejected why)
+
+-- the answer to what was read of a sheet, with its lists
+abbrev pub answerWith : SheetRead → List ℕ → List ℕ → List ℕ → List Bool → SheetAnswer
+answerWith r sizes holds touches marks =
+    answerAt (r .lines) (sheetOn (r .form) (headWith (r .head) sizes holds) (r .steps) touches marks)
