@@ -13,25 +13,23 @@ use lib.Dec.{leb, ltb}
 use lib.ListN.{length, take, drop, set, replicate, length-set, length-drop, drop-of-length-le, length-replicate}
 use lib.ListN.{replicate-append-replicate, take-append-drop}
 use lib.Seq.{drop-cons, drop-drop, take-at, take-all}
-use Rattle.lines.specs.Keys.{atSign, markLetter, stepsKey, refsKey}
-use Rattle.model.specs.Sheets.{idle, mostSteps}
+use Rattle.lines.specs.Keys.{atSign, markLetter}
+use Rattle.model.specs.Sheets.{idle}
 use Rattle.model.specs.declared.Refusal.{Refusal}
 use Rattle.model.specs.declared.Refusal.the-variants.{ValueMalformed, OutOfRange, StepNotAbove}
 use Rattle.decimal.specs.Decimal.{isNumber, value, readingOf}
 use Rattle.decimal.specs.declared.Reading.{Reading}
 use Rattle.decimal.specs.declared.Reading.the-variants.{NotNumber, OutOfRange as Beyond, Number}
 use Rattle.decimal.proofs.Readings.{reading-number}
-use Rattle.sheet.specs.Lines.{Parsed, read, refused, andThen, Split, parts, none as unsplit, splitAt, numberLine}
-use Rattle.sheet.specs.Order.{stepsPart}
-use Rattle.scan.specs.AtPlace.{splitAtPlace, parsedLines, movedOn, Filled}
-use Rattle.scan.specs.declared.numbers.LinesRead.{LinesRead}
-use Rattle.sheet.specs.Touches.{Touch, Entries, beforeLetter, stepPart, touchOf, touchParts, touchLine, touchLines, entryLines}
+use Rattle.sheet.specs.Lines.{Parsed, read, refused, andThen, Split, parts, none as unsplit, splitAt}
+use Rattle.scan.specs.AtPlace.{splitAtPlace, Filled}
+use Rattle.sheet.specs.Touches.{Touch, beforeLetter, stepPart, touchOf, touchParts, touchLine, touchLines, entryLines}
 use Rattle.touchlines.specs.TouchesAtPlace.{pairOf, pairAround, touchOfPair, entriesWith, markCount}
+use Rattle.touchlines.specs.inner.Passed.{withTouches, filling, PassedTouches}
 use Rattle.touchlines.specs.declared.Pair.{Pair}
 use Rattle.touchlines.specs.declared.Pair.the-variants.{Numbers, Malformed}
 use Rattle.scan.proofs.Blanks.{filled-start, front-filled, front-take, lent-back}
 use Rattle.scan.proofs.Splits.{place-within, place-beyond}
-use Rattle.scan.proofs.Stages.{after-two}
 use Rattle.scan.proofs.Tails.{tail, tail-is, tail-place}
 use Rattle.sheet.proofs.Touches.{TouchFits, touch-reads, touches-reads, filledWith, filled-placed}
 
@@ -165,11 +163,18 @@ touch-value letters segs steps before h v rest r q e f =
     ap (λ x. touchOfPair x rest) (sym f ∙ e) ∙ sym (touch-pair letters segs steps before h (splitAt atSign v) rest)
 
 -- what is known of a touch that a line gives
-pub touch-fits : (letters : Bool) (segs steps before : ℕ) (s : List ℕ) (x : Touch) (rest : List ℕ)
+touch-fits : (letters : Bool) (segs steps before : ℕ) (s : List ℕ) (x : Touch) (rest : List ℕ)
     → touchLine letters segs steps before s ≡ read x rest
     → TouchFits letters segs steps (some (record { segment = 0; step = before; modifies = false })) x
 touch-fits letters segs steps before s x rest e =
     touch-reads letters segs steps (some (record { segment = 0; step = before; modifies = false })) .back s x rest e .1
+
+-- its step is one of the steps
+pub touch-within : (letters : Bool) (segs steps before : ℕ) (s : List ℕ) (x : Touch) (rest : List ℕ)
+    → touchLine letters segs steps before s ≡ read x rest → (1 ≤ x .step) × (x .step ≤ steps)
+touch-within letters segs steps before s x rest e =
+    let f = touch-fits letters segs steps before s x rest e in
+    (omega (arith, f .step-above), f .step-within)
 
 -- ---- the lines of touches, read into entries and marks
 
@@ -186,19 +191,18 @@ set-blank zero i x = refl
 set-blank (suc n) zero x = refl
 set-blank (suc n) (suc i) x = ap (λ xs. x ∷ xs) (set-blank n i x)
 
--- entries and marks with touches put in
-unfoldable pub withTouches : Bool → List ℕ → List Bool → List Touch → Entries
-withTouches letters es ms xs = entriesWith letters (filledWith (λ x. x .segment) es xs) (filledWith (λ x. x .modifies) ms xs)
-
--- with the touches that are read
-abbrev pub filling : Bool → List ℕ → List Bool → Parsed (List Touch) → Parsed Entries
-filling letters es ms p = andThen p (λ xs rest. read (withTouches letters es ms xs) rest)
+-- entries and marks with touches put in, each by itself
+with-each : (letters : Bool) (es : List ℕ) (ms : List Bool) (xs : List Touch)
+    → withTouches letters es ms xs ≡ entriesWith letters (filledWith (λ x. x .segment) es xs) (filledWith (λ x. x .modifies) ms xs)
+unfolding withTouches filledWith
+with-each letters es ms [] = refl
+with-each letters es ms (x ∷ xs) = with-each letters (set es (x .step - 1) (x .segment)) (set ms (x .step - 1) (x .modifies)) xs
 
 -- one touch more
 filling-more : (letters : Bool) (es : List ℕ) (ms : List Bool) (x : Touch) (p : Parsed (List Touch))
     → filling letters es ms (andThen p (λ xs end. read (x ∷ xs) end))
     ≡ filling letters (set es (x .step - 1) (x .segment)) (set ms (x .step - 1) (x .modifies)) p
-unfolding withTouches filledWith
+unfolding withTouches
 filling-more letters es ms x (read xs end) = refl
 filling-more letters es ms x (refused r) = refl
 
@@ -206,7 +210,6 @@ filling-more letters es ms x (refused r) = refl
 entry-lines : (letters : Bool) (segs steps n : ℕ) (s : List ℕ)
     → entryLines letters segs steps n s
     ≡ filling letters (replicate steps idle) (replicate steps false) (touchLines letters segs steps n 0 s)
-unfolding withTouches
 entry-lines letters segs steps n s = go (touchLines letters segs steps n 0 s) refl
   where
     go : (p : Parsed (List Touch)) → touchLines letters segs steps n 0 s ≡ p
@@ -215,19 +218,8 @@ entry-lines letters segs steps n s = go (touchLines letters segs steps n 0 s) re
         let f = touches-reads letters segs steps n .back s xs rest e .1 .1 in
         let g = rw sub-zero at (filled-placed (λ x. x .segment) idle letters segs steps xs none [] refl (omega arith) f) in
         let h = rw sub-zero at (filled-placed (λ x. x .modifies) false letters segs steps xs none [] refl (omega arith) f) in
-        rw (e, g, h)
+        rw (e, with-each, g, h)
     go (refused r) e = rw e
-
--- i of n lines of s are passed, their touches are put into the entries es and the marks ms, the last one's step is `before`, and the next
--- line stands at `at`; a form without the letter leaves the marks as they were
-pub record PassedTouches (letters : Bool) (segs steps n : ℕ) (s es : List ℕ) (ms : List Bool) (before at i : ℕ) : Type 0 where
-  pub count : i ≤ n
-  pub place : at ≤ length s
-  pub whole : length es ≡ steps
-  pub marks-whole : length ms ≡ steps
-  pub within : before ≤ steps
-  pub unmarked : letters ≡ false → ms ≡ replicate steps false
-  pub same : entryLines letters segs steps n s ≡ filling letters es ms (touchLines letters segs steps (n - i) before (drop at s))
 
 module _ (letters : Bool) (segs steps n : ℕ) (s : List ℕ) where
   -- before the first line
@@ -289,7 +281,7 @@ module _ (letters : Bool) (segs steps n : ℕ) (s : List ℕ) where
 
     -- after the last line
     pub touches-end : n ≤ i → entryLines letters segs steps n s ≡ read (entriesWith letters es ms) (drop at s)
-    unfolding touchLines withTouches filledWith
+    unfolding touchLines withTouches
     touches-end h = let k : n - i ≡ zero = omega arith in c .same ∙ rw k
 
 -- entries and marks at the fronts of others
@@ -313,14 +305,3 @@ pub marks-filled : (letters : Bool) (n : ℕ) (ms blank : List Bool) → length 
 marks-filled true n ms blank l h u = front-filled n ms blank blank l h refl
 marks-filled false n ms blank l h u =
     filled-start 0 (ms ++ drop n blank) blank (omega arith) (ap (λ xs. xs ++ drop n blank) (u refl) ∙ take-append-drop n blank)
-
--- ---- the counts and the touches
-
--- the number of steps and that of references, then the touches
-pub steps-read : (letters : Bool) (segs : ℕ) (s : List ℕ) (i j steps n : ℕ) (l q : LinesRead) (e : Entries)
-    → numberLine stepsKey 0 mostSteps s ≡ read steps (drop i s) → numberLine refsKey 0 steps (tail s i) ≡ read n (drop j (tail s i))
-    → parsedLines (tail s (i + j)) l e ≡ entryLines letters segs steps n (tail s (i + j)) → q ≡ movedOn (i + j) l
-    → parsedLines s q e ≡ stepsPart letters segs .reads s
-unfolding stepsPart
-steps-read letters segs s i j steps n l q e =
-    after-two (numberLine stepsKey 0 mostSteps s) (λ m. numberLine refsKey 0 m) (λ m k. entryLines letters segs m k) s i j steps n l q e

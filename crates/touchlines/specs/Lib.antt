@@ -1,1 +1,2 @@
 pub mod TouchesAtPlace
+pub mod inner

@@ -26,6 +26,7 @@ ghost use Rattle.sheet.specs.Order.{stepsPart};
 ghost use Rattle.sheet.specs.Touches.{stepPart, touchParts, touchLine, entryLines, stepWord};
 ghost use Rattle.scan.specs.AtPlace.{parsedLines, linesNext, Filled};
 ghost use Rattle.touchlines.specs.TouchesAtPlace.{pairOf, pairAround, parsedTouch, touchNext, entriesWith, markCount};
+ghost use Rattle.touchlines.specs.inner.Passed.{PassedTouches, refsLines};
 
 // Two numbers around "@" and whether the letter w follows them; or one of them is no number; or the first, or else the second, lies outside
 // its range.
@@ -48,6 +49,13 @@ struct TouchShort {
     step: usize,
     modifies: bool,
     next: usize,
+}
+
+// How many lines of touches were read, the place of what follows them, and the step of the last touch, 0 where there is none.
+struct TouchesRead {
+    count: usize,
+    next: usize,
+    step: usize,
 }
 
 // The step at the end of a short line, whether the letter w follows it, and the place of what follows the line, or the place 0.
@@ -270,22 +278,48 @@ fn short_touch(s: &[u8], letters: bool, segs: u32, steps: u32, before: u32) -> T
     }
 }
 
-// The touch of the line ref= after the step `before`; a short line is read faster.
-fn touch_at(s: &[u8], letters: bool, segs: u32, steps: u32, before: u32) -> TouchAt
-    requires { ⌜ (1 ≤ segs) × (segs ≤ mostSegs) × (steps ≤ mostSteps) × (before ≤ steps) ⌝ }
-    ensures { λ r. ⌜ parsedTouch (now (s .entry)) r ≡ touchLine letters segs steps before (now (s .entry)) ⌝ }
-    ensures { λ r. ⌜ touchNext r ≤ length (now (s .entry)) ⌝ }
+// Reads the touches of `n` lines ref=, up to the first line that is not short, into the entries and the marks, one for each step, which are
+// idle and false.
+fn short_touches(
+    s: &[u8],
+    n: usize,
+    letters: bool,
+    segs: usize,
+    entries: &mut [u16],
+    marks: &mut [bool],
+) -> TouchesRead
+    requires { ⌜ (1 ≤ segs) × (segs ≤ mostSegs) × (length (now entries) ≤ mostSteps) ⌝ }
+    requires { ⌜ now entries ≡ replicate (length (now entries)) idle ⌝ }
+    requires { ⌜ now marks ≡ replicate (length (now entries)) false ⌝ }
+    ensures { λ r. ⌜ PassedTouches letters segs (length (now (entries .entry))) n (now (s .entry))
+        (now (entries .exit)) (now (marks .exit)) (r .step) (r .next) (r .count) ⌝ }
 {
-    let short = short_touch(s, letters, segs, steps, before);
-    let next = short.next;
-    if next == 0 {
-        return touch_line(s, letters, segs, steps, before);
+    let steps = entries.len();
+    let mut before = 0;
+    let mut at = 0;
+    let mut i = 0;
+    while i < n {
+        let short = short_touch(&s[at..], letters, segs as u32, steps as u32, before as u32);
+        let next = short.next;
+        if next == 0 {
+            break;
+        }
+        let step = short.step;
+        entries[step - 1] = short.segment;
+        marks[step - 1] = short.modifies;
+        before = step;
+        at += next;
+        i += 1;
     }
-    TouchAt::Touch(short.segment, short.step, short.modifies, next)
+    TouchesRead {
+        count: i,
+        next: at,
+        step: before,
+    }
 }
 
-// Reads the touches of `n` lines ref= into the entries and the marks, one for each step, which are idle and false. Where it refuses, they
-// may be partly filled.
+// Reads the touches of `n` lines ref= into the entries and the marks, one for each step, which are idle and false. The short lines at the
+// front are read by a loop of their own. Where it refuses, entries and marks may be partly filled.
 fn touch_lines(
     s: &[u8],
     n: usize,
@@ -303,11 +337,12 @@ fn touch_lines(
     ensures { λ r. ⌜ (letters ≡ false → now (marks .exit) ≡ now (marks .entry)) ⌝ }
 {
     let steps = entries.len();
-    let mut before = 0;
-    let mut at = 0;
-    let mut i = 0;
+    let front = short_touches(s, n, letters, segs, entries, marks);
+    let mut before = front.step;
+    let mut at = front.next;
+    let mut i = front.count;
     while i < n {
-        match touch_at(&s[at..], letters, segs as u32, steps as u32, before as u32) {
+        match touch_line(&s[at..], letters, segs as u32, steps as u32, before as u32) {
             TouchAt::Refused(why) => return LinesRead::Refused(why),
             TouchAt::Touch(segment, step, modifies, next) => {
                 entries[step - 1] = segment;
@@ -319,6 +354,32 @@ fn touch_lines(
         }
     }
     LinesRead::Done(at)
+}
+
+// The line refs= and so many lines ref= into the entries and the marks, one for each step, which are idle and false. Where it refuses, they
+// may be partly filled.
+fn refs_lines(
+    s: &[u8],
+    letters: bool,
+    segs: usize,
+    entries: &mut [u16],
+    marks: &mut [bool],
+) -> LinesRead
+    requires { ⌜ (1 ≤ segs) × (segs ≤ mostSegs) × (length (now entries) ≤ mostSteps) ⌝ }
+    requires { ⌜ now entries ≡ replicate (length (now entries)) idle ⌝ }
+    requires { ⌜ now marks ≡ replicate (length (now entries)) false ⌝ }
+    ensures { λ r. ⌜ parsedLines (now (s .entry)) r (entriesWith letters (now (entries .exit)) (now (marks .exit)))
+        ≡ refsLines letters segs (length (now (entries .entry))) (now (s .entry)) ⌝ }
+    ensures { λ r. ⌜ linesNext r ≤ length (now (s .entry)) ⌝ }
+    ensures { λ r. ⌜ (letters ≡ false → now (marks .exit) ≡ now (marks .entry)) ⌝ }
+{
+    match numbers::number_line(s, b"refs=", 0, entries.len() as u32) {
+        NumberAt::Refused(why) => LinesRead::Refused(why),
+        NumberAt::Number(n, at) => {
+            let lines = touch_lines(&s[at..], n as usize, letters, segs, entries, marks);
+            numbers::after(at, lines)
+        }
+    }
 }
 
 // The lines steps= and refs= and so many lines ref= into the fronts of `out` and `marks`, an entry for each step and in a form that has the
@@ -344,32 +405,13 @@ pub fn step_lines(
             lines: LinesRead::Refused(why),
             count: 0,
         },
-        NumberAt::Number(steps, first) => match numbers::number_line(
-            &s[first..],
-            b"refs=",
-            0,
-            steps,
-        ) {
-            NumberAt::Refused(why) => CountedAt {
-                lines: LinesRead::Refused(why),
-                count: 0,
-            },
-            NumberAt::Number(n, second) => {
-                let at = first + second;
-                let end = steps as usize;
-                let lines = touch_lines(
-                    &s[at..],
-                    n as usize,
-                    letters,
-                    segs,
-                    &mut out[..end],
-                    &mut marks[..end],
-                );
-                CountedAt {
-                    lines: numbers::after(at, lines),
-                    count: end,
-                }
+        NumberAt::Number(n, at) => {
+            let end = n as usize;
+            let lines = refs_lines(&s[at..], letters, segs, &mut out[..end], &mut marks[..end]);
+            CountedAt {
+                lines: numbers::after(at, lines),
+                count: end,
             }
-        },
+        }
     }
 }
