@@ -110,23 +110,17 @@ pub fn front(s: &[u8]) -> Run
             value: 0,
         };
     }
-    let mut v = (first - 48) as u32;
-    let mut i = 1;
-    while i < 4 {
-        let b = s[i];
+    let mut value = (first - 48) as u32;
+    let mut length = 1;
+    while length < 4 {
+        let b = s[length];
         if !is_digit(b) {
-            return Run {
-                length: i,
-                value: v,
-            };
+            return Run { length, value };
         }
-        v = v * 10 + (b - 48) as u32;
-        i += 1;
+        value = value * 10 + (b - 48) as u32;
+        length += 1;
     }
-    Run {
-        length: i,
-        value: v,
-    }
+    Run { length, value }
 }
 
 // How many digits `n` is written with: the least w, from 1 on, with n below 10 to the power w. Each power is ten times the last, from 1

@@ -1,4 +1,4 @@
--- `decimal::front` meets its contract. The loop's invariant: the digits passed are a number, and `v` is its value.
+-- `decimal::front` meets its contract. The loop's invariant: the digits passed are a number, and `value` is its value.
 -- Assumes nothing.
 use mathlib.Core.Path.{_≡_, refl, sym, _∙_}
 use mathlib.Core.Bool.{true}
@@ -14,10 +14,10 @@ use Rattle.decimal.proofs.front.Statement.{statement}
 use Rattle.decimal.proofs.front.Tie as tie
 
 abbrev Inv-loop : tie.InvT-loop
-Inv-loop s first v₀ i₀ v i = Led s v i
+Inv-loop s first v₀ n₀ v n = Led s v n
 
 abbrev μ-loop : tie.MeasureT-loop
-μ-loop s first v₀ i₀ v i = 4 - i
+μ-loop s first v₀ n₀ v n = 4 - n
 
 -- the first byte, and that it is a digit
 abbrev first-byte : tie.Else2 Inv-loop μ-loop → ℕ
@@ -33,7 +33,7 @@ first-bounds c = digit-bounds (first-byte c) (first-digit c)
 abbrev next-byte : tie.Else4 Inv-loop μ-loop → ℕ
 next-byte c =
     let l = c .before .before .before .before in
-    getD (l .before .before .before .before .before .before .before .args .s .now) (l .loop .i) 0
+    getD (l .before .before .before .before .before .before .before .args .s .now) (l .loop .length) 0
 
 next-digit : (c : tie.Else4 Inv-loop μ-loop) → isDigit (next-byte c) ≡ true
 next-digit c = sym (c .before .is-digit2 .ensures) ∙ not-false _ (c .if4 .left)
@@ -55,11 +55,11 @@ returns-3 c =
     let z = zero-number (e .before .before .args .s .now) (e .if1 .left) (c .if3 .taken) in
     (omega arith, ((λ h. z .0), z .1))
 
-sub-v : tie.Need-sub-v Inv-loop μ-loop
-sub-v c = omega (arith, first-bounds (c .before))
+sub-value : tie.Need-sub-value Inv-loop μ-loop
+sub-value c = omega (arith, first-bounds (c .before))
 
-cast-v : tie.Need-cast-v Inv-loop μ-loop
-cast-v c = omega (arith, first-bounds (c .before))
+cast-value : tie.Need-cast-value Inv-loop μ-loop
+cast-value c = omega (arith, first-bounds (c .before))
 
 loop-holds : tie.Need-loop-holds Inv-loop μ-loop
 loop-holds c = led-start _ (c .before .before .before .before .if1 .left) (first-digit (c .before)) (c .if3 .left)
@@ -67,18 +67,18 @@ loop-holds c = led-start _ (c .before .before .before .before .if1 .left) (first
 returns-4 : tie.Need-returns-4 Inv-loop μ-loop
 returns-4 c = led-gives _ _ _ (c .before .before .before .before .loop .inv)
 
-mul-v : tie.Need-mul-v Inv-loop μ-loop
-mul-v c =
+mul-value : tie.Need-mul-value Inv-loop μ-loop
+mul-value c =
     let d = c .before .before .before in omega (arith, led-room _ _ _ (d .before .loop .inv) (d .loop-test .taken))
 
-sub-v-2 : tie.Need-sub-v-2 Inv-loop μ-loop
-sub-v-2 c = omega (arith, next-bounds c)
+sub-value-2 : tie.Need-sub-value-2 Inv-loop μ-loop
+sub-value-2 c = omega (arith, next-bounds c)
 
-cast-v-2 : tie.Need-cast-v-2 Inv-loop μ-loop
-cast-v-2 c = omega (arith, next-bounds c)
+cast-value-2 : tie.Need-cast-value-2 Inv-loop μ-loop
+cast-value-2 c = omega (arith, next-bounds c)
 
-add-v : tie.Need-add-v Inv-loop μ-loop
-add-v c =
+add-value : tie.Need-add-value Inv-loop μ-loop
+add-value c =
     let d = c .before .before .before in
     omega (arith, led-room _ _ _ (d .before .loop .inv) (d .loop-test .taken), next-bounds c)
 
@@ -100,16 +100,16 @@ front-spec =
     (λ c κs. search needs)
     returns-2
     returns-3
-    sub-v
-    cast-v
+    sub-value
+    cast-value
     loop-holds
     (λ c. search needs)
     (λ c κs. search needs)
     returns-4
-    mul-v
-    sub-v-2
-    cast-v-2
-    add-v
+    mul-value
+    sub-value-2
+    cast-value-2
+    add-value
     (λ c. search needs)
     (λ c. search needs)
     loop-again
