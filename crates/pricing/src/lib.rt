@@ -101,13 +101,11 @@ fn price_from(
         }
         t += 1;
     }
-    let memory = MemoryUnits(c.memory);
-    let load = LoadUnits(c.load);
     PriceAnswer {
         verdict: Verdict::Accepted,
-        memory,
-        load,
-        total: model::total(row, memory, load),
+        memory: MemoryUnits(c.memory),
+        load: LoadUnits(c.load),
+        total: model::total(row, MemoryUnits(c.memory), LoadUnits(c.load)),
     }
 }
 

@@ -32,15 +32,7 @@ same-leaves : (h : Bool) (u : ℕ) → cond (h && not h) u 0 ≡ 0
 same-leaves true u = refl
 same-leaves false u = refl
 
--- a segment is passed: its bit did not change
-pub pass-same : (b old new : Bool) (x i u : ℕ) (c : Changes) → old ≡ b → new ≡ b → Passing old new x i u c c
-pass-same b old new x i u c o n =
-    record {
-      others-with = rw (o, n) (same-enters (c .others) b (eqb x i));
-      left-with = rw (o, n) (omega (arith, same-leaves b u));
-    }
-
--- it leaves
+-- a segment is passed whose bit changed: it leaves
 pub pass-leaves : (old new : Bool) (x i u v : ℕ) (c : Changes) → old ≡ true → new ≡ false → v ≡ u
     → Passing old new x i u c (record { others = c .others; left = c .left + v })
 pass-leaves old new x i u v c o n e = record { others-with = rw (o, n) (or-false (c .others)); left-with = rw (o, n, e) }
@@ -57,6 +49,10 @@ pass-enters old new x i u c o n ne = record { others-with = rw (o, n, ne-eqb x i
     go : (o : Bool) → true ≡ o || true
     go true = refl
     go false = refl
+
+-- a bit that changed is what it was not before
+pub pass-turned : (old new : Bool) (x i u : ℕ) (c r : Changes) → new ≡ not old → Passing old (not old) x i u c r → Passing old new x i u c r
+pass-turned old new x i u c r e one = rw e one
 
 -- what is held is what the start set and the bytes say
 module _ (T : Trace) (start : StartWords) (p : List ℕ) (s : ℕ) (ok : Step T start p s) where

@@ -2,13 +2,14 @@
 -- Assumes nothing.
 use Prim.Native.Nat.{ℕ, suc, _+_, _-_, _/_, _^_, _≤_, _<_}
 use mathlib.Core.Path.{_≡_, ap, sym, _∙_}
+use mathlib.Core.Bool.{not}
 use mathlib.Core.List.{List}
 use native.Mathlib.Omega.{arith}
 use native.Mathlib.Numerals.{add-one}
 use lib.Bits.{bitXor, xor-lt}
 use lib.Count.{trailingZeros, trailing-of-zero}
 use lib.ListN.{getD}
-use lib.Pow.{shr-lt, shr-shr}
+use lib.Pow.{pow-mono, shr-lt, shr-shr}
 use Rattle.model.specs.Traces.{Trace, segs, steps}
 use Rattle.model.specs.Schedules.{bit, held}
 use Rattle.stepprice.specs.declared.Changes.{Changes}
@@ -18,9 +19,9 @@ use Rattle.schedule.specs.inner.Segments.{segmentOf}
 use Rattle.heldbits.specs.Held.{heldOf}
 use Rattle.stepprice.specs.Steps.{Step}
 use Rattle.stepprice.specs.inner.Passing.{unitAt, SegmentsPassed, Passing}
-use Rattle.stepprice.proofs.Changing.{held-of, passed-one, passed-run}
+use Rattle.stepprice.proofs.Changing.{pass-turned, held-of, passed-one, passed-run}
 use Rattle.schedule.proofs.Segments.{touched-ref}
-use Rattle.stepprice.proofs.Words.{bit-shifted, same-below, lowest-below}
+use Rattle.stepprice.proofs.Words.{bit-shifted, same-below, other-at, lowest-below}
 
 -- w has the bits of step t for the segments i to e - 1, and no others
 pub record Rest (T : Trace) (p : List ℕ) (t i e w : ℕ) : Type 0 where
@@ -44,6 +45,10 @@ rest-shift T p t i e w s lt r =
           let place : i + (s + (1 + k)) ≡ i + s + 1 + k = omega arith in
           bit-shifted (w / 2 ^ s) 1 k ∙ bit-shifted w s (1 + k) ∙ r .bits (s + (1 + k)) (omega arith) ∙ ap (held T p t) place;
     }
+
+-- a number of few bits has at most 64
+narrow : (m w : ℕ) → w < 2 ^ m → m ≤ 64 → w < 2 ^ 64
+narrow m w lt le = omega (arith, pow-mono le)
 
 module _ (T : Trace) (p : List ℕ) (t : ℕ) where
   -- the segments before i are passed; old and new have the bits of the others up to e - 1 in the step before and in this step
@@ -69,16 +74,26 @@ module _ (T : Trace) (p : List ℕ) (t : ℕ) where
         lowest-below 64 (bitXor old new) (e - i) pos (xor-lt (e - i) old new (r .before .below) (r .after .below)) (omega arith),
       )
 
+  -- there, one has what the other has not
+  turned : (e i old new s : ℕ) (c : Changes) → Passes e i old new c → (bitXor old new ≡ 0 → ⊥)
+      → s ≡ trailingZeros 64 (bitXor old new) → bit new s ≡ not (bit old s)
+  turned e i old new s c r ne first =
+      rw first
+      (other-at 64 old new (omega (arith, ne))
+      (xor-lt 64 old new (narrow (e - i) old (r .before .below) (omega (arith, r .close)))
+      (narrow (e - i) new (r .after .below) (omega (arith, r .close)))))
+
   -- the run up to that bit, and the bit
   pub passes-on : (e i old new s : ℕ) (c r : Changes) → t < steps T → Passes e i old new c → (bitXor old new ≡ 0 → ⊥)
       → e ≤ 256 → s ≡ trailingZeros 64 (bitXor old new)
-      → Passing (bit old s) (bit new s) (segmentOf (segs T) (getD (T .refs) t 0)) (i + s) (unitAt (T .kind) (T .sizes) (i + s)) c r
+      → Passing (bit old s) (not (bit old s)) (segmentOf (segs T) (getD (T .refs) t 0)) (i + s) (unitAt (T .kind) (T .sizes) (i + s)) c r
       → Passes e (i + s + 1) (old / 2 ^ s / 2) (new / 2 ^ s / 2) r
   unfolding enters
   passes-on e i old new s c r place w ne few first one =
       let lt : i + s < e = rw first (differs-below e i old new c w ne) in
       let old-held = w .before .bits s lt in
       let new-held = w .after .bits s lt in
+      let two = pass-turned (bit old s) (bit new s) _ _ _ c r (turned e i old new s c w ne first) one in
       let run : SegmentsPassed T p t (i + s) c =
       passed-run T p t s i c (w .passed)
       (λ j l. same-held e i old new j c w (omega arith) (same-below 64 old new j (omega (arith, first)))) in
@@ -90,8 +105,8 @@ module _ (T : Trace) (p : List ℕ) (t : ℕ) where
         passed =
             rw (add-one (i + s))
             (passed-one T p t (i + s) c r run
-            (rw (← old-held, ← new-held, touched-ref T t (i + s) place (omega arith)) (one .others-with))
-            (rw (← old-held, ← new-held) (one .left-with)));
+            (rw (← old-held, ← new-held, touched-ref T t (i + s) place (omega arith)) (two .others-with))
+            (rw (← old-held, ← new-held) (two .left-with)));
       }
 
   -- where the bits are the same, the rest is one run

@@ -1,6 +1,7 @@
 -- How many lowest bits of two numbers are the same: laws of `bit`. Assumes nothing.
 use Prim.Native.Nat.{ℕ, zero, suc, _+_, _/_, _%_, _^_, _≤_, _<_}
 use mathlib.Core.Path.{_≡_, refl, sym, _∙_}
+use mathlib.Core.Bool.{not}
 use native.Mathlib.Omega.{arith}
 use native.Mathlib.Nat.{pow-suc, pow-succ', div-one, div-div-eq-div-mul}
 use lib.Bits.{bitXor, xor-shr, xor-mod}
@@ -54,3 +55,33 @@ lowest-below (suc d) n (suc m) pos lt le = go (n % 2) refl (lowest-below d (n / 
     go : (r : ℕ) → n % 2 ≡ r → (0 < n / 2 → n / 2 < 2 ^ m → m ≤ d → trailingZeros d (n / 2) < m) → under r (trailingZeros d (n / 2)) < suc m
     go zero e half = let l = half (omega arith) (omega (arith, pow-suc 2 m)) (omega arith) in omega arith
     go (suc r) e half = omega arith
+
+-- two numbers with an odd exclusive or have other lowest bits
+other-first : (a b r : ℕ) → bitXor a b % 2 ≡ suc r → eqb (b % 2) 1 ≡ not (eqb (a % 2) 1)
+other-first a b r e = go (a % 2) (b % 2) (omega arith) (omega arith) (sym (xor-mod a b 1) ∙ e)
+  where
+    go : (x y : ℕ) → x < 2 → y < 2 → bitXor x y ≡ suc r → eqb y 1 ≡ not (eqb x 1)
+    go zero zero lx ly e = absurd (omega arith)
+    go zero (suc zero) lx ly e = refl
+    go zero (suc (suc y)) lx ly e = absurd (omega arith)
+    go (suc zero) zero lx ly e = refl
+    go (suc zero) (suc zero) lx ly e = absurd (omega arith)
+    go (suc zero) (suc (suc y)) lx ly e = absurd (omega arith)
+    go (suc (suc x)) y lx ly e = absurd (omega arith)
+
+-- at the lowest set bit of the exclusive or, one has what the other has not
+pub other-at : (d a b : ℕ) → 0 < bitXor a b → bitXor a b < 2 ^ d
+    → bit b (trailingZeros d (bitXor a b)) ≡ not (bit a (trailingZeros d (bitXor a b)))
+unfolding trailingZeros
+other-at zero a b pos lt = absurd (omega arith)
+other-at (suc d) a b pos lt = go (bitXor a b % 2) refl (other-at d (a / 2) (b / 2))
+  where
+    go : (r : ℕ) → bitXor a b % 2 ≡ r
+        → (0 < bitXor (a / 2) (b / 2) → bitXor (a / 2) (b / 2) < 2 ^ d
+        → bit (b / 2) (trailingZeros d (bitXor (a / 2) (b / 2))) ≡ not (bit (a / 2) (trailingZeros d (bitXor (a / 2) (b / 2)))))
+        → bit b (under r (trailingZeros d (bitXor a b / 2))) ≡ not (bit a (under r (trailingZeros d (bitXor a b / 2))))
+    go zero e half =
+        let k = trailingZeros d (bitXor a b / 2) in
+        rw (bit-half a k, bit-half b k)
+        (rw (← xor-shr a b 1) at half (omega arith) (omega (arith, pow-suc 2 d)))
+    go (suc r) e half = rw (bit-first a, bit-first b) (other-first a b r e)

@@ -45,30 +45,24 @@ fn unit_at(kind: Kind, sizes: &[u16], i: usize) -> u64
     0
 }
 
-// One number i more, of a step that touches x, with its bit in the step before and in this step.
-fn pass(kind: Kind, sizes: &[u16], x: usize, i: usize, old: bool, new: bool, c: Changes) -> Changes
+// One number i more, of a step that touches x, whose bit changed: where `old`, that of the step before, is set, it left, and else it entered.
+fn pass(kind: Kind, sizes: &[u16], x: usize, i: usize, old: bool, c: Changes) -> Changes
     requires { ⌜ c .left < 2 ^ 40 ⌝ }
-    ensures { λ r. ⌜ Passing old new x i (unitAt kind (now (sizes .entry)) i) c r ⌝ }
+    ensures { λ r. ⌜ Passing old (not old) x i (unitAt kind (now (sizes .entry)) i) c r ⌝ }
 {
     if old {
-        if new {
-            return c;
-        }
         return Changes {
             others: c.others,
             left: c.left + unit_at(kind, sizes, i),
         };
     }
-    if new {
-        if x == i {
-            return c;
-        }
-        return Changes {
-            others: true,
-            left: c.left,
-        };
+    if x == i {
+        return c;
     }
-    c
+    Changes {
+        others: true,
+        left: c.left,
+    }
 }
 
 // Segments 64 × m to 64 × m + 63 more: a run of bits that did not change is passed at once.
@@ -101,7 +95,7 @@ fn pass_word(
         let o = old >> same;
         let n = new >> same;
         let next = i + same as usize;
-        c = pass(kind, sizes, x, next, o % 2 == 1, n % 2 == 1, c);
+        c = pass(kind, sizes, x, next, o % 2 == 1, c);
         old = o / 2;
         new = n / 2;
         i = next + 1;
