@@ -32,7 +32,8 @@ pub extern "C" fn segtrace_check(sheet: &[u8]) -> u64
     model::verdict_number(verdict)
 }
 
-// The sheet read and written again, and its length: the sheet's refusals, 11.
+// The sheet read and written again, and its length: the sheet's refusals, 11. Its text is as long as the bytes, so that its length need not
+// be worked out first.
 #[no_mangle]
 pub extern "C" fn segtrace_rewrite(sheet: &[u8], out: &mut [u8], written: &mut u64) -> u64
     ensures { λ r. ⌜ PlaceCall (rewriteResult (now (sheet .entry))) (now (out .entry)) (now (out .exit))
@@ -41,7 +42,10 @@ pub extern "C" fn segtrace_rewrite(sheet: &[u8], out: &mut [u8], written: &mut u
     let answer = analyser::read(sheet);
     let verdict = answer.verdict;
     match verdict {
-        Verdict::Accepted => tell(analyser::write(answer.sheet, out), written),
+        Verdict::Accepted => tell(
+            writing::write_within(answer.sheet, sheet.len(), out),
+            written,
+        ),
         Verdict::Refused(why) => model::number(why),
     }
 }

@@ -4,9 +4,14 @@ use Rattle.sheet.specs.Writing.{sheetText}
 use Rattle.model.specs.Places.{gives, refuses}
 use Rattle.sheet.proofs.Accepting.{on-refused, on-accepted}
 use Rattle.lentcalls.specs.Exported.{rewriteResult}
+use Rattle.lentcalls.proofs.Rewriting.{as-long}
 use Rattle.lentcalls.proofs.Told.{place-call, place-refused}
 use Rattle.exports.proofs.segtrace_rewrite.Statement.{statement}
 use Rattle.exports.proofs.segtrace_rewrite.Tie as tie
+
+write-within-requires : tie.Need-write-within-requires
+write-within-requires c κs =
+    let r = c .before .before .before in as-long _ (r .read .result) (r .read .ensures) (cc)
 
 returns : tie.Need-returns
 unfolding rewriteResult
@@ -14,7 +19,7 @@ returns c =
     let w = c .before .before .before .before in
     let r = w .before .before .before .before in
     rw (on-accepted _ (r .read .result) (r .read .ensures) (cc) refuses (λ v. gives (sheetText v)))
-    (place-call (w .write .result) (w .write .ensures) (c .tell .ensures))
+    (place-call (w .write-within .result) (w .write-within .ensures) (c .tell .ensures))
 
 returns-2 : tie.Need-returns-2
 unfolding rewriteResult
@@ -30,7 +35,7 @@ segtrace-rewrite-spec =
     (tie.spec
     (λ c κs. search needs)
     (λ c. search needs)
-    (λ c κs. search needs)
+    write-within-requires
     (λ c κs. search needs)
     (λ c. search needs)
     (λ c κs. search needs)
