@@ -13,7 +13,7 @@ use Rattle.model.specs.Sums.{sum, tabulate}
 use Rattle.model.proofs.Bounds.{product-within}
 use Rattle.model.proofs.Sums.{sum-eq}
 use Rattle.buckets.specs.Buckets.{bucketCount, allEmpty, noBucket}
-use Rattle.buckets.specs.Pass.{Limited, withTouch, withEnd, Within, Roomy}
+use Rattle.buckets.specs.inner.Pass.{Limited, withTouch, withEnd, Within, Roomy}
 use Rattle.buckets.specs.declared.Bucket.{Bucket}
 use Rattle.buckets.specs.declared.pass.Touch.{Touch}
 use Rattle.model.proofs.Tables.{getD-tabulate, tabulate-eq, tabulate-const, tabulate-set}

@@ -11,7 +11,7 @@ ghost use lib.ListN.{length, take};
 ghost use Rattle.model.specs.Sheets.{RowsWithin, RunWithin, runOf, mostSegs, mostRows};
 ghost use Rattle.buckets.specs.Buckets.{tallyOf, allEmpty};
 ghost use Rattle.search.specs.inner.Quotients.{Listed, Rated, timeSince};
-ghost use Rattle.buckets.specs.Pass.{unplaced, Limited, withTouch, withEnd, Within, Passable, PassedOn, EndedAt};
+ghost use Rattle.buckets.specs.inner.Pass.{unplaced, Limited, withTouch, withEnd, Within, Passable, PassedOn, EndedAt};
 
 // A touch: whether it is a reuse, the segment's size, retention, swap cost, and the bucket that it goes to.
 pub struct Touch {

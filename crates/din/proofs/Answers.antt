@@ -20,7 +20,7 @@ use Rattle.sheet.proofs.Held.{held}
 use Rattle.dinpages.specs.Pages.{Touched, touches, refused}
 use Rattle.dinpages.specs.Pages.{segmentCount, touchedWith}
 use Rattle.din.specs.Import.{sheetOfTouched, imported}
-use Rattle.dinpages.specs.Held.{importedOf}
+use Rattle.dinpages.specs.inner.Held.{importedOf}
 use Rattle.dinpages.specs.declared.Imported.{Imported}
 use Rattle.din.proofs.Results.{touched-within}
 

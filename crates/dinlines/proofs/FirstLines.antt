@@ -15,7 +15,7 @@ use Rattle.lines.specs.Keys.{lineFeed}
 use Rattle.scan.proofs.Tails.{tail, tail-is}
 use Rattle.dinlines.specs.Lines.{Lines, end, line, linesOf, andBefore, between, digitOf}
 use Rattle.dinlines.specs.Lines.{allDigits, valueFrom, isLabel, blank, mostDigits, addressOf}
-use Rattle.dinlines.specs.FirstLine.{malformed, address, withAddress, firstOf, firstAfter}
+use Rattle.dinlines.specs.inner.FirstLine.{malformed, address, withAddress, firstOf, firstAfter}
 use Rattle.dinlines.proofs.Digits.{within, above}
 
 -- a byte that is no line feed stands in the first line

@@ -5,7 +5,7 @@ ghost use Prim.Native.Nat.{_≤_};
 ghost use lib.ListN.{length};
 ghost use Rattle.model.specs.Sums.{tabulate};
 ghost use Rattle.dinlines.specs.Lines.{linesOf, digitOf};
-ghost use Rattle.dinlines.specs.FirstLine.{firstOf, firstAfter, firstAt, NextWithin};
+ghost use Rattle.dinlines.specs.inner.FirstLine.{firstOf, firstAfter, firstAt, NextWithin};
 
 // The address of a line and the place of what follows the line, or that the line is malformed.
 pub enum LineAt {

@@ -18,8 +18,8 @@ use Rattle.scan.proofs.Tails.{tail, tail-is, tail-place}
 use Rattle.dinlines.specs.Lines.{Lines, end, line, linesOf, addressOf}
 use Rattle.dinpages.specs.Pages.{Touched, touches, refused, pageOf, placeIn, firsts}
 use Rattle.dinpages.specs.Pages.{firstsAfter, segmentsOf, tooMany, touchedFrom, touchedBy}
-use Rattle.dinlines.specs.FirstLine.{First, nothing, malformed, address, withAddress, firstOf}
-use Rattle.dinpages.specs.Held.{tablePlaces, emptyPlaces, Found, numberAt, importedOf}
+use Rattle.dinlines.specs.inner.FirstLine.{First, nothing, malformed, address, withAddress, firstOf}
+use Rattle.dinpages.specs.inner.Held.{tablePlaces, emptyPlaces, Found, numberAt, importedOf}
 use Rattle.dinpages.specs.declared.Imported.{Imported}
 use Rattle.dinpages.proofs.Firsts.{with-length, place-le, one-more-firsts, one-more-segments, segments-length}
 use Rattle.dinpages.proofs.Table.{Table, table-start, found-number, table-next}

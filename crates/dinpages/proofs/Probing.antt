@@ -6,7 +6,7 @@ use native.Mathlib.Omega.{arith}
 use borrow.Author.Count.{below-more}
 use borrow.Author.Tests.{ne-eqb}
 use lib.ListN.{length, getD}
-use Rattle.dinpages.specs.Held.{tablePlaces, homeOf, emptyPlaces, Found}
+use Rattle.dinpages.specs.inner.Held.{tablePlaces, homeOf, emptyPlaces, Found}
 
 pub home-below : (p : ℕ) → homeOf p < tablePlaces
 unfolding homeOf

@@ -11,7 +11,7 @@ use lib.ListN.{length, getD, set, replicate, length-set, length-replicate}
 use lib.Seq.{getD-set-same, getD-set-other}
 use Rattle.model.specs.Values.{zeros}
 use Rattle.dinpages.specs.Pages.{placeIn, withPage}
-use Rattle.dinpages.specs.Held.{tablePlaces, probe, emptyPlaces, Found, numberAt}
+use Rattle.dinpages.specs.inner.Held.{tablePlaces, probe, emptyPlaces, Found, numberAt}
 use Rattle.dinpages.proofs.Firsts.{place-le, with-place, with-length, with-stays, with-keeps, with-has, with-other}
 
 -- a page stands at a place that is reached from its home with no empty place on the way

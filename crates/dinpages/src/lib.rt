@@ -10,7 +10,7 @@ ghost use lib.ListN.{length};
 ghost use Rattle.model.specs.Sheets.{mostSteps};
 ghost use Rattle.model.specs.Values.{zeros, idles};
 ghost use Rattle.dinpages.specs.Pages.{refused as refusal, touchedBy, touchedWith};
-ghost use Rattle.dinpages.specs.Held.{tablePlaces, homeOf, emptyPlaces, Found, numberAt, importedOf};
+ghost use Rattle.dinpages.specs.inner.Held.{tablePlaces, homeOf, emptyPlaces, Found, numberAt, importedOf};
 
 // Whether the trace was taken; how many segments and steps the sheet has, and the segment that each step touches, at the front of
 // `Sheet::IDLE`. Refused, it has no segments and no steps.

@@ -23,7 +23,7 @@ use Rattle.lru.proofs.Bounds.{recency-on, recency-off, length-recency, recency-
 use Rattle.lru.proofs.Orders.{looked-within}
 use Rattle.lru.proofs.Touches.{cond-within, adds-on, adds-off, touches-within}
 use Rattle.frames.specs.Frames.{touchesOf}
-use Rattle.recencylist.specs.Entries.{indexIn, moved}
+use Rattle.recencylist.specs.inner.Entries.{indexIn, moved}
 use Rattle.distancepass.specs.inner.Passes.{mostEntries, isAt, touchesAt, Counted}
 use Rattle.recencylist.proofs.Fronts.{length-moved, front-found, front-first}
 use Rattle.recencylist.proofs.Indexes.{index-within, place-index}

@@ -7,7 +7,7 @@ ghost use lib.ListN.{length, take};
 ghost use Rattle.model.specs.Sheets.{mostSegs, mostSteps};
 ghost use Rattle.model.specs.Values.{zeros};
 ghost use Rattle.frames.specs.Frames.{EveryRun, touchesOf, ByDistances};
-ghost use Rattle.recencylist.specs.Entries.{indexIn, moved};
+ghost use Rattle.recencylist.specs.inner.Entries.{indexIn, moved};
 ghost use Rattle.distancepass.specs.inner.Passes.{mostEntries, Counted};
 
 // One entry more than there are segments, so that a first touch always has room in the list.

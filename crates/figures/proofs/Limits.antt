@@ -21,9 +21,9 @@ use Rattle.model.proofs.Bounds.{product-within, unit-within}
 use Rattle.model.proofs.FirstTouches.{started}
 use Rattle.model.proofs.LastTouches.{unreferenced-within}
 use Rattle.buckets.specs.Buckets.{bucketCount, bucketOf, filed, ended, bucketAfter, tallyOf, noBucket}
-use Rattle.buckets.specs.Pass.{Within, Roomy, passedAfter, passedOf}
+use Rattle.buckets.specs.inner.Pass.{Within, Roomy, passedAfter, passedOf}
 use Rattle.figures.specs.inner.Sweep.{summed, withStart}
-use Rattle.rowsums.specs.OneRow.{byKind, largestSwap, retentionBound, mostItems, Holds}
+use Rattle.rowsums.specs.inner.OneRow.{byKind, largestSwap, retentionBound, mostItems, Holds}
 use Rattle.buckets.specs.declared.Bucket.{Bucket}
 use Rattle.model.proofs.Tables.{getD-tabulate}
 use Rattle.figures.proofs.Filed.{filed-below, ended-below}

@@ -16,7 +16,7 @@ ghost use Rattle.model.specs.Sheets.{runOf, mostSteps, mostSegs, mostRows};
 ghost use Rattle.buckets.specs.Buckets.{bucketCount, noBucket};
 ghost use Rattle.figures.specs.Rows.{runFigures};
 ghost use Rattle.figures.specs.inner.Sweep.{added, summed, startSwaps, withStart, noRowFigures, Tallied};
-ghost use Rattle.rowsums.specs.OneRow.{mostItems, Holds};
+ghost use Rattle.rowsums.specs.inner.OneRow.{mostItems, Holds};
 
 // A bucket that holds nothing.
 fn none() -> Bucket

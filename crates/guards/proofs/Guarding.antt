@@ -5,10 +5,10 @@ use mathlib.Core.List.{List}
 use native.Mathlib.Omega.{arith}
 use lib.ListN.{getD}
 use Rattle.model.specs.Sheets.{mostSteps}
-use Rattle.buckets.specs.Pass.{Within}
+use Rattle.buckets.specs.inner.Pass.{Within}
 use Rattle.buckets.specs.Buckets.{noBucket}
 use Rattle.figures.specs.inner.Sweep.{added, summed}
-use Rattle.rowsums.specs.OneRow.{Holds}
+use Rattle.rowsums.specs.inner.OneRow.{Holds}
 use Rattle.buckets.specs.declared.Bucket.{Bucket}
 use Rattle.figures.proofs.Sweeps.{summed-suc, summed-more}
 

@@ -9,9 +9,9 @@ ghost use mathlib.Core.Path.{_≡_};
 ghost use Prim.Native.Nat.{ℕ, _+_, _≤_, _^_, min};
 ghost use Rattle.buckets.specs.Buckets.{bucketCount};
 ghost use Rattle.model.specs.Sheets.{mostSteps, mostSegs};
-ghost use Rattle.buckets.specs.Pass.{Limited, Within, Roomy, withTouch};
+ghost use Rattle.buckets.specs.inner.Pass.{Limited, Within, Roomy, withTouch};
 ghost use Rattle.figures.specs.inner.Sweep.{added, summed, withStart};
-ghost use Rattle.rowsums.specs.OneRow.{mostItems, Holds, KeptWithin};
+ghost use Rattle.rowsums.specs.inner.OneRow.{mostItems, Holds, KeptWithin};
 ghost use Rattle.guards.specs.inner.Tests.{Tells};
 
 // What a sum holds at most before something is added to it.

@@ -13,8 +13,8 @@ use Rattle.model.specs.declared.PriceRow.{PriceRow}
 use Rattle.sheet.specs.Lines.{Parsed, read, andThen, numberLine}
 use Rattle.sheet.specs.Order.{sizesPart, pricesPart, tablesPart, kindFor, headPart}
 use Rattle.sheet.proofs.SheetLines.{tables-segs, head-segs}
-use Rattle.scan.specs.AtPlace.{parsedLines, movedOn}
-use Rattle.headlines.specs.HeadsAtPlace.{withWarm, HeadFilled}
+use Rattle.scan.specs.inner.AtPlace.{parsedLines, movedOn}
+use Rattle.headlines.specs.inner.HeadsAtPlace.{withWarm, HeadFilled}
 use Rattle.scan.specs.declared.numbers.LinesRead.{LinesRead}
 use Rattle.scan.specs.declared.numbers.LinesRead.the-variants.{Done, Refused as NoLines}
 use Rattle.scan.proofs.Blanks.{filled-length}

@@ -12,14 +12,14 @@ use Rattle.model.specs.declared.Kind.{Kind}
 use Rattle.model.specs.declared.Refusal.{Refusal}
 use Rattle.sheet.specs.Lines.{Parsed, read, refused, numberLine}
 use Rattle.sheet.specs.Order.{kindFor, warmPart, tablesPart, headPart}
-use Rattle.scan.specs.AtPlace.{parsedLines, linesNext, movedOn, Filled}
+use Rattle.scan.specs.inner.AtPlace.{parsedLines, linesNext, movedOn, Filled}
 use Rattle.scan.specs.declared.numbers.LinesRead.{LinesRead}
 use Rattle.scan.specs.declared.numbers.LinesRead.the-variants.{Done, Refused as NoLines}
 use Rattle.scan.proofs.Blanks.{filled-start, lent-back}
 use Rattle.scan.proofs.Stages.{moved-within}
 use Rattle.scan.proofs.Tails.{tail}
 use Rattle.headlines.specs.declared.HeadRead.{HeadRead}
-use Rattle.headlines.specs.HeadsAtPlace.{headWith, noHead, HeadReads}
+use Rattle.headlines.specs.inner.HeadsAtPlace.{headWith, noHead, HeadReads}
 use Rattle.headlines.proofs.HeadParts.{warm-read, head-read, sizes-counted}
 use Rattle.headlines.proofs.ReadWarm.{tables-refused, tables-warm}
 

@@ -19,8 +19,8 @@ use Rattle.decimal.proofs.Readings.{reading-number}
 use Rattle.lines.specs.Keys.{slash}
 use Rattle.sheet.specs.Lines.{read, refused, splitAt}
 use Rattle.sheet.specs.Values.{rowAfter, rowOf, rowParts}
-use Rattle.scan.specs.AtPlace.{splitAtPlace}
-use Rattle.headlines.specs.HeadsAtPlace.{numberIn, rowOfReadings}
+use Rattle.scan.specs.inner.AtPlace.{splitAtPlace}
+use Rattle.headlines.specs.inner.HeadsAtPlace.{numberIn, rowOfReadings}
 use Rattle.scan.proofs.Splits.{place-within, place-beyond}
 use Rattle.scan.proofs.Tails.{tail, tail-is}
 

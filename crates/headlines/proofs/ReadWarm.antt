@@ -17,12 +17,12 @@ use Rattle.sheet.specs.Lines.{Parsed, read, refused, andThen}
 use Rattle.sheet.specs.Order.{sizesPart, pricesPart, warmPart, tablesPart}
 use Rattle.sheet.specs.Warm.{aboveHold, holdLine, holdLines}
 use Rattle.sheet.proofs.Words.{hold-reads}
-use Rattle.scan.specs.AtPlace.{parsedLines, movedOn}
+use Rattle.scan.specs.inner.AtPlace.{parsedLines, movedOn}
 use Rattle.scan.specs.declared.numbers.LinesRead.{LinesRead}
 use Rattle.scan.proofs.LinesPassed.{Repeats}
 use Rattle.scan.proofs.Stages.{stage-refused, then-part}
 use Rattle.scan.proofs.Tails.{tail}
-use Rattle.headlines.specs.HeadsAtPlace.{heldBefore, withWarm}
+use Rattle.headlines.specs.inner.HeadsAtPlace.{heldBefore, withWarm}
 
 -- ---- one line
 

@@ -1,1 +1,1 @@
-pub mod HeadsAtPlace
+pub mod inner

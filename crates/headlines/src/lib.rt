@@ -21,7 +21,7 @@ ghost use Rattle.model.specs.Sheets.{mostSegs};
 ghost use Rattle.model.specs.Values.{zeros};
 ghost use Rattle.sheet.specs.Order.{kindFor, tablesPart, headPart};
 ghost use Rattle.sheet.specs.Values.{kindOf, kindLine};
-ghost use Rattle.headlines.specs.HeadsAtPlace.{parsedKind, kindNext, noHead, HeadReads};
+ghost use Rattle.headlines.specs.inner.HeadsAtPlace.{parsedKind, kindNext, noHead, HeadReads};
 
 // A kind and the place of what follows its line, or the refusal.
 enum KindAt {

@@ -21,8 +21,8 @@ ghost use Rattle.lines.specs.Keys.{slash};
 ghost use Rattle.sheet.specs.Lines.{splitAt};
 ghost use Rattle.sheet.specs.Order.{pricesPart};
 ghost use Rattle.sheet.specs.Values.{above, rowAfter, rowParts, rowLine, rowLines};
-ghost use Rattle.scan.specs.AtPlace.{parsedLines, linesNext, Filled};
-ghost use Rattle.headlines.specs.HeadsAtPlace.{before, parsedRow, rowNext, numberIn, rowOfReadings};
+ghost use Rattle.scan.specs.inner.AtPlace.{parsedLines, linesNext, Filled};
+ghost use Rattle.headlines.specs.inner.HeadsAtPlace.{before, parsedRow, rowNext, numberIn, rowOfReadings};
 
 // The row before, where there is one.
 enum Previous {

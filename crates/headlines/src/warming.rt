@@ -12,8 +12,8 @@ ghost use lib.ListN.{length, take};
 ghost use Rattle.model.specs.Sheets.{mostSegs};
 ghost use Rattle.sheet.specs.Order.{warmPart};
 ghost use Rattle.sheet.specs.Warm.{holdLine, holdLines};
-ghost use Rattle.scan.specs.AtPlace.{parsedNumber, numberNext, parsedLines, linesNext, Filled};
-ghost use Rattle.headlines.specs.HeadsAtPlace.{heldBefore};
+ghost use Rattle.scan.specs.inner.AtPlace.{parsedNumber, numberNext, parsedLines, linesNext, Filled};
+ghost use Rattle.headlines.specs.inner.HeadsAtPlace.{heldBefore};
 
 // The segment of the line hold=, of which `least` is the first that may stand there.
 fn hold_line(s: &[u8], segs: u32, least: u32) -> NumberAt

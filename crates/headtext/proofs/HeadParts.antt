@@ -14,7 +14,7 @@ use Rattle.lines.specs.Texts.{lineText, numberText, linesText}
 use Rattle.sheet.specs.Order.{warmFor, headPart}
 use Rattle.sheet.specs.Parts.{textOf}
 use Rattle.sheet.proofs.PartTexts.{sizes-text, prices-text, warm-text, head-text}
-use Rattle.headtext.specs.Heads.{numbersText, rowsText, countedText, segmentsText, pricedText, warmText, headText}
+use Rattle.headtext.specs.inner.Heads.{numbersText, rowsText, countedText, segmentsText, pricedText, warmText, headText}
 
 -- the lines from kind= to the sizes
 pub segments-length : (kind : Kind) (a : ℕ) (sizes : List ℕ) → length (segmentsText kind a sizes)

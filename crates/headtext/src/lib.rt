@@ -15,10 +15,10 @@ ghost use lib.ListN.{length, take};
 ghost use Rattle.model.specs.Sheets.{mostRows, mostSteps};
 ghost use Rattle.model.specs.Values.{headValueOf};
 ghost use Rattle.lines.specs.Keys.{kindKey, kindWord};
-ghost use Rattle.lines.specs.Puts.{Put};
+ghost use Rattle.lines.specs.inner.Puts.{Put};
 ghost use Rattle.lines.specs.Texts.{lineText};
 ghost use Rattle.sheet.specs.Values.{rowText};
-ghost use Rattle.headtext.specs.Heads.{countedText, numbersText, rowsText, segmentsText, pricedText, warmText, headText};
+ghost use Rattle.headtext.specs.inner.Heads.{countedText, numbersText, rowsText, segmentsText, pricedText, warmText, headText};
 
 // The smaller of two numbers.
 pub fn least(n: usize, most: usize) -> usize

@@ -5,7 +5,7 @@ use mathlib.Core.List.{List}
 use native.Mathlib.Omega.{arith}
 use lib.ListN.{getD}
 use Rattle.model.specs.Schedules.{bit}
-use Rattle.heldbits.specs.Held.{startWord, startBit, heldOf}
+use Rattle.heldbits.specs.inner.Held.{startWord, startBit, heldOf}
 use Rattle.heldbits.specs.declared.StartWords.{StartWords}
 
 module _ (start : StartWords) (p : List ℕ) where

@@ -5,7 +5,7 @@ ghost use mathlib.Core.Path.{_≡_};
 ghost use Prim.Native.Nat.{ℕ, _+_, _*_, _/_, _%_, _≤_, _<_};
 ghost use lib.ListN.{length, getD};
 ghost use Rattle.model.specs.Schedules.{bit};
-ghost use Rattle.heldbits.specs.Held.{startWord, startBit, heldOf};
+ghost use Rattle.heldbits.specs.inner.Held.{startWord, startBit, heldOf};
 
 // What is held before step 1, segment i at bit i % 64 of number i / 64.
 pub struct StartWords {

@@ -8,7 +8,7 @@ use borrow.Author.Tests.{le-leb}
 use lib.ListN.{length}
 use Rattle.model.specs.Places.{placed, placeAnswer, gives, PlaceLeft}
 use Rattle.model.specs.declared.Verdict.the-variants.{Accepted}
-use Rattle.lines.specs.Puts.{putAt, Put}
+use Rattle.lines.specs.inner.Puts.{putAt, Put}
 
 -- the text that was put is what is left in the place
 pub text-put : (t p : List ℕ) (n e : ℕ) (q : List ℕ) → n ≡ length t → Put t 0 p e q

@@ -7,7 +7,7 @@ use native.Mathlib.Numerals.{add-one}
 use native.Mathlib.Omega.{arith}
 use lib.ListN.{length, take, drop, set, getD, length-append, length-take, length-drop, take-append-drop}
 use lib.Seq.{length-take-le, take-at, take-suc, drop-append-add, drop-drop, set-split}
-use Rattle.lines.specs.Puts.{putAt, Put}
+use Rattle.lines.specs.inner.Puts.{putAt, Put}
 
 -- a place keeps its length
 pub put-length : (at : ℕ) (t p : List ℕ) → at + length t ≤ length p → length (putAt at t p) ≡ length p

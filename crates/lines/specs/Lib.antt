@@ -1,3 +1,3 @@
 pub mod Keys
-pub mod Puts
 pub mod Texts
+pub mod inner

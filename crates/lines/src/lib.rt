@@ -5,7 +5,7 @@ ghost use mathlib.Core.List.{[], _∷_, _++_};
 ghost use Prim.Native.Nat.{_+_, _≤_};
 ghost use lib.ListN.{length};
 ghost use Rattle.decimal.specs.Decimal.{written};
-ghost use Rattle.lines.specs.Puts.{Put};
+ghost use Rattle.lines.specs.inner.Puts.{Put};
 ghost use Rattle.lines.specs.Texts.{numberText};
 
 // The length of the line of a number.

@@ -8,7 +8,7 @@ ghost use mathlib.Core.Path.{_≡_};
 ghost use Prim.Native.Nat.{_*_, _+_, _≤_};
 ghost use lib.ListN.{length, take};
 ghost use Rattle.model.specs.Sheets.{mostRows};
-ghost use Rattle.lines.specs.Puts.{Put};
+ghost use Rattle.lines.specs.inner.Puts.{Put};
 ghost use Rattle.numbers.specs.Figures.{figureList, figureLists};
 
 // The figures of a row as numbers.

@@ -8,7 +8,7 @@ use lib.ListN.{length, set, replicate, length-append, length-replicate, replicat
 use Rattle.model.specs.declared.Kind.{Kind}
 use Rattle.model.specs.declared.RowFigures.{RowFigures}
 use Rattle.lines.specs.Keys.{lineFeed}
-use Rattle.lines.specs.Puts.{Put}
+use Rattle.lines.specs.inner.Puts.{Put}
 use Rattle.lines.proofs.Putting.{put-then, put-byte}
 use Rattle.page.specs.Page.{lineWidth, blank, blanks, field, spaced, columns, pageLine, pageLines, secondPage, joined}
 

@@ -15,7 +15,7 @@ ghost use Rattle.model.specs.Sheets.{mostRows};
 ghost use Rattle.decimal.specs.Decimal.{written};
 ghost use Rattle.model.specs.Places.{gives, PlaceLeft};
 ghost use Rattle.model.specs.Rows.{zeroFigures};
-ghost use Rattle.lines.specs.Puts.{Put};
+ghost use Rattle.lines.specs.inner.Puts.{Put};
 ghost use Rattle.lines.specs.Keys.{kindKey, kindWord, aKey};
 ghost use Rattle.page.specs.Page.{blank, blanks, field, titleLine, namesLine, rowLine, blankLine};
 ghost use Rattle.page.specs.Page.{pageLines, joined, pages, pagesLength, Fits};

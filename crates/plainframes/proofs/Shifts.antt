@@ -5,7 +5,7 @@ use mathlib.Core.List.{List, _∷_, _++_}
 use native.Mathlib.Omega.{arith}
 use lib.ListN.{length, getD, take, drop, set, take-append-drop, drop-of-length-le, List·getD-append}
 use lib.Seq.{drop-cons, length-take-le, getD-take}
-use Rattle.recencylist.specs.Entries.{moved}
+use Rattle.recencylist.specs.inner.Entries.{moved}
 use Rattle.frames.proofs.Writing.{set-back}
 
 module _ (l : List ℕ) (p : ℕ) where

@@ -18,7 +18,7 @@ use Rattle.lru.specs.Orders.{has}
 use Rattle.lru.specs.Memory.{reloaded, memory, lruSimulated}
 use Rattle.lru.proofs.Touches.{cond-within, adds-on, adds-off, touches-within}
 use Rattle.frames.specs.Frames.{touchesOf}
-use Rattle.recencylist.specs.Entries.{indexIn, moved}
+use Rattle.recencylist.specs.inner.Entries.{indexIn, moved}
 use Rattle.plainframes.specs.inner.Used.{usedAfter}
 use Rattle.recencylist.proofs.Fronts.{length-moved, front-found}
 use Rattle.recencylist.proofs.Indexes.{has-index, entry-index}

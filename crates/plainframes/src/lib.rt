@@ -8,7 +8,7 @@ ghost use Rattle.model.specs.Sheets.{mostSegs, mostSteps};
 ghost use Rattle.model.specs.Values.{zeros};
 ghost use Rattle.lru.specs.Memory.{lruSimulated};
 ghost use Rattle.frames.specs.Frames.{EveryRun, touchesOf, BySimulation};
-ghost use Rattle.recencylist.specs.Entries.{indexIn, moved};
+ghost use Rattle.recencylist.specs.inner.Entries.{indexIn, moved};
 ghost use Rattle.plainframes.specs.inner.Used.{usedAfter};
 
 // No frame in use.

@@ -14,7 +14,7 @@ use Rattle.model.specs.Sums.{sum}
 use Rattle.model.specs.Traces.{Trace, segs, entry, touching, unreferenced}
 use Rattle.model.proofs.Sums.{last-or-below, sum-none, sum-suc, sum-eq}
 use Rattle.points.specs.Points.{Ratio, reuses, ratioAt, zeroOne}
-use Rattle.pointsort.specs.Held.{reuseRatios}
+use Rattle.pointsort.specs.inner.Held.{reuseRatios}
 use Rattle.pointsort.proofs.Passing.{step-cases}
 
 -- x is the ratio of a reuse that the first n steps end

@@ -1,3 +1,1 @@
-pub mod Held
-pub mod Keys
 pub mod inner

@@ -1,1 +1,3 @@
+pub mod Held
+pub mod Keys
 pub mod Noting

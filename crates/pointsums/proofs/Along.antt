@@ -13,8 +13,8 @@ use Rattle.model.specs.Traces.{Trace, steps}
 use Rattle.points.specs.Points.{Ratio, ratioAt, zeroOne, thresholds, thresholdAt, Below, Same, Has, Earliest}
 use Rattle.points.specs.Curve.{NoZero}
 use Rattle.points.proofs.Thresholds.{thresholds-positive, thresholds-ascending, thresholds-have, thresholds-first, thresholds-of-run}
-use Rattle.pointsort.specs.Held.{ratio, Holding, reuseRatios}
-use Rattle.pointsort.specs.Keys.{unitsOf, numbers, SortedKeys}
+use Rattle.pointsort.specs.inner.Held.{ratio, Holding, reuseRatios}
+use Rattle.pointsort.specs.inner.Keys.{unitsOf, numbers, SortedKeys}
 use Rattle.pointsort.proofs.Quotients.{quotient-within}
 use Rattle.pointsort.proofs.Fine.{Fine, fine-zero, fine-reuse, below-quotient, quotient-same, same-quotient, quotient-less}
 use Rattle.pointsums.specs.inner.Walk.{quotientAt, reuseAt, beforeAt, ended, firstCost, leader}

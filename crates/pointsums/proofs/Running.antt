@@ -24,8 +24,8 @@ use Rattle.points.specs.Points.{Ratio, reuses, ratioAt, zeroOne, thresholds, th
 use Rattle.points.specs.Points.{operatingPoints}
 use Rattle.points.proofs.Between.{Within}
 use Rattle.points.proofs.Lines.{kept-within, kept-above, kept-first}
-use Rattle.pointsort.specs.Held.{ratioIn, Holding, reuseRatios, wholeLoad}
-use Rattle.pointsort.specs.Keys.{unitsOf, numbers, keyOf, SortedKeys}
+use Rattle.pointsort.specs.inner.Held.{ratioIn, Holding, reuseRatios, wholeLoad}
+use Rattle.pointsort.specs.inner.Keys.{unitsOf, numbers, keyOf, SortedKeys}
 use Rattle.pointsort.proofs.Steps.{reuse-sum}
 use Rattle.pointsort.proofs.Fine.{fine-reuse, held-few, below-quotient, quotient-less}
 use Rattle.pointsums.specs.inner.Walk.{places, quotientAt, reuseAt, beforeAt, ended, memoryTo, loadTo, pointAt, pointsTo, pointsOf}

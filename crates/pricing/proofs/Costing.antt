@@ -17,7 +17,7 @@ use Rattle.pricing.specs.Checking.{scheduleVerdict, priceAnswer}
 use Rattle.pricing.specs.inner.StartCost.{startCost}
 use Rattle.stepprice.specs.declared.Costs.{Costs}
 use Rattle.stepprice.specs.StepVerdicts.{stepsVerdict}
-use Rattle.stepprice.specs.Steps.{heldCost, memoryThrough, loadThrough, Through}
+use Rattle.stepprice.specs.inner.Steps.{heldCost, memoryThrough, loadThrough, Through}
 use Rattle.stepprice.proofs.StepCosts.{memory-within, load-within}
 use Rattle.pricing.proofs.Verdicts.{accepted-permitted, whole-verdict, accepted-answer, priced}
 

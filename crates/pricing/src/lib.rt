@@ -16,7 +16,7 @@ ghost use Prim.Native.Nat.{_≤_, _<_};
 ghost use lib.ListN.{length};
 ghost use Rattle.model.specs.Sheets.{mostSegs, runOf, RunWithin};
 ghost use Rattle.model.specs.Costs.{unitCost};
-ghost use Rattle.heldbits.specs.Held.{StartBits};
+ghost use Rattle.heldbits.specs.inner.Held.{StartBits};
 ghost use Rattle.pricing.specs.Checking.{noPrice, priceAnswer};
 ghost use Rattle.pricing.specs.inner.StartCost.{startCost};
 

@@ -9,7 +9,7 @@ use lib.ListN.{length, take, drop, length-append, length-drop, drop-of-length-le
 use lib.Seq.{drop-drop}
 use Rattle.lines.specs.Keys.{lineFeed}
 use Rattle.sheet.specs.Lines.{Split, parts, none, splitAt}
-use Rattle.scan.specs.AtPlace.{splitAtPlace}
+use Rattle.scan.specs.inner.AtPlace.{splitAtPlace}
 use Rattle.sheet.proofs.Parsing.{split-back}
 use Rattle.scan.proofs.Splits.{place-within, place-beyond}
 use Rattle.scan.proofs.Tails.{tail, tail-is}

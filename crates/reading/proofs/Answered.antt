@@ -15,13 +15,13 @@ use Rattle.sheet.specs.Answers.{answerOf}
 use Rattle.sheet.specs.Order.{entriesPart, runPart}
 use Rattle.sheet.specs.Reading.{rejected, atEnd}
 use Rattle.sheet.specs.declared.SheetAnswer.{SheetAnswer}
-use Rattle.scan.specs.AtPlace.{parsedLines, Filled}
+use Rattle.scan.specs.inner.AtPlace.{parsedLines, Filled}
 use Rattle.scan.specs.declared.numbers.LinesRead.{LinesRead}
 use Rattle.scan.specs.declared.numbers.LinesRead.the-variants.{Done, Refused as NoLines}
 use Rattle.scan.proofs.Blanks.{lent-back}
 use Rattle.scan.proofs.Stages.{stage-read, stage-refused}
-use Rattle.headlines.specs.HeadsAtPlace.{HeadFilled, headWith}
-use Rattle.touchlines.specs.TouchesAtPlace.{entriesWith, markCount}
+use Rattle.headlines.specs.inner.HeadsAtPlace.{HeadFilled, headWith}
+use Rattle.touchlines.specs.inner.TouchesAtPlace.{entriesWith, markCount}
 use Rattle.reading.specs.declared.SheetRead.{SheetRead}
 use Rattle.reading.specs.inner.AtPlace.{sheetOn, answerAt, answerWith}
 use Rattle.reading.proofs.EntriesRead.{entries-read}

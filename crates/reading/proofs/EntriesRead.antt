@@ -15,9 +15,9 @@ use Rattle.sheet.specs.Lines.{Parsed, read, andThen}
 use Rattle.sheet.specs.Order.{numberPart, numbersPart, refsPart, plainPart, stepsPart, entriesPart}
 use Rattle.sheet.specs.Parts.{counted}
 use Rattle.sheet.specs.Touches.{Entries}
-use Rattle.scan.specs.AtPlace.{parsedLines, Filled}
-use Rattle.headlines.specs.HeadsAtPlace.{HeadFilled}
-use Rattle.touchlines.specs.TouchesAtPlace.{entriesWith, markCount}
+use Rattle.scan.specs.inner.AtPlace.{parsedLines, Filled}
+use Rattle.headlines.specs.inner.HeadsAtPlace.{HeadFilled}
+use Rattle.touchlines.specs.inner.TouchesAtPlace.{entriesWith, markCount}
 use Rattle.scan.specs.declared.numbers.LinesRead.{LinesRead}
 use Rattle.scan.proofs.Blanks.{filled-start}
 use Rattle.scan.proofs.Stages.{counted-most}

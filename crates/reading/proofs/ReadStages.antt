@@ -18,10 +18,10 @@ use Rattle.sheet.specs.Order.{bodyPart, sheetPart}
 use Rattle.sheet.specs.Reading.{accepted, rejected, atEnd, sheetLines, namedForm, readForms}
 use Rattle.model.specs.Values.{zeros, idles, zeroRows, blankMarks, headOf, headValueOf, sheetOf}
 use Rattle.sheet.specs.Answers.{answerOf}
-use Rattle.scan.specs.AtPlace.{Filled}
+use Rattle.scan.specs.inner.AtPlace.{Filled}
 use Rattle.reading.specs.inner.AtPlace.{formLine}
-use Rattle.headlines.specs.HeadsAtPlace.{HeadFilled}
-use Rattle.touchlines.specs.TouchesAtPlace.{markCount}
+use Rattle.headlines.specs.inner.HeadsAtPlace.{HeadFilled}
+use Rattle.touchlines.specs.inner.TouchesAtPlace.{markCount}
 use Rattle.sheet.specs.declared.SheetAnswer.{SheetAnswer}
 use Rattle.scan.proofs.Blanks.{filled-length, filled-padded}
 use Rattle.scan.proofs.NumberLines.{number-bounds}

@@ -21,12 +21,12 @@ ghost use Rattle.sheet.specs.Answers.{answerOf};
 ghost use Rattle.sheet.specs.Lines.{andThen};
 ghost use Rattle.sheet.specs.Order.{headPart, entriesPart, runPart};
 ghost use Rattle.sheet.specs.Reading.{atEnd, namedForm, readForms, readSheet, rejected};
-ghost use Rattle.scan.specs.AtPlace.{parsedNumber, numberNext, parsedLines, linesNext, Filled};
+ghost use Rattle.scan.specs.inner.AtPlace.{parsedNumber, numberNext, parsedLines, linesNext, Filled};
 ghost use Rattle.model.specs.declared.Head.{Head};
 ghost use Rattle.scan.specs.declared.numbers.LinesRead.the-variants.{Refused as NoLines};
 ghost use Rattle.reading.specs.inner.AtPlace.{formLine, sheetOn, answerAt, answerWith};
-ghost use Rattle.headlines.specs.HeadsAtPlace.{HeadFilled, headWith};
-ghost use Rattle.touchlines.specs.TouchesAtPlace.{entriesWith, markCount};
+ghost use Rattle.headlines.specs.inner.HeadsAtPlace.{HeadFilled, headWith};
+ghost use Rattle.touchlines.specs.inner.TouchesAtPlace.{entriesWith, markCount};
 
 // What was read of a sheet whose lists stand in the slices that were lent: its form, the rest of its head, how many steps there are, and
 // the place of what follows, or the refusal.

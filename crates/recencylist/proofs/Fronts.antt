@@ -7,7 +7,7 @@ use native.Mathlib.Omega.{arith}
 use lib.ListN.{length, take, drop, length-append, length-drop, drop-of-length-le}
 use lib.Seq.{length-take-le, take-at, take-all}
 use Rattle.lru.specs.Orders.{without, toFront}
-use Rattle.recencylist.specs.Entries.{indexIn, moved}
+use Rattle.recencylist.specs.inner.Entries.{indexIn, moved}
 use Rattle.recencylist.proofs.Indexes.{without-index, index-within}
 
 -- an entry given up among the first n + 1

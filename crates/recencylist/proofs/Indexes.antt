@@ -11,7 +11,7 @@ use lib.Seq.{drop-cons, drop-drop}
 use borrow.Author.Tests.{lt-ltb, le-ltb, ltb-true, ltb-false, eqb-true, eq-eqb, ne-eqb}
 use Rattle.model.specs.Traces.{later}
 use Rattle.lru.specs.Orders.{has, placeOf, without}
-use Rattle.recencylist.specs.Entries.{indexIn, PassedBy}
+use Rattle.recencylist.specs.inner.Entries.{indexIn, PassedBy}
 
 -- one entry more that is not x, the entry that is, and the end of the list
 pub index-next : (x : ℕ) (l : List ℕ) (i : ℕ) → PassedBy x l i → i < length l → (getD l i 0 ≡ x → ⊥) → PassedBy x l (suc i)

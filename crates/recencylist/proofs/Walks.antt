@@ -6,7 +6,7 @@ use native.Mathlib.Numerals.{add-one}
 use native.Mathlib.Omega.{arith}
 use lib.ListN.{length, getD, take, drop, set}
 use lib.Seq.{take-suc, drop-cons, append-snoc, set-at, getD-at, length-take-le}
-use Rattle.recencylist.specs.Entries.{moved}
+use Rattle.recencylist.specs.inner.Entries.{moved}
 
 -- after i entries of l are passed: x stands before them, and the last of them is in hand
 pub record Walked (l : List ℕ) (x : ℕ) (list : List ℕ) (carry i : ℕ) : Type 0 where

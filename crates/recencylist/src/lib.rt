@@ -4,7 +4,7 @@ ghost use mathlib.Core.Path.{_≡_};
 ghost use Prim.Native.Nat.{_≤_, _<_};
 ghost use lib.ListN.{length, take};
 ghost use Rattle.lru.specs.Orders.{has};
-ghost use Rattle.recencylist.specs.Entries.{indexIn, PassedBy, moved};
+ghost use Rattle.recencylist.specs.inner.Entries.{indexIn, PassedBy, moved};
 
 // How many entries are compared together.
 const BLOCK: usize = 8;

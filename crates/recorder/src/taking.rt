@@ -13,7 +13,7 @@ ghost use mathlib.Core.List.{[]};
 ghost use lib.ListN.{length};
 ghost use Rattle.model.specs.Sheets.{SheetValue, Valid, mostSteps, mostSegs};
 ghost use Rattle.model.specs.declared.Verdict.the-variants.{Accepted};
-ghost use Rattle.buckets.specs.Pass.{Passable};
+ghost use Rattle.buckets.specs.inner.Pass.{Passable};
 ghost use Rattle.recorder.specs.inner.Passes.{Continued};
 ghost use Rattle.recorder.specs.Recorders.{recorderOf, appended, taken, stepVerdict, refsVerdict, touchAllVerdict};
 

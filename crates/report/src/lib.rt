@@ -18,7 +18,7 @@ ghost use lib.Dec.{leb, ltb};
 ghost use lib.ListN.{length, take};
 ghost use Rattle.model.specs.Sheets.{mostRows};
 ghost use Rattle.model.specs.Places.{gives, PlaceLeft};
-ghost use Rattle.lines.specs.Puts.{Put};
+ghost use Rattle.lines.specs.inner.Puts.{Put};
 ghost use Rattle.report.specs.Listing.{listing, listingBytes, refusedText};
 ghost use Rattle.report.specs.inner.Parts.{countsText, headText};
 

@@ -3,7 +3,7 @@ use Prim.Native.Nat.{ℕ}
 use Rattle.model.specs.declared.Kind.{Kind}
 use Rattle.model.specs.declared.PriceRow.{PriceRow}
 use Rattle.buckets.specs.declared.Bucket.{Bucket}
-use Rattle.rowsums.specs.OneRow.{Summable, RowFits}
+use Rattle.rowsums.specs.inner.OneRow.{Summable, RowFits}
 
 -- sums from which no figure exceeds 64 bits are such that a working set can be made of them
 pub summable-of : {kind : Kind} {row : PriceRow} {refs cost volume : ℕ} {all kept ends : Bucket}

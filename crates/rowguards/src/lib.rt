@@ -8,8 +8,8 @@ use model::PriceRow;
 use model::RowFigures;
 use model::Sheet;
 ghost use mathlib.Core.Path.{_≡_};
-ghost use Rattle.rowsums.specs.OneRow.{Summable, RowFits, wsoccFrom, rowFrom};
-ghost use Rattle.rowguards.specs.Heads.{headSwaps};
+ghost use Rattle.rowsums.specs.inner.OneRow.{Summable, RowFits, wsoccFrom, rowFrom};
+ghost use Rattle.rowguards.specs.inner.Heads.{headSwaps};
 ghost use Rattle.guards.specs.inner.Tests.{Tells};
 
 // Below this an occupancy can be multiplied by 1,000.

@@ -1,1 +1,1 @@
-pub mod OneRow
+pub mod inner

@@ -9,8 +9,8 @@ use model::RowFigures;
 ghost use mathlib.Core.Path.{_≡_};
 ghost use Prim.Native.Nat.{_+_, _*_, _-_, _≤_, _<_, _^_};
 ghost use Rattle.model.specs.Sheets.{mostSteps, mostSegs, largestSize};
-ghost use Rattle.rowsums.specs.OneRow.{byKind, wsmemFrom, wsspaceFrom, meanFrom, rowFrom};
-ghost use Rattle.rowsums.specs.OneRow.{mostItems, Holds, KeptWithin, Summable, RowFits};
+ghost use Rattle.rowsums.specs.inner.OneRow.{byKind, wsmemFrom, wsspaceFrom, meanFrom, rowFrom};
+ghost use Rattle.rowsums.specs.inner.OneRow.{mostItems, Holds, KeptWithin, Summable, RowFits};
 
 // The load of some misses and their sizes.
 fn load_of(a: u8, misses: u64, missed: u64) -> LoadUnits

@@ -9,7 +9,7 @@ ghost use Prim.Native.Nat.{_+_, _≤_};
 ghost use lib.Dec.{leb};
 ghost use lib.ListN.{length, take};
 ghost use Rattle.model.specs.Sheets.{mostRows};
-ghost use Rattle.lines.specs.Puts.{Put};
+ghost use Rattle.lines.specs.inner.Puts.{Put};
 ghost use Rattle.rowtext.specs.RowListing.{rowListing, modListing, rowsListing, threeText, markedText};
 
 // Whether the listing of a sheet of this form has modtotal=: from form 4 on.

@@ -6,7 +6,7 @@ use native.Mathlib.Omega.{arith}
 use lib.ListN.{length, take, drop, set, length-append, length-set, length-drop, take-append-drop, drop-of-length-le}
 use lib.Seq.{length-take-le, take-at, take-all, drop-at, drop-set-lt}
 use Rattle.model.specs.Values.{padded}
-use Rattle.scan.specs.AtPlace.{Filled}
+use Rattle.scan.specs.inner.AtPlace.{Filled}
 
 module _ {A : Type 0} (n : ℕ) (xs blank : List A) (f : Filled n xs blank) where
   -- the values are n

@@ -13,7 +13,7 @@ use lib.Seq.{drop-drop}
 use Rattle.model.specs.declared.Refusal.the-variants.{LineMalformed}
 use Rattle.lines.specs.Keys.{lineFeed}
 use Rattle.sheet.specs.Lines.{Parsed, refused, andThen, Split, parts, none, andBefore, splitAt, sameBytes, afterKey, ofLine, valueLine}
-use Rattle.scan.specs.AtPlace.{splitAtPlace, parsedValue, ValueWithin}
+use Rattle.scan.specs.inner.AtPlace.{splitAtPlace, parsedValue, ValueWithin}
 use Rattle.scan.specs.declared.numbers.ValueAt.{ValueAt}
 use Rattle.scan.specs.declared.numbers.ValueAt.the-variants.{Value, Missing}
 use Rattle.scan.proofs.Splits.{same-lengths, place-within, place-beyond}

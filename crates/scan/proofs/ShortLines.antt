@@ -14,7 +14,7 @@ use Rattle.decimal.proofs.Digits.{digit-at, number-digits}
 use Rattle.decimal.proofs.Readings.{reading-within}
 use Rattle.lines.specs.Keys.{lineFeed}
 use Rattle.sheet.specs.Lines.{read, refused, andThen, none, splitAt, sameBytes, inRange, numberLine, numberLines}
-use Rattle.scan.specs.AtPlace.{splitAtPlace, parsedLines}
+use Rattle.scan.specs.inner.AtPlace.{splitAtPlace, parsedLines}
 use Rattle.scan.specs.declared.numbers.LinesRead.{LinesRead}
 use Rattle.scan.specs.declared.numbers.LinesRead.the-variants.{Done, Refused as NoLines}
 use Rattle.scan.specs.declared.numbers.ValueAt.the-variants.{Value}

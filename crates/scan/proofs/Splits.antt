@@ -11,7 +11,7 @@ use lib.Dec.{ltb, eqb}
 use lib.ListN.{length, getD, take, drop, drop-of-length-le}
 use lib.Seq.{drop-cons}
 use Rattle.sheet.specs.Lines.{parts, none, andBefore, splitAt, sameBytes}
-use Rattle.scan.specs.AtPlace.{splitAtPlace}
+use Rattle.scan.specs.inner.AtPlace.{splitAtPlace}
 
 -- a place within the bytes splits them, and any other does not
 pub place-within : (s : List ℕ) (k : ℕ) → k < length s → splitAtPlace s k ≡ parts (take k s) (drop (suc k) s)

@@ -9,7 +9,7 @@ use Rattle.model.specs.declared.Refusal.{Refusal}
 use Rattle.sheet.specs.Lines.{Parsed, read, refused, andThen, numberLines}
 use Rattle.sheet.specs.Order.{numberPart, numbersPart}
 use Rattle.sheet.specs.Parts.{counted}
-use Rattle.scan.specs.AtPlace.{parsedLines, linesNext, movedOn}
+use Rattle.scan.specs.inner.AtPlace.{parsedLines, linesNext, movedOn}
 use Rattle.scan.specs.declared.numbers.LinesRead.{LinesRead}
 use Rattle.scan.specs.declared.numbers.LinesRead.the-variants.{Done, Refused as NoLines}
 use Rattle.scan.proofs.Tails.{tail, tail-is, tail-tail, tail-place}

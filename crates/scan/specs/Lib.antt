@@ -1,1 +1,1 @@
-pub mod AtPlace
+pub mod inner

@@ -4,7 +4,7 @@ ghost use mathlib.Core.Option.{none};
 ghost use Prim.Native.Nat.{_+_, _*_, _≤_, _<_};
 ghost use lib.ListN.{length, getD, take, drop};
 ghost use Rattle.sheet.specs.Lines.{splitAt, sameBytes};
-ghost use Rattle.scan.specs.AtPlace.{splitAtPlace};
+ghost use Rattle.scan.specs.inner.AtPlace.{splitAtPlace};
 
 // The place of the first byte `c`, or the length where there is none.
 pub fn find(s: &[u8], c: u8) -> usize

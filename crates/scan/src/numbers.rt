@@ -12,7 +12,8 @@ ghost use Rattle.lines.specs.Keys.{lineFeed};
 ghost use Rattle.sheet.specs.Lines.{read as parsed, andThen, splitAt, none as unsplit, inRange, valueLine, numberLine, numberLines};
 ghost use Rattle.sheet.specs.Order.{numberPart, numbersPart};
 ghost use Rattle.sheet.specs.Parts.{counted};
-ghost use Rattle.scan.specs.AtPlace.{parsedValue, ValueWithin, parsedNumber, numberNext, parsedLines, linesNext, movedOn, Filled};
+ghost use Rattle.scan.specs.inner.AtPlace.{parsedValue, ValueWithin, parsedNumber, numberNext, parsedLines};
+ghost use Rattle.scan.specs.inner.AtPlace.{linesNext, movedOn, Filled};
 
 // The place of the value of a line: its first byte, and the line feed after it. Or the line is not there.
 pub enum ValueAt {

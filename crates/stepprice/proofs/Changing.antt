@@ -14,8 +14,8 @@ use Rattle.model.specs.Schedules.{held}
 use Rattle.stepprice.specs.declared.Changes.{Changes}
 use Rattle.heldbits.specs.declared.StartWords.{StartWords}
 use Rattle.stepprice.specs.StepVerdicts.{enters, someEnters}
-use Rattle.heldbits.specs.Held.{heldOf}
-use Rattle.stepprice.specs.Steps.{Step}
+use Rattle.heldbits.specs.inner.Held.{heldOf}
+use Rattle.stepprice.specs.inner.Steps.{Step}
 use Rattle.stepprice.specs.inner.Passing.{unitAt, leaving, SegmentsPassed, Passing}
 
 -- tests and costs of which a part is known

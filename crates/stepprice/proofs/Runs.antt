@@ -16,8 +16,8 @@ use Rattle.stepprice.specs.declared.Changes.{Changes}
 use Rattle.heldbits.specs.declared.StartWords.{StartWords}
 use Rattle.stepprice.specs.StepVerdicts.{enters}
 use Rattle.schedule.specs.inner.Segments.{segmentOf}
-use Rattle.heldbits.specs.Held.{heldOf}
-use Rattle.stepprice.specs.Steps.{Step}
+use Rattle.heldbits.specs.inner.Held.{heldOf}
+use Rattle.stepprice.specs.inner.Steps.{Step}
 use Rattle.stepprice.specs.inner.Passing.{unitAt, SegmentsPassed, Passing}
 use Rattle.stepprice.proofs.Changing.{pass-turned, held-of, passed-one, passed-run}
 use Rattle.schedule.proofs.Segments.{touched-ref}

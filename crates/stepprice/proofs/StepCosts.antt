@@ -23,7 +23,7 @@ use Rattle.schedule.specs.inner.Segments.{segmentOf}
 use Rattle.stepprice.specs.declared.Changes.{Changes}
 use Rattle.stepprice.specs.declared.Costs.{Costs}
 use Rattle.stepprice.specs.StepVerdicts.{missing, enters, someEnters, stepVerdict}
-use Rattle.stepprice.specs.Steps.{heldCost, memoryThrough, loadThrough, Through}
+use Rattle.stepprice.specs.inner.Steps.{heldCost, memoryThrough, loadThrough, Through}
 use Rattle.stepprice.specs.inner.Passing.{unitAt, leaving, SegmentsPassed, Moved}
 use Rattle.stepprice.proofs.StepFaults.{none-enters, step-accepted, one-more, held-touched}
 

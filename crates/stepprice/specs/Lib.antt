@@ -1,3 +1,2 @@
 pub mod inner
 pub mod StepVerdicts
-pub mod Steps

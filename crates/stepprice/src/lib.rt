@@ -12,8 +12,8 @@ ghost use lib.ListN.{length, getD};
 ghost use Rattle.model.specs.Sheets.{mostSegs, runOf};
 ghost use Rattle.model.specs.Costs.{unitCost, swapCost};
 ghost use Rattle.schedule.specs.inner.Segments.{segmentOf};
-ghost use Rattle.heldbits.specs.Held.{heldOf};
-ghost use Rattle.stepprice.specs.Steps.{Step, Through, After};
+ghost use Rattle.heldbits.specs.inner.Held.{heldOf};
+ghost use Rattle.stepprice.specs.inner.Steps.{Step, Through, After};
 ghost use Rattle.stepprice.specs.inner.Passing.{unitAt, SegmentsPassed, Passing, Moved};
 
 // What the segments passed so far show of a step: whether an untouched one entered, and the cost of those that left.
@@ -45,7 +45,7 @@ fn unit_at(kind: Kind, sizes: &[u16], i: usize) -> u64
     0
 }
 
-// One number i more, of a step that touches x, whose bit changed: where `old`, that of the step before, is set, it left, and else it entered.
+// One number i more, of a step that touches x, whose bit changed: it left where `old`, its bit in the step before, is set, else it entered.
 fn pass(kind: Kind, sizes: &[u16], x: usize, i: usize, old: bool, c: Changes) -> Changes
     requires { ⌜ c .left < 2 ^ 40 ⌝ }
     ensures { λ r. ⌜ Passing old (not old) x i (unitAt kind (now (sizes .entry)) i) c r ⌝ }

@@ -22,9 +22,9 @@ use Rattle.decimal.specs.declared.Reading.{Reading}
 use Rattle.decimal.specs.declared.Reading.the-variants.{NotNumber, OutOfRange as Beyond, Number}
 use Rattle.decimal.proofs.Readings.{reading-number}
 use Rattle.sheet.specs.Lines.{Parsed, read, refused, andThen, Split, parts, none as unsplit, splitAt}
-use Rattle.scan.specs.AtPlace.{splitAtPlace, Filled}
+use Rattle.scan.specs.inner.AtPlace.{splitAtPlace, Filled}
 use Rattle.sheet.specs.Touches.{Touch, beforeLetter, stepPart, touchOf, touchParts, touchLine, touchLines, entryLines}
-use Rattle.touchlines.specs.TouchesAtPlace.{pairOf, pairAround, touchOfPair, entriesWith, markCount}
+use Rattle.touchlines.specs.inner.TouchesAtPlace.{pairOf, pairAround, touchOfPair, entriesWith, markCount}
 use Rattle.touchlines.specs.inner.Passed.{withTouches, filling, PassedTouches}
 use Rattle.touchlines.specs.declared.Pair.{Pair}
 use Rattle.touchlines.specs.declared.Pair.the-variants.{Numbers, Malformed}

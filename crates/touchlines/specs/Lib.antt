@@ -1,2 +1,1 @@
-pub mod TouchesAtPlace
 pub mod inner

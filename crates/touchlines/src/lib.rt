@@ -24,8 +24,8 @@ ghost use Rattle.lines.specs.Keys.{lineFeed, atSign, markLetter};
 ghost use Rattle.sheet.specs.Lines.{read, splitAt};
 ghost use Rattle.sheet.specs.Order.{stepsPart};
 ghost use Rattle.sheet.specs.Touches.{stepPart, touchParts, touchLine, entryLines, stepWord};
-ghost use Rattle.scan.specs.AtPlace.{parsedLines, linesNext, Filled};
-ghost use Rattle.touchlines.specs.TouchesAtPlace.{pairOf, pairAround, parsedTouch, touchNext, entriesWith, markCount};
+ghost use Rattle.scan.specs.inner.AtPlace.{parsedLines, linesNext, Filled};
+ghost use Rattle.touchlines.specs.inner.TouchesAtPlace.{pairOf, pairAround, parsedTouch, touchNext, entriesWith, markCount};
 ghost use Rattle.touchlines.specs.inner.Passed.{PassedTouches, refsLines};
 
 // Two numbers around "@" and whether the letter w follows them; or one of them is no number; or the first, or else the second, lies outside

@@ -14,7 +14,7 @@ use Rattle.model.specs.Sheets.{idle, marksOf}
 use Rattle.lines.specs.Keys.{stepsKey, refsKey}
 use Rattle.lines.specs.Texts.{numberText, linesText}
 use Rattle.sheet.specs.Touches.{Touch, touchesFrom, touchText, touchesText}
-use Rattle.touchtext.specs.Steps.{touchesWith, stepsText}
+use Rattle.touchtext.specs.inner.Steps.{touchesWith, stepsText}
 
 -- ---- one entry
 

@@ -13,8 +13,8 @@ ghost use lib.Dec.{eqb};
 ghost use lib.ListN.{length};
 ghost use Rattle.model.specs.Sheets.{idle, mostSteps, marksOf};
 ghost use Rattle.lines.specs.Keys.{lineFeed, markLetter};
-ghost use Rattle.lines.specs.Puts.{Put};
-ghost use Rattle.touchtext.specs.Steps.{touchesWith, stepsText};
+ghost use Rattle.lines.specs.inner.Puts.{Put};
+ghost use Rattle.touchtext.specs.inner.Steps.{touchesWith, stepsText};
 ghost use Rattle.sheet.specs.Touches.{touchesFrom, touchText, touchesText};
 
 // Whether the entry is that of a step without a touch.

@@ -14,9 +14,9 @@ use Rattle.sheet.specs.Parts.{textOf}
 use Rattle.sheet.specs.Touches.{Entries, touchesOf, touchesText}
 use Rattle.sheet.specs.Writing.{sheetText}
 use Rattle.sheet.proofs.PartTexts.{plain-text, steps-text, entriesText, entriesIn, sheet-text}
-use Rattle.headtext.specs.Heads.{countedText, headText}
+use Rattle.headtext.specs.inner.Heads.{countedText, headText}
 use Rattle.headtext.proofs.HeadParts.{heads}
-use Rattle.touchtext.specs.Steps.{stepsText}
+use Rattle.touchtext.specs.inner.Steps.{stepsText}
 use Rattle.writing.specs.inner.Parts.{formText, runText}
 
 -- by the form: with a form line and steps, or without

@@ -17,7 +17,7 @@ ghost use lib.ListN.{length};
 ghost use Rattle.model.specs.Sheets.{mostSteps};
 ghost use Rattle.model.specs.Places.{gives, PlaceLeft};
 ghost use Rattle.model.specs.Values.{valueOf};
-ghost use Rattle.lines.specs.Puts.{Put};
+ghost use Rattle.lines.specs.inner.Puts.{Put};
 ghost use Rattle.writing.specs.inner.Parts.{formText, runText};
 ghost use Rattle.sheet.specs.Writing.{sheetText};
 

@@ -5,7 +5,7 @@ use native.Mathlib.Omega.{arith}
 use borrow.Author.Needs.{needs}
 use lib.ListN.{length}
 use Rattle.scan.proofs.Tails.{tail, tail-place}
-use Rattle.dinlines.specs.FirstLine.{firstAt, NextWithin}
+use Rattle.dinlines.specs.inner.FirstLine.{firstAt, NextWithin}
 use Rattle.dinlines.proofs.Digits.{within, below, above}
 use Rattle.dinlines.proofs.FirstLines.{line-short, line-unlabelled, line-unparted, line-address, line-next}
 use Rattle.dinlines.proofs.line.Statement.{statement}

@@ -1,6 +1,6 @@
 -- `home` meets its contract: the product fits, and the rest is the definition's. Assumes nothing.
 use borrow.Author.Needs.{needs}
-use Rattle.dinpages.specs.Held.{homeOf}
+use Rattle.dinpages.specs.inner.Held.{homeOf}
 use Rattle.dinpages.proofs.home.Statement.{statement}
 use Rattle.dinpages.proofs.home.Tie as tie
 

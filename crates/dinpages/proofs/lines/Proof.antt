@@ -7,8 +7,8 @@ use borrow.Author.Needs.{needs}
 use lib.ListN.{length, length-drop}
 use Rattle.model.specs.Sheets.{mostSegs}
 use Rattle.scan.proofs.Tails.{tail, tail-is, tail-place}
-use Rattle.dinlines.specs.FirstLine.{firstAt, NextWithin}
-use Rattle.dinpages.specs.Held.{tablePlaces}
+use Rattle.dinlines.specs.inner.FirstLine.{firstAt, NextWithin}
+use Rattle.dinpages.specs.inner.Held.{tablePlaces}
 use Rattle.dinpages.proofs.Table.{found-below}
 use Rattle.dinpages.proofs.Going.{Going, going-start, going-room, going-end, going-malformed}
 use Rattle.dinpages.proofs.Going.{going-small, going-many-segs, going-many-steps, going-next}

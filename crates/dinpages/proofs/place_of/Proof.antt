@@ -3,7 +3,7 @@
 use Prim.Native.Nat.{_-_}
 use native.Mathlib.Omega.{arith}
 use borrow.Author.Needs.{needs}
-use Rattle.dinpages.specs.Held.{tablePlaces}
+use Rattle.dinpages.specs.inner.Held.{tablePlaces}
 use Rattle.dinpages.proofs.Probing.{home-below, Passed, passed-start, passed-next, passed-found, passed-all}
 use Rattle.dinpages.proofs.place_of.Statement.{statement}
 use Rattle.dinpages.proofs.place_of.Tie as tie

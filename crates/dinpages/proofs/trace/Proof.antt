@@ -1,7 +1,7 @@
 -- `trace` meets its contract: k within its range, and the lines. Assumes nothing.
 use mathlib.Core.Path.{sym, ap, _∙_}
 use borrow.Author.Needs.{needs}
-use Rattle.dinpages.specs.Held.{importedOf}
+use Rattle.dinpages.specs.inner.Held.{importedOf}
 use Rattle.dinpages.proofs.Powers.{power-low, power-high, power-within}
 use Rattle.dinpages.proofs.trace.Statement.{statement}
 use Rattle.dinpages.proofs.trace.Tie as tie

@@ -6,7 +6,7 @@ use native.Mathlib.Omega.{arith}
 use borrow.Author.Needs.{needs}
 use lib.ListN.{getD}
 use Rattle.model.proofs.Sums.{last-or-below}
-use Rattle.buckets.specs.Pass.{Within}
+use Rattle.buckets.specs.inner.Pass.{Within}
 use Rattle.buckets.specs.Buckets.{noBucket}
 use Rattle.guards.proofs.Telling.{tells-true, tells-false, failed, passed}
 use Rattle.guards.proofs.roomy.Statement.{statement}

@@ -8,7 +8,7 @@ use borrow.Author.Needs.{needs}
 use Rattle.model.specs.Sheets.{mostSteps}
 use Rattle.figures.proofs.Sweeps.{summed-none}
 use Rattle.figures.specs.inner.Sweep.{summed}
-use Rattle.rowsums.specs.OneRow.{Holds}
+use Rattle.rowsums.specs.inner.OneRow.{Holds}
 use Rattle.guards.proofs.Guarding.{sum-more}
 use Rattle.guards.proofs.sum_first.Statement.{statement}
 use Rattle.guards.proofs.sum_first.Tie as tie

@@ -9,7 +9,7 @@ use Rattle.model.specs.Sheets.{mostSegs, largestSize}
 use Rattle.model.specs.Values.{zeros}
 use Rattle.sheet.specs.Lines.{refused, splitAt}
 use Rattle.sheet.specs.Order.{sizesPart, tablesPart}
-use Rattle.scan.specs.AtPlace.{parsedLines, linesNext, Filled}
+use Rattle.scan.specs.inner.AtPlace.{parsedLines, linesNext, Filled}
 use Rattle.model.proofs.Values.{zeros-length}
 use Rattle.scan.proofs.Blanks.{filled-start}
 use Rattle.scan.proofs.Stages.{counted-most, stage-refused, moved-within}

@@ -8,8 +8,8 @@ use Rattle.model.specs.Sheets.{mostSegs}
 use Rattle.model.specs.Values.{zeros}
 use Rattle.sheet.specs.Lines.{refused, splitAt}
 use Rattle.sheet.specs.Order.{headPart}
-use Rattle.headlines.specs.HeadsAtPlace.{parsedKind, kindNext}
-use Rattle.scan.specs.AtPlace.{parsedNumber, numberNext, linesNext}
+use Rattle.headlines.specs.inner.HeadsAtPlace.{parsedKind, kindNext}
+use Rattle.scan.specs.inner.AtPlace.{parsedNumber, numberNext, linesNext}
 use Rattle.scan.proofs.Blanks.{filled-start}
 use Rattle.scan.proofs.NumberLines.{number-bounds}
 use Rattle.scan.proofs.Stages.{stage-read, stage-refused}

@@ -2,7 +2,7 @@
 use mathlib.Core.Path.{sym, ap, _∙_}
 use native.Mathlib.Omega.{arith}
 use borrow.Author.Needs.{needs}
-use Rattle.headlines.specs.HeadsAtPlace.{parsedKind, kindNext}
+use Rattle.headlines.specs.inner.HeadsAtPlace.{parsedKind, kindNext}
 use Rattle.headlines.proofs.kind_for.Statement.{statement}
 use Rattle.headlines.proofs.kind_for.Tie as tie
 

@@ -6,7 +6,7 @@ use borrow.Author.Needs.{needs}
 use borrow.Author.Tests.{not-true, not-false}
 use lib.ListN.{length}
 use Rattle.model.specs.Sheets.{mostSegs}
-use Rattle.scan.specs.AtPlace.{Filled}
+use Rattle.scan.specs.inner.AtPlace.{Filled}
 use Rattle.model.proofs.Values.{zeros-length}
 use Rattle.headlines.proofs.HeadParts.{table-segs}
 use Rattle.headlines.proofs.HeadStages.{head-parsed, head-place, cold-later, cold-refused, warm-after}

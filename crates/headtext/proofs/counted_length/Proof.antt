@@ -3,7 +3,7 @@ use native.Mathlib.Omega.{arith}
 use borrow.Author.Needs.{needs}
 use lib.ListN.{length, length-append}
 use Rattle.lines.specs.Texts.{numberText}
-use Rattle.headtext.specs.Heads.{numbersText}
+use Rattle.headtext.specs.inner.Heads.{numbersText}
 use Rattle.headtext.proofs.counted_length.Statement.{statement}
 use Rattle.headtext.proofs.counted_length.Tie as tie
 

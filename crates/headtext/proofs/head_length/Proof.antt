@@ -5,7 +5,7 @@ use native.Mathlib.Omega.{arith}
 use borrow.Author.Needs.{needs}
 use lib.ListN.{length, length-map, length-take}
 use lib.Seq.{length-take-le}
-use Rattle.headtext.specs.Heads.{headText}
+use Rattle.headtext.specs.inner.Heads.{headText}
 use Rattle.headtext.proofs.Clamped.{clampedHead, head-clamped}
 use Rattle.headtext.proofs.HeadParts.{head-length}
 use Rattle.headtext.proofs.head_length.Statement.{statement}

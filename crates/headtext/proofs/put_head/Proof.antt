@@ -9,7 +9,7 @@ use lib.Seq.{length-take-le}
 use Rattle.model.specs.Sheets.{HeadValue}
 use Rattle.model.specs.Values.{headValueOf}
 use Rattle.lines.proofs.Putting.{put-same, put-then}
-use Rattle.headtext.specs.Heads.{segmentsText, pricedText, warmText, headText}
+use Rattle.headtext.specs.inner.Heads.{segmentsText, pricedText, warmText, headText}
 use Rattle.headtext.proofs.Clamped.{clampedHead, head-clamped}
 use Rattle.headtext.proofs.HeadParts.{head-length}
 use Rattle.headtext.proofs.put_head.Statement.{statement}

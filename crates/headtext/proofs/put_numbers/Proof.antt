@@ -6,7 +6,7 @@ use native.Mathlib.Omega.{arith}
 use borrow.Author.Needs.{needs}
 use lib.ListN.{length, take}
 use lib.Seq.{take-all, take-length}
-use Rattle.lines.specs.Puts.{Put}
+use Rattle.lines.specs.inner.Puts.{Put}
 use Rattle.lines.specs.Texts.{numberText, linesText}
 use Rattle.lines.proofs.Putting.{put-nothing, put-same, put-then}
 use Rattle.lines.proofs.Runs.{lines-next, lines-room}

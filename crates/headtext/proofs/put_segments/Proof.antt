@@ -1,7 +1,7 @@
 -- `headtext::put_segments` meets its contract: the lines are put one part after another. Assumes nothing.
 use native.Mathlib.Omega.{arith}
 use borrow.Author.Needs.{needs}
-use Rattle.headtext.specs.Heads.{segmentsText}
+use Rattle.headtext.specs.inner.Heads.{segmentsText}
 use Rattle.lines.proofs.Putting.{put-then}
 use Rattle.headtext.proofs.HeadParts.{segments-length}
 use Rattle.headtext.proofs.put_segments.Statement.{statement}

@@ -5,7 +5,7 @@ use native.Mathlib.Nat.{add-zero}
 use native.Mathlib.Omega.{arith}
 use borrow.Author.Needs.{needs}
 use lib.ListN.{length, take, length-set}
-use Rattle.lines.specs.Puts.{Put}
+use Rattle.lines.specs.inner.Puts.{Put}
 use Rattle.lines.proofs.Putting.{put-nothing, put-next, put-same}
 use Rattle.numbers.proofs.put_row.Statement.{statement}
 use Rattle.numbers.proofs.put_row.Tie as tie

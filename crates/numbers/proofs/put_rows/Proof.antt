@@ -4,7 +4,7 @@ use Prim.Native.Nat.{_-_, _≤_}
 use native.Mathlib.Omega.{arith}
 use borrow.Author.Needs.{needs}
 use lib.ListN.{length, take}
-use Rattle.lines.specs.Puts.{Put}
+use Rattle.lines.specs.inner.Puts.{Put}
 use Rattle.lines.proofs.Putting.{put-nothing, put-same, put-then}
 use Rattle.lines.specs.Texts.{linesText}
 use Rattle.lines.proofs.Runs.{lines-next}

@@ -2,7 +2,7 @@
 use lib.ListN.{getD}
 use denote.Ref.{now}
 use borrow.Author.Tests.{lt-ltb, le-ltb}
-use Rattle.pointsort.specs.Keys.{numbers}
+use Rattle.pointsort.specs.inner.Keys.{numbers}
 use borrow.Author.Needs.{needs}
 use Rattle.pointsums.proofs.first_cost.Statement.{statement}
 use Rattle.pointsums.proofs.first_cost.Tie as tie

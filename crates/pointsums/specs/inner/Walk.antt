@@ -7,8 +7,8 @@ use lib.ListN.{length, getD, replicate}
 use Rattle.model.specs.Sheets.{mostSteps}
 use Rattle.model.specs.Sums.{sum}
 use Rattle.points.specs.Points.{Ratio}
-use Rattle.pointsort.specs.Held.{ratio, ratioIn}
-use Rattle.pointsort.specs.Keys.{numbers}
+use Rattle.pointsort.specs.inner.Held.{ratio, ratioIn}
+use Rattle.pointsort.specs.inner.Keys.{numbers}
 
 -- places for the reuses, and nothing in them
 abbrev pub places : ℕ

@@ -7,7 +7,7 @@ use lib.ListN.{length}
 use Rattle.sheet.specs.Answers.{answerOf}
 use Rattle.sheet.specs.Order.{bodyPart}
 use Rattle.sheet.specs.Reading.{atEnd}
-use Rattle.scan.specs.AtPlace.{parsedNumber, numberNext}
+use Rattle.scan.specs.inner.AtPlace.{parsedNumber, numberNext}
 use Rattle.scan.proofs.Stages.{stage-read, stage-refused}
 use Rattle.reading.proofs.Answered.{none-answered}
 use Rattle.reading.proofs.ReadStages.{answer-long, answer-short, form-bound}

@@ -3,7 +3,7 @@ use mathlib.Core.Path.{refl, sym, ap, _∙_}
 use borrow.Author.Needs.{needs}
 use Rattle.sheet.specs.Lines.{splitAt}
 use Rattle.sheet.specs.Reading.{formIn, namedForm}
-use Rattle.scan.specs.AtPlace.{parsedNumber}
+use Rattle.scan.specs.inner.AtPlace.{parsedNumber}
 use Rattle.reading.proofs.named_form.Statement.{statement}
 use Rattle.reading.proofs.named_form.Tie as tie
 

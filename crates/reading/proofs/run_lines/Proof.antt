@@ -1,7 +1,7 @@
 -- `reading::run_lines` meets its contract: the entries with their marks, and the end. Assumes nothing.
 use mathlib.Core.Path.{subst}
 use borrow.Author.Needs.{needs}
-use Rattle.scan.specs.AtPlace.{Filled}
+use Rattle.scan.specs.inner.AtPlace.{Filled}
 use Rattle.reading.proofs.Answered.{run-refused, run-unended, run-ended}
 use Rattle.reading.proofs.run_lines.Statement.{statement}
 use Rattle.reading.proofs.run_lines.Tie as tie

@@ -9,7 +9,7 @@ use Rattle.model.proofs.Values.{zeros-length}
 use Rattle.sheet.specs.Answers.{answerOf}
 use Rattle.sheet.specs.Reading.{atEnd}
 use Rattle.scan.proofs.Stages.{stage-read, stage-refused}
-use Rattle.headlines.specs.HeadsAtPlace.{headWith}
+use Rattle.headlines.specs.inner.HeadsAtPlace.{headWith}
 use Rattle.headlines.proofs.HeadParts.{some-segs}
 use Rattle.headlines.proofs.HeadStages.{head-parsed, head-unread, head-place}
 use Rattle.reading.proofs.Answered.{none-answered}

@@ -15,8 +15,8 @@ use Rattle.sheet.specs.Reading.{rejected}
 use Rattle.sheet.specs.declared.SheetAnswer.{SheetAnswer}
 use Rattle.scan.specs.declared.numbers.LinesRead.{LinesRead}
 use Rattle.scan.specs.declared.numbers.LinesRead.the-variants.{Done, Refused as NoLines}
-use Rattle.headlines.specs.HeadsAtPlace.{headWith}
-use Rattle.touchlines.specs.TouchesAtPlace.{markCount}
+use Rattle.headlines.specs.inner.HeadsAtPlace.{headWith}
+use Rattle.touchlines.specs.inner.TouchesAtPlace.{markCount}
 use Rattle.reading.specs.declared.SheetRead.{SheetRead}
 
 -- the form lo to hi of the form line, or 1 where the bytes do not begin with its key

@@ -4,7 +4,7 @@ use mathlib.Core.Path.{sym, _∙_}
 use native.Mathlib.Omega.{arith}
 use borrow.Author.Needs.{needs}
 use lib.ListN.{length}
-use Rattle.recencylist.specs.Entries.{PassedBy}
+use Rattle.recencylist.specs.inner.Entries.{PassedBy}
 use Rattle.recencylist.proofs.Indexes.{index-skip}
 use Rattle.recencylist.proofs.blocks_before.Statement.{statement}
 use Rattle.recencylist.proofs.blocks_before.Tie as tie

@@ -4,7 +4,7 @@ use native.Mathlib.Numerals.{add-one}
 use native.Mathlib.Omega.{arith}
 use borrow.Author.Needs.{needs}
 use lib.ListN.{length}
-use Rattle.recencylist.specs.Entries.{PassedBy}
+use Rattle.recencylist.specs.inner.Entries.{PassedBy}
 use Rattle.recencylist.proofs.Indexes.{index-next, index-here, index-none}
 use Rattle.recencylist.proofs.entries_before.Statement.{statement}
 use Rattle.recencylist.proofs.entries_before.Tie as tie

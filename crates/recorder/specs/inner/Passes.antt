@@ -8,9 +8,9 @@ use Rattle.model.specs.Sheets.{SheetValue, RowsWithin, RunWithin, traceOf}
 use Rattle.model.specs.Values.{headOf}
 use Rattle.model.specs.declared.Head.{Head}
 use Rattle.buckets.specs.Buckets.{allEmpty}
-use Rattle.buckets.specs.Pass.{passedOf}
+use Rattle.buckets.specs.inner.Pass.{passedOf}
 use Rattle.buckets.specs.declared.pass.Passed.{Passed}
-use Rattle.rowguards.specs.Heads.{headWarm}
+use Rattle.rowguards.specs.inner.Heads.{headWarm}
 use Rattle.recorder.specs.Recorders.{appended}
 use Rattle.recorder.specs.declared.Recorder.{Recorder}
 

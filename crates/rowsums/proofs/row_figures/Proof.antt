@@ -6,7 +6,7 @@ use native.Mathlib.Omega.{arith}
 use borrow.Author.Needs.{needs}
 use Rattle.model.specs.declared.LoadUnits.{LoadUnits}
 use Rattle.model.proofs.Bounds.{product-within}
-use Rattle.rowsums.specs.OneRow.{rowFrom, loadFrom}
+use Rattle.rowsums.specs.inner.OneRow.{rowFrom, loadFrom}
 use Rattle.rowsums.proofs.ByKind.{byKind-within}
 use Rattle.rowsums.proofs.row_figures.Statement.{statement}
 use Rattle.rowsums.proofs.row_figures.Tie as tie

@@ -6,7 +6,7 @@ use native.Mathlib.Omega.{arith}
 use borrow.Author.Needs.{needs}
 use lib.Dec.{leb}
 use lib.ListN.{length, take}
-use Rattle.lines.specs.Puts.{Put}
+use Rattle.lines.specs.inner.Puts.{Put}
 use Rattle.lines.proofs.Putting.{put-nothing, put-same, put-then}
 use Rattle.rowtext.specs.RowListing.{rowsListing}
 use Rattle.rowtext.proofs.RowLines.{rows-next, rows-room}

@@ -5,7 +5,7 @@ use native.Mathlib.Omega.{arith}
 use borrow.Author.Needs.{needs}
 use lib.ListN.{length}
 use Rattle.sheet.specs.Lines.{splitAt}
-use Rattle.scan.specs.AtPlace.{parsedNumber, numberNext, linesNext}
+use Rattle.scan.specs.inner.AtPlace.{parsedNumber, numberNext, linesNext}
 use Rattle.scan.proofs.Stages.{then-part, stage-refused, moved-within}
 use Rattle.touchlines.proofs.refs_lines.Statement.{statement}
 use Rattle.touchlines.proofs.refs_lines.Tie as tie

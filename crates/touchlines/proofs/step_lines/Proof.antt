@@ -12,9 +12,9 @@ use Rattle.model.specs.Values.{idles, blankMarks}
 use Rattle.model.proofs.Values.{idles-length, blank-marks-length}
 use Rattle.sheet.specs.Lines.{splitAt}
 use Rattle.sheet.specs.Order.{stepsPart}
-use Rattle.touchlines.specs.TouchesAtPlace.{entriesWith}
+use Rattle.touchlines.specs.inner.TouchesAtPlace.{entriesWith}
 use Rattle.touchlines.specs.inner.Passed.{refsLines}
-use Rattle.scan.specs.AtPlace.{parsedNumber, numberNext, parsedLines, linesNext}
+use Rattle.scan.specs.inner.AtPlace.{parsedNumber, numberNext, parsedLines, linesNext}
 use Rattle.scan.proofs.Blanks.{filled-start, front-filled}
 use Rattle.scan.proofs.NumberLines.{number-bounds}
 use Rattle.scan.proofs.Stages.{then-part, stage-refused, moved-within}

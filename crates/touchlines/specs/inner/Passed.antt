@@ -8,7 +8,7 @@ use lib.ListN.{length, drop, set, replicate}
 use Rattle.lines.specs.Keys.{refsKey}
 use Rattle.sheet.specs.Lines.{Parsed, read, andThen, numberLine}
 use Rattle.sheet.specs.Touches.{Touch, Entries, touchLines, entryLines}
-use Rattle.touchlines.specs.TouchesAtPlace.{entriesWith}
+use Rattle.touchlines.specs.inner.TouchesAtPlace.{entriesWith}
 
 -- entries and marks with touches put in
 unfoldable pub withTouches : Bool → List ℕ → List Bool → List Touch → Entries

@@ -10,7 +10,7 @@ use lib.ListN.{length, take}
 use lib.Seq.{take-all}
 use Rattle.model.specs.Sheets.{marksOf}
 use Rattle.sheet.specs.Touches.{touchesFrom}
-use Rattle.touchtext.specs.Steps.{touchesWith}
+use Rattle.touchtext.specs.inner.Steps.{touchesWith}
 use Rattle.touchtext.proofs.TouchLines.{count-next}
 use Rattle.touchtext.proofs.count_touches.Statement.{statement}
 use Rattle.touchtext.proofs.count_touches.Tie as tie

@@ -6,7 +6,7 @@ use lib.ListN.{length}
 use Rattle.lines.specs.Keys.{refsKey}
 use Rattle.lines.specs.Texts.{numberText}
 use Rattle.lines.proofs.Putting.{put-same, put-then}
-use Rattle.touchtext.specs.Steps.{stepsText}
+use Rattle.touchtext.specs.inner.Steps.{stepsText}
 use Rattle.touchtext.proofs.TouchLines.{steps-length}
 use Rattle.touchtext.proofs.put_steps.Statement.{statement}
 use Rattle.touchtext.proofs.put_steps.Tie as tie

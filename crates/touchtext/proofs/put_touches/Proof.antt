@@ -6,10 +6,10 @@ use native.Mathlib.Omega.{arith}
 use borrow.Author.Needs.{needs}
 use lib.ListN.{length, take}
 use lib.Seq.{take-all}
-use Rattle.lines.specs.Puts.{Put}
+use Rattle.lines.specs.inner.Puts.{Put}
 use Rattle.lines.specs.Texts.{linesText}
 use Rattle.sheet.specs.Touches.{touchesFrom, touchesText}
-use Rattle.touchtext.specs.Steps.{touchesWith}
+use Rattle.touchtext.specs.inner.Steps.{touchesWith}
 use Rattle.lines.proofs.Putting.{put-nothing, put-same, put-then}
 use Rattle.touchtext.proofs.TouchLines.{text-next, text-room}
 use Rattle.touchtext.proofs.put_touches.Statement.{statement}

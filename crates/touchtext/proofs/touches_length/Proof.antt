@@ -8,7 +8,7 @@ use lib.ListN.{length, take}
 use lib.Seq.{take-all}
 use Rattle.lines.specs.Texts.{linesText}
 use Rattle.sheet.specs.Touches.{touchesFrom, touchesText}
-use Rattle.touchtext.specs.Steps.{touchesWith}
+use Rattle.touchtext.specs.inner.Steps.{touchesWith}
 use Rattle.touchtext.proofs.TouchLines.{length-next}
 use Rattle.touchtext.proofs.touches_length.Statement.{statement}
 use Rattle.touchtext.proofs.touches_length.Tie as tie

@@ -5,8 +5,8 @@ use mathlib.Core.List.{List, []}
 use lib.Dec.{leb}
 use Rattle.lines.specs.Keys.{formKey, refsKey, refKey}
 use Rattle.lines.specs.Texts.{numberText}
-use Rattle.headtext.specs.Heads.{countedText}
-use Rattle.touchtext.specs.Steps.{stepsText}
+use Rattle.headtext.specs.inner.Heads.{countedText}
+use Rattle.touchtext.specs.inner.Steps.{stepsText}
 
 -- the form line, which a sheet of form 2 on has first
 unfoldable pub formText : ℕ → List ℕ

@@ -11,7 +11,7 @@ use Rattle.model.specs.Sheets.{RunWithin, runOf}
 use Rattle.model.specs.LastTouches.{lastTable}
 use Rattle.model.specs.declared.PriceRow.{PriceRow}
 use Rattle.buckets.specs.Buckets.{tallyOf}
-use Rattle.buckets.specs.Pass.{Limited, Roomy, RowsOf}
+use Rattle.buckets.specs.inner.Pass.{Limited, Roomy, RowsOf}
 use Rattle.buckets.proofs.Filling.{roomy-start, roomy-end}
 use Rattle.buckets.proofs.Ending.{endsUpTo, ending-start, ending-step}
 use Rattle.buckets.proofs.Touches.{placed, placed-limited, touch-placed}

@@ -9,7 +9,7 @@ use lib.ListN.{length, getD, length-append}
 use Rattle.model.specs.Sheets.{RunWithin, runOf}
 use Rattle.model.specs.Traces.{entry}
 use Rattle.model.specs.declared.PriceRow.{PriceRow}
-use Rattle.buckets.specs.Pass.{Limited, Roomy, RowsOf, passedAfter}
+use Rattle.buckets.specs.inner.Pass.{Limited, Roomy, RowsOf, passedAfter}
 use Rattle.buckets.proofs.Filling.{roomy-touch, roomy-more}
 use Rattle.buckets.proofs.Passing.{pass-step, pass-idle, entry-on}
 use Rattle.buckets.proofs.Touches.{placed, placed-limited, touch-placed}

@@ -8,7 +8,7 @@ use lib.ListN.{take}
 use lib.Seq.{length-take-le}
 use Rattle.model.specs.Sheets.{runOf}
 use Rattle.buckets.specs.Buckets.{tallyOf}
-use Rattle.buckets.specs.Pass.{RowsOf, passedOf, passedAfter}
+use Rattle.buckets.specs.inner.Pass.{RowsOf, passedOf, passedAfter}
 use Rattle.buckets.specs.declared.pass.Passed.{Passed}
 use Rattle.buckets.proofs.Filling.{roomy-start, roomy-more}
 use Rattle.buckets.proofs.Passing.{pass-start}

@@ -5,7 +5,7 @@ use native.Mathlib.Omega.{arith}
 use borrow.Author.Needs.{needs}
 use Rattle.model.proofs.Bounds.{product-within}
 use Rattle.sheet.specs.Values.{above}
-use Rattle.headlines.specs.HeadsAtPlace.{before}
+use Rattle.headlines.specs.inner.HeadsAtPlace.{before}
 use Rattle.headlines.proofs.rows.exceeds.Statement.{statement}
 use Rattle.headlines.proofs.rows.exceeds.Tie as tie
 

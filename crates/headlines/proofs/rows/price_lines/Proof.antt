@@ -6,7 +6,7 @@ use borrow.Author.Needs.{needs}
 use lib.ListN.{length}
 use Rattle.sheet.specs.Lines.{splitAt}
 use Rattle.sheet.specs.Order.{pricesPart}
-use Rattle.scan.specs.AtPlace.{parsedNumber, numberNext, linesNext}
+use Rattle.scan.specs.inner.AtPlace.{parsedNumber, numberNext, linesNext}
 use Rattle.scan.proofs.Blanks.{filled-start}
 use Rattle.scan.proofs.Stages.{then-part, stage-refused, moved-within}
 use Rattle.scan.proofs.NumberLines.{number-bounds}

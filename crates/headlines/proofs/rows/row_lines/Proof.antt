@@ -8,8 +8,8 @@ use lib.ListN.{length}
 use Rattle.model.specs.Sheets.{mostRows}
 use Rattle.sheet.specs.Values.{rowLines}
 use Rattle.model.specs.Values.{zeroRows}
-use Rattle.scan.specs.AtPlace.{Filled}
-use Rattle.headlines.specs.HeadsAtPlace.{before, parsedRow, rowNext}
+use Rattle.scan.specs.inner.AtPlace.{Filled}
+use Rattle.headlines.specs.inner.HeadsAtPlace.{before, parsedRow, rowNext}
 use Rattle.model.proofs.Values.{zero-rows-length}
 use Rattle.scan.proofs.Blanks.{filled-start, filled-set}
 use Rattle.scan.proofs.LinesPassed.{PassedLines, pass-start, pass-step, pass-stop, pass-end, rows-repeat}

@@ -4,7 +4,7 @@ use native.Mathlib.Omega.{arith}
 use borrow.Author.Needs.{needs}
 use Rattle.sheet.specs.Lines.{splitAt}
 use Rattle.sheet.specs.Warm.{holdLine}
-use Rattle.scan.specs.AtPlace.{parsedNumber, numberNext}
+use Rattle.scan.specs.inner.AtPlace.{parsedNumber, numberNext}
 use Rattle.headlines.proofs.ReadWarm.{hold-above, hold-below}
 use Rattle.headlines.proofs.warming.hold_line.Statement.{statement}
 use Rattle.headlines.proofs.warming.hold_line.Tie as tie

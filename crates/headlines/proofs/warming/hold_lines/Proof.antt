@@ -7,10 +7,10 @@ use native.Mathlib.Omega.{arith}
 use borrow.Author.Needs.{needs}
 use lib.ListN.{length, length-set}
 use Rattle.sheet.specs.Warm.{holdLines}
-use Rattle.scan.specs.AtPlace.{parsedNumber, numberNext}
+use Rattle.scan.specs.inner.AtPlace.{parsedNumber, numberNext}
 use Rattle.scan.proofs.LinesPassed.{PassedLines, pass-start, pass-step, pass-stop, pass-whole}
 use Rattle.scan.proofs.Tails.{tail-place}
-use Rattle.headlines.specs.HeadsAtPlace.{heldBefore}
+use Rattle.headlines.specs.inner.HeadsAtPlace.{heldBefore}
 use Rattle.headlines.proofs.ReadWarm.{held-next, hold-bound, holds-repeat}
 use Rattle.headlines.proofs.warming.hold_lines.Statement.{statement}
 use Rattle.headlines.proofs.warming.hold_lines.Tie as tie

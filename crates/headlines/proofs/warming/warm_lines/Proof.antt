@@ -7,7 +7,7 @@ use lib.ListN.{length}
 use lib.Seq.{length-take-le}
 use Rattle.sheet.specs.Lines.{splitAt}
 use Rattle.sheet.specs.Order.{warmPart}
-use Rattle.scan.specs.AtPlace.{parsedNumber, numberNext, parsedLines, linesNext}
+use Rattle.scan.specs.inner.AtPlace.{parsedNumber, numberNext, parsedLines, linesNext}
 use Rattle.scan.proofs.Blanks.{filled-start, front-filled, front-take}
 use Rattle.scan.proofs.NumberLines.{number-bounds}
 use Rattle.scan.proofs.Stages.{then-part, stage-refused, moved-within}

@@ -2,7 +2,7 @@
 use mathlib.Core.Path.{sym, ap}
 use native.Mathlib.Omega.{arith}
 use borrow.Author.Needs.{needs}
-use Rattle.scan.specs.AtPlace.{linesNext, movedOn}
+use Rattle.scan.specs.inner.AtPlace.{linesNext, movedOn}
 use Rattle.scan.proofs.numbers.after.Statement.{statement}
 use Rattle.scan.proofs.numbers.after.Tie as tie
 

@@ -5,7 +5,7 @@ use mathlib.Core.Path.{_≡_, sym, ap, _∙_}
 use native.Mathlib.Omega.{arith}
 use borrow.Author.Needs.{needs}
 use lib.ListN.{length, length-set}
-use Rattle.scan.specs.AtPlace.{parsedNumber, numberNext}
+use Rattle.scan.specs.inner.AtPlace.{parsedNumber, numberNext}
 use Rattle.scan.proofs.LinesPassed.{PassedLines, pass-start, pass-step, pass-stop, pass-whole, numbers, numbers-repeat}
 use Rattle.scan.proofs.NumberLines.{number-bounds}
 use Rattle.scan.proofs.Tails.{tail-place}

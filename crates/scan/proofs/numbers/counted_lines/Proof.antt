@@ -5,7 +5,7 @@ use native.Mathlib.Omega.{arith}
 use borrow.Author.Needs.{needs}
 use lib.ListN.{length}
 use lib.Seq.{length-take-le}
-use Rattle.scan.specs.AtPlace.{parsedNumber, numberNext, parsedLines, linesNext}
+use Rattle.scan.specs.inner.AtPlace.{parsedNumber, numberNext, parsedLines, linesNext}
 use Rattle.scan.proofs.Blanks.{filled-start, front-filled, front-take}
 use Rattle.scan.proofs.Stages.{then-part, stage-refused, moved-within, lines-into}
 use Rattle.scan.proofs.NumberLines.{number-bounds}

@@ -3,7 +3,7 @@ use Prim.Native.Nat.{_+_, _≤_}
 use mathlib.Core.Path.{ap}
 use native.Mathlib.Omega.{arith}
 use lib.ListN.{length}
-use Rattle.scan.specs.AtPlace.{linesNext}
+use Rattle.scan.specs.inner.AtPlace.{linesNext}
 use Rattle.scan.proofs.ShortLines.{rest-stop, rest-done}
 use Rattle.scan.proofs.Tails.{tail-place}
 use borrow.Author.Needs.{needs}

@@ -17,7 +17,7 @@ use Rattle.decimal.specs.declared.Reading.{Reading}
 use Rattle.decimal.specs.declared.Reading.the-variants.{NotNumber, OutOfRange as Beyond, Number}
 use Rattle.sheet.specs.Lines.{Parsed, read, refused}
 use Rattle.sheet.specs.Values.{rowAfter}
-use Rattle.scan.specs.AtPlace.{parsedLines, linesNext, Filled}
+use Rattle.scan.specs.inner.AtPlace.{parsedLines, linesNext, Filled}
 use Rattle.scan.specs.declared.numbers.LinesRead.the-variants.{Refused as NoLines}
 use Rattle.headlines.specs.declared.HeadRead.{HeadRead}
 use Rattle.headlines.specs.declared.KindAt.{KindAt}

@@ -10,7 +10,7 @@ use Rattle.model.specs.Traces.{Trace, steps, unitOf, swapOf, touching, overSegm
 use Rattle.model.specs.Schedules.{held}
 use Rattle.model.specs.Sheets.{RunWithin}
 use Rattle.model.specs.declared.Verdict.the-variants.{Accepted, Refused}
-use Rattle.heldbits.specs.Held.{startBit}
+use Rattle.heldbits.specs.inner.Held.{startBit}
 use Rattle.heldbits.specs.declared.StartWords.{StartWords}
 use Rattle.stepprice.specs.declared.Costs.{Costs}
 use Rattle.stepprice.specs.declared.Stepped.{Stepped}
