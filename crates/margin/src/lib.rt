@@ -1,18 +1,21 @@
 // The margin of one reference of an accepted sheet at one of its rows.
 // What is answered is written in specs/Margins.antt, what a margin is in crate `model`; nothing is assumed.
+use model::Kind;
+use model::PriceRow;
 use model::Refusal;
 use model::Sheet;
 use model::Verdict;
 ghost use mathlib.Core.Path.{_≡_};
 ghost use mathlib.Core.Bool.{_&&_};
-ghost use Prim.Native.Nat.{_≤_, _<_};
+ghost use Prim.Native.Nat.{ℕ, _≤_, _<_};
 ghost use lib.Dec.{eqb};
-ghost use Rattle.model.specs.Sheets.{listed, traceOf};
-ghost use Rattle.model.specs.Traces.{entry, unreferenced};
+ghost use lib.ListN.{length, getD};
+ghost use Rattle.model.specs.Sheets.{SheetValue, mostSegs, mostSteps, listed, runOf, traceOf, rowAt, RunWithin};
+ghost use Rattle.model.specs.Traces.{Trace, unreferenced};
 ghost use Rattle.model.specs.Values.{valueOf};
 ghost use Rattle.model.specs.Standing.{Standing};
 ghost use Rattle.margin.specs.Margins.{noMargin, touchMargin, marginFor};
-ghost use Rattle.margin.specs.inner.Times.{timeOf, nextTime, leftAfter, HasTouch, PlaceFound};
+ghost use Rattle.margin.specs.inner.Times.{timeOf, nextTime, leftAfter, PlaceFound};
 
 // The margin of a reference, signed; 0 where the call is refused.
 pub struct MarginAnswer {
@@ -57,53 +60,62 @@ fn next_time(before: Unreferenced, touched: bool) -> Unreferenced
     before
 }
 
-// Whether a segment of an accepted sheet is warm: it counts as touched at step 0.
-fn is_warm(s: Sheet, segment: u16) -> bool
-    requires { ⌜ Standing s × (segment < s .head .segs) ⌝ }
-    ensures { λ r. ⌜ r ≡ listed (valueOf s .head .warm) segment ⌝ }
+// Whether a segment is one of the warm ones: it counts as touched at step 0.
+fn is_warm(warm: &[u16], segment: u16) -> bool
+    requires { ⌜ segment < mostSegs ⌝ }
+    ensures { λ r. ⌜ r ≡ listed (now (warm .entry)) segment ⌝ }
 {
-    let head = s.head;
-    let warm = head.warm;
-    let holds = head.holds;
-    let start = model::start_table(&holds[..warm]);
+    if warm.len() == 0 {
+        return false;
+    }
+    let start = model::start_table(warm);
     start[segment as usize] != model::UNTOUCHED
 }
 
-// The unreferenced time, just before the step at place t, of the segment that this step touches. That of a warm segment begins at step 0.
-fn unreferenced_time(s: Sheet, t: usize) -> Unreferenced
-    requires { ⌜ Standing s × HasTouch s t ⌝ }
-    ensures { λ r. ⌜ r ≡ timeOf (unreferenced (traceOf (valueOf s)) t (entry (traceOf (valueOf s)) t)) ⌝ }
+// The unreferenced time of a segment after t steps, in every run with these entries. That of a warm segment begins at step 0.
+fn unreferenced_time(warm: bool, segment: u16, refs: &[u16], t: usize) -> Unreferenced
+    requires { ⌜ (t ≤ length (now refs)) × (t ≤ mostSteps) ⌝ }
+    ensures { λ r.
+        ⌜ ((T : Trace) → T .refs ≡ now (refs .entry) → segment < length (T .sizes) → T .start segment ≡ warm
+        → r ≡ timeOf (unreferenced T t segment)) ⌝ }
 {
-    let segment = s.touches[t];
     let mut time = Unreferenced {
-        reuse: is_warm(s, segment),
+        reuse: warm,
         time: 0,
     };
     let mut i = 0;
     while i < t {
-        time = next_time(time, s.touches[i] == segment);
+        time = next_time(time, refs[i] == segment);
         i += 1;
     }
     time
 }
 
-// The margin of the touch at place t of an accepted sheet: 15 where it is the first touch of a segment that is not warm.
-fn touch_margin(s: Sheet, row: usize, t: usize) -> MarginAnswer
-    requires { ⌜ Standing s × (row < s .head .rows) × HasTouch s t ⌝ }
-    ensures { λ r. ⌜ r ≡ touchMargin (valueOf s) row t ⌝ }
+// The margin of the touch at place t, at a row of every sheet with this run: 15 where it is the first touch of a segment that is not warm.
+fn touch_margin(
+    kind: Kind,
+    a: u8,
+    row: PriceRow,
+    sizes: &[u16],
+    warm: &[u16],
+    refs: &[u16],
+    t: usize,
+) -> MarginAnswer
+    requires { ⌜ RunWithin (runOf kind a (now sizes) (now warm) (now refs)) ⌝ }
+    requires { ⌜ (t < length (now refs)) × (getD (now refs) t 0 < length (now sizes)) ⌝ }
+    ensures { λ r.
+        ⌜ ((v : SheetValue) (n : ℕ) → traceOf v ≡ runOf kind a (now (sizes .entry)) (now (warm .entry)) (now (refs .entry))
+        → rowAt v n ≡ row → r ≡ touchMargin v n t) ⌝ }
 {
-    let before = unreferenced_time(s, t);
+    let segment = refs[t];
+    let before = unreferenced_time(is_warm(warm, segment), segment, refs, t);
     let reuse = before.reuse;
     if !reuse {
         return no_margin(Refusal::FirstTouch);
     }
-    let head = s.head;
-    let kind = head.kind;
-    let segment = s.touches[t] as usize;
-    let z = head.sizes[segment];
-    let price = head.prices[row];
-    let retained = model::retention_cost(kind, z, before.time).priced(price.d);
-    let swapped = model::swap_cost(head.a, z).priced(price.h);
+    let z = sizes[segment as usize];
+    let retained = model::retention_cost(kind, z, before.time).priced(row.d);
+    let swapped = model::swap_cost(a, z).priced(row.h);
     MarginAnswer {
         verdict: Verdict::Accepted,
         margin: model::margin(retained, swapped),
@@ -125,17 +137,16 @@ fn left_after(touched: bool, left: usize) -> usize
     if touched { left - 1 } else { left }
 }
 
-// The place of the n-th reference of an accepted sheet, counted from 1, or the number of its steps where it has fewer.
-fn reference_place(s: Sheet, n: usize) -> usize
-    requires { ⌜ Standing s × (1 ≤ n) ⌝ }
-    ensures { λ r. ⌜ PlaceFound (traceOf (valueOf s)) n r ⌝ }
-    ensures { λ r. ⌜ (r < s .steps → HasTouch s r) ⌝ }
+// The place of the n-th reference, counted from 1, or the number of steps where there are fewer, in every run with these entries and so
+// many segments.
+fn reference_place(segs: usize, refs: &[u16], n: usize) -> usize
+    requires { ⌜ 1 ≤ n ⌝ }
+    ensures { λ r. ⌜ ((T : Trace) → T .refs ≡ now (refs .entry) → length (T .sizes) ≡ segs → PlaceFound T n r) ⌝ }
 {
-    let segs = s.head.segs;
     let mut left = n;
     let mut t = 0;
-    while t < s.steps {
-        let touched = (s.touches[t] as usize) < segs;
+    while t < refs.len() {
+        let touched = (refs[t] as usize) < segs;
         if is_found(touched, left) {
             return t;
         }
@@ -156,9 +167,25 @@ pub fn sheet_margin(s: Sheet, row: usize, reference: usize) -> MarginAnswer
     if reference == 0 {
         return no_margin(Refusal::NoSuchReference);
     }
-    let t = reference_place(s, reference);
-    if s.steps <= t {
+    let segs = s.head.segs;
+    let steps = s.steps;
+    let touches = s.touches;
+    let t = reference_place(segs, &touches[..steps], reference);
+    if steps <= t {
         return no_margin(Refusal::NoSuchReference);
     }
-    touch_margin(s, row, t)
+    let head = s.head;
+    let kind = head.kind;
+    let sizes = head.sizes;
+    let warm = head.warm;
+    let holds = head.holds;
+    touch_margin(
+        kind,
+        head.a,
+        head.prices[row],
+        &sizes[..segs],
+        &holds[..warm],
+        &touches[..steps],
+        t,
+    )
 }

@@ -1,29 +1,14 @@
--- `margin::is_warm` meets its contract: the mark of the segment in the table before step 1. Assumes nothing.
-use mathlib.Core.Path.{sym}
-use native.Mathlib.Omega.{arith}
+-- `margin::is_warm` meets its contract: none where no segment is warm, and else by its mark in the table before step 1. Assumes nothing.
 use borrow.Author.Needs.{needs}
-use lib.Seq.{length-take-le}
-use Rattle.model.specs.Values.{headValueOf, valueOf}
-use Rattle.margin.proofs.Times.{warm-mark}
+use Rattle.margin.proofs.Times.{none-warm, warm-mark}
 use Rattle.margin.proofs.is_warm.Statement.{statement}
 use Rattle.margin.proofs.is_warm.Tie as tie
 
-slice-aggregate-start-table : tie.Need-slice-aggregate-start-table
-slice-aggregate-start-table c = sym (length-take-le _ _ (omega (arith, c .before .before .before .pre .0)))
-
 returns : tie.Need-returns
-unfolding valueOf headValueOf
-returns c =
-    let s = c .before .before .before .before in
-    rw (c .start-table .ensures) (warm-mark _ _ (omega (arith, s .pre .0, s .pre .1)))
+returns c = none-warm _ _ (c .if1 .taken)
+
+returns-2 : tie.Need-returns-2
+returns-2 c = rw (c .start-table .ensures) (warm-mark _ _ (c .before .before .before .pre))
 
 pub is-warm-spec : {M : Type 1} → statement M
-is-warm-spec =
-    tie.close
-    (tie.spec
-    (λ c. search needs)
-    slice-aggregate-start-table
-    (λ c κs. search needs)
-    (λ c. search needs)
-    (λ c. search needs)
-    returns)
+is-warm-spec = tie.close (tie.spec returns (λ c κs. search needs) (λ c. search needs) (λ c. search needs) returns-2)

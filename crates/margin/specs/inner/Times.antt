@@ -3,9 +3,7 @@ use Prim.Native.Nat.{ℕ, _+_, _-_, _≤_, _<_}
 use mathlib.Core.Path.{_≡_}
 use mathlib.Core.Bool.{Bool, true, false, cond}
 use mathlib.Core.Option.{Option, none, some}
-use lib.ListN.{getD}
 use Rattle.model.specs.Traces.{Trace, steps, refsOf, placeOf}
-use Rattle.model.specs.declared.Sheet.{Sheet}
 use Rattle.margin.specs.declared.Unreferenced.{Unreferenced}
 
 -- an unreferenced time by value: 0 beside false where there is none
@@ -16,11 +14,6 @@ timeOf (some k) = record { reuse = true; time = k }
 -- and after one step more: 0 where the step touches the segment, else one more where there is a time
 abbrev pub nextTime : Unreferenced → Bool → Unreferenced
 nextTime u touch = cond touch (record { reuse = true; time = 0 }) (cond (u .reuse) (record { reuse = true; time = u .time + 1 }) u)
-
--- the step at place t of a sheet has a touch
-pub record HasTouch (s : Sheet) (t : ℕ) : Type 0 where
-  pub within : t < s .steps
-  pub segment : getD (s .touches) t 0 < s .head .segs
 
 -- how many references are left to pass after a step that has a touch or not
 abbrev pub leftAfter : Bool → ℕ → ℕ
