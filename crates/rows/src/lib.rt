@@ -4,7 +4,6 @@ pub mod billing;
 pub mod sizing;
 
 use figures::FiguresAnswer;
-use model::Head;
 use model::Refusal;
 use model::RowFigures;
 use model::Sheet;
@@ -41,22 +40,10 @@ pub fn row_alone(s: Sheet, row: usize) -> RowFigures
     requires { ⌜ Standing s × (row < s .head .rows) ⌝ }
     ensures { λ r. ⌜ r ≡ figuresAt (valueOf s) row ⌝ }
 {
-    let head = s.head;
-    let kind = head.kind;
-    let sizes = head.sizes;
-    let prices = head.prices;
-    let holds = head.holds;
-    let price = prices[row];
-    let alone = Head {
-        kind: kind,
-        a: head.a,
-        segs: head.segs,
-        sizes: sizes,
-        rows: 1,
-        prices: [price; Sheet::MAX_ROWS],
-        warm: head.warm,
-        holds: holds,
-    };
+    let mut alone = s.head;
+    let price = alone.prices[row];
+    alone.rows = 1;
+    alone.prices = [price; Sheet::MAX_ROWS];
     let steps = s.steps;
     let touches = s.touches;
     let only = figures::figures(alone, &touches[..steps]);

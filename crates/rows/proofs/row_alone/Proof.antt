@@ -13,12 +13,12 @@ use Rattle.rows.proofs.row_alone.Statement.{statement}
 use Rattle.rows.proofs.row_alone.Tie as tie
 
 slice-aggregate-figures : tie.Need-slice-aggregate-figures
-slice-aggregate-figures c = sym (length-take-le _ _ (omega (arith, c .before .before .before .before .before .before .before .pre .0)))
+slice-aggregate-figures c = sym (length-take-le _ _ (omega (arith, c .before .before .before .before .before .pre .0)))
 
 figures-requires : tie.Need-figures-requires
 unfolding valueOf headValueOf
 figures-requires c κs =
-    let s = c .before .before .before .before .before .before .before in
+    let s = c .before .before .before .before .before in
     let n = rows-counted (s .args .s) (s .pre .0) in (
       (s .pre .0 .segs-within, omega arith, s .pre .0 .warm-within),
       (
@@ -31,7 +31,7 @@ figures-requires c κs =
 returns : tie.Need-returns
 unfolding valueOf headValueOf
 returns c =
-    let s = c .before .before .before .before .before .before .before .before .before in
+    let s = c .before .before .before .before .before .before .before in
     let v = valueOf (s .args .s) in
     ap (λ fs. getD fs 0 zeroFigures) (c .before .figures .ensures)
     ∙ ap (λ q. getD (allFigures (withRow v q)) 0 zeroFigures)
