@@ -32,7 +32,7 @@ pub fn write(sheet: Sheet, out: &mut [u8]) -> PlaceAnswer
 pub fn figures(bytes: &[u8], row: usize) -> FiguresAnswer
     ensures { λ r. ⌜ r ≡ figuresAnswer (now (bytes .entry)) row ⌝ }
 {
-    let answer = reading::read(bytes);
+    let answer = reading::read_forms(bytes, 1, Sheet::NEWEST_FORM);
     let verdict = answer.verdict;
     let s = answer.sheet;
     match verdict {
@@ -73,7 +73,7 @@ pub fn printed(bytes: &[u8], out: &mut [u8]) -> PlaceAnswer
 pub fn page(bytes: &[u8], out: &mut [u8]) -> PlaceAnswer
     ensures { λ r. ⌜ PlaceLeft (pageResult (now (bytes .entry))) (now (out .entry)) (now (out .exit)) r ⌝ }
 {
-    let answer = reading::read(bytes);
+    let answer = reading::read_forms(bytes, 1, Sheet::NEWEST_FORM);
     let verdict = answer.verdict;
     let s = answer.sheet;
     match verdict {

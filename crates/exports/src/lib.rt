@@ -11,6 +11,7 @@ pub mod windowing;
 
 use lentcalls::tell;
 use model::RowFigures;
+use model::Sheet;
 use model::Verdict;
 ghost use mathlib.Core.Path.{_≡_};
 ghost use Rattle.model.specs.Refusals.{verdictNumber};
@@ -39,7 +40,7 @@ pub extern "C" fn segtrace_rewrite(sheet: &[u8], out: &mut [u8], written: &mut u
     ensures { λ r. ⌜ PlaceCall (rewriteResult (now (sheet .entry))) (now (out .entry)) (now (out .exit))
         (now (written .entry)) (now (written .exit)) r ⌝ }
 {
-    let answer = analyser::read(sheet);
+    let answer = reading::read_forms(sheet, 1, Sheet::NEWEST_FORM);
     let verdict = answer.verdict;
     match verdict {
         Verdict::Accepted => tell(

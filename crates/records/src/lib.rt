@@ -56,7 +56,7 @@ fn sheet_records(s: Sheet, room: usize) -> Records
 pub fn all_records(bytes: &[u8], room: usize) -> Records
     ensures { λ r. ⌜ r ≡ recordsFound (now (bytes .entry)) room ⌝ }
 {
-    let answer = reading::read(bytes);
+    let answer = reading::read_forms(bytes, 1, Sheet::NEWEST_FORM);
     let verdict = answer.verdict;
     let s = answer.sheet;
     match verdict {

@@ -11,14 +11,14 @@ use Rattle.exports.proofs.segtrace_rewrite.Tie as tie
 
 write-within-requires : tie.Need-write-within-requires
 write-within-requires c κs =
-    let r = c .before .before .before in as-long _ (r .read .result) (r .read .ensures) (cc)
+    let r = c .before .before .before in as-long _ (r .read-forms .result) (r .read-forms .ensures) (cc)
 
 returns : tie.Need-returns
 unfolding rewriteResult
 returns c =
     let w = c .before .before .before .before in
     let r = w .before .before .before .before in
-    rw (on-accepted _ (r .read .result) (r .read .ensures) (cc) refuses (λ v. gives (sheetText v)))
+    rw (on-accepted _ (r .read-forms .result) (r .read-forms .ensures) (cc) refuses (λ v. gives (sheetText v)))
     (place-call (w .write-within .result) (w .write-within .ensures) (c .tell .ensures))
 
 returns-2 : tie.Need-returns-2
@@ -26,7 +26,7 @@ unfolding rewriteResult
 returns-2 c =
     let r = c .before .before .before .before in
     place-refused
-    (on-refused _ (r .read .result) (r .read .ensures) _ (c .before .before .verdict .given .1) refuses (λ v. gives (sheetText v)))
+    (on-refused _ (r .read-forms .result) (r .read-forms .ensures) _ (c .before .before .verdict .given .1) refuses (λ v. gives (sheetText v)))
     (c .number .ensures)
 
 pub segtrace-rewrite-spec : {M : Type 1} → statement M
