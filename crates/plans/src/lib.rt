@@ -2,21 +2,22 @@
 // counted, and the price of one handed in. What is answered is written in specs/Plans.antt; nothing is assumed.
 use model::LoadUnits;
 use model::PlaceAnswer;
+use model::PriceRow;
 use model::Refusal;
 use model::Sheet;
 use model::Verdict;
 use pricing::PriceAnswer;
 use schedule::Schedule;
 ghost use mathlib.Core.Path.{_≡_};
-ghost use Prim.Native.Nat.{_*_, _≤_, _<_};
+ghost use Prim.Native.Nat.{ℕ, _*_, _≤_};
 ghost use lib.Dec.{ltb};
 ghost use Rattle.model.specs.Places.{PlaceLeft};
-ghost use Rattle.model.specs.Sheets.{traceOf, rowAt};
+ghost use Rattle.model.specs.Sheets.{SheetValue};
 ghost use Rattle.model.specs.Standing.{Standing};
 ghost use Rattle.model.specs.Values.{valueOf};
 ghost use Rattle.model.specs.declared.Verdict.the-variants.{Accepted};
-ghost use Rattle.pricing.specs.Checking.{priceAnswer};
 ghost use Rattle.plans.specs.Plans.{scheduleFor, modifiedFor, pricedAt, priceFor};
+ghost use Rattle.plans.specs.inner.PlainPrices.{PlainOf};
 
 // Whether a place of `size` bytes is shorter than a schedule of so many steps.
 fn too_short(steps: usize, size: usize) -> bool
@@ -98,49 +99,55 @@ pub fn sheet_modified(s: Sheet, row: usize, out: &mut [u8]) -> PlaceAnswer
     }
 }
 
-// The price of an accepted schedule with its stores counted, from its price without them.
-fn stores_added(s: Sheet, row: usize, schedule: &[u8], plain: PriceAnswer) -> PriceAnswer
-    requires { ⌜ Standing s × (row < s .head .rows) × (0 < s .marked) × (plain .verdict ≡ Accepted) ⌝ }
-    requires { ⌜ plain
-        ≡ priceAnswer (traceOf (valueOf s)) (rowAt (valueOf s) row .h) (rowAt (valueOf s) row .d) (now schedule) ⌝ }
-    ensures { λ r. ⌜ r ≡ pricedAt (valueOf s) row (now (schedule .entry)) ⌝ }
+// The price of an accepted schedule with its stores counted, from its price without them, at this row of every sheet with these parts.
+fn stores_added(
+    a: u8,
+    row: PriceRow,
+    sizes: &[u16],
+    refs: &[u16],
+    marks: &[bool],
+    schedule: &[u8],
+    plain: PriceAnswer,
+) -> PriceAnswer
+    requires { ⌜ ((v : SheetValue) × (n : ℕ) × PlainOf v n a row (now sizes) (now refs) (now marks) (now schedule) plain) ⌝ }
+    requires { ⌜ plain .verdict ≡ Accepted ⌝ }
+    ensures { λ r.
+        ⌜ ((v : SheetValue) (n : ℕ)
+        → PlainOf v n a row (now (sizes .entry)) (now (refs .entry)) (now (marks .entry)) (now (schedule .entry)) plain
+        → r ≡ pricedAt v n (now (schedule .entry))) ⌝ }
 {
-    let head = s.head;
-    let segs = head.segs;
-    let sizes = head.sizes;
-    let prices = head.prices;
-    let steps = s.steps;
-    let touches = s.touches;
-    let marked = s.marked;
-    let marks = s.marks;
-    let stores = storeprice::stored_load(
-        head.a,
-        &sizes[..segs],
-        &touches[..steps],
-        &marks[..marked],
-        schedule,
-    );
+    let stores = storeprice::stored_load(a, sizes, refs, marks, schedule);
     let memory = plain.memory;
     let load = LoadUnits(plain.load.0 + stores.0);
     PriceAnswer {
         verdict: Verdict::Accepted,
         memory,
         load,
-        total: model::total(prices[row], memory, load),
+        total: model::total(row, memory, load),
     }
 }
 
-// The price of a schedule with its stores counted, from its price without them: a refusal stays.
-fn with_stores(s: Sheet, row: usize, schedule: &[u8], plain: PriceAnswer) -> PriceAnswer
-    requires { ⌜ Standing s × (row < s .head .rows) × (0 < s .marked) ⌝ }
-    requires { ⌜ plain
-        ≡ priceAnswer (traceOf (valueOf s)) (rowAt (valueOf s) row .h) (rowAt (valueOf s) row .d) (now schedule) ⌝ }
-    ensures { λ r. ⌜ r ≡ pricedAt (valueOf s) row (now (schedule .entry)) ⌝ }
+// The price of a schedule with its stores counted, from its price without them, at this row of every sheet with these parts: a refusal
+// stays.
+fn with_stores(
+    a: u8,
+    row: PriceRow,
+    sizes: &[u16],
+    refs: &[u16],
+    marks: &[bool],
+    schedule: &[u8],
+    plain: PriceAnswer,
+) -> PriceAnswer
+    requires { ⌜ ((v : SheetValue) × (n : ℕ) × PlainOf v n a row (now sizes) (now refs) (now marks) (now schedule) plain) ⌝ }
+    ensures { λ r.
+        ⌜ ((v : SheetValue) (n : ℕ)
+        → PlainOf v n a row (now (sizes .entry)) (now (refs .entry)) (now (marks .entry)) (now (schedule .entry)) plain
+        → r ≡ pricedAt v n (now (schedule .entry))) ⌝ }
 {
     let verdict = plain.verdict;
     match verdict {
         Verdict::Refused(why) => pricing::refused(why),
-        Verdict::Accepted => stores_added(s, row, schedule, plain),
+        Verdict::Accepted => stores_added(a, row, sizes, refs, marks, schedule, plain),
     }
 }
 
@@ -160,11 +167,10 @@ pub fn sheet_price(s: Sheet, row: usize, schedule: &[u8]) -> PriceAnswer
     let warm = head.warm;
     let holds = head.holds;
     let touches = s.touches;
-    let prices = head.prices;
     let plain = pricing::price(
         kind,
         head.a,
-        prices[row],
+        head.prices[row],
         &sizes[..segs],
         &holds[..warm],
         &touches[..steps],
@@ -173,5 +179,15 @@ pub fn sheet_price(s: Sheet, row: usize, schedule: &[u8]) -> PriceAnswer
     if s.marked == 0 {
         return plain;
     }
-    with_stores(s, row, schedule, plain)
+    let marked = s.marked;
+    let marks = s.marks;
+    with_stores(
+        head.a,
+        head.prices[row],
+        &sizes[..segs],
+        &touches[..steps],
+        &marks[..marked],
+        schedule,
+        plain,
+    )
 }

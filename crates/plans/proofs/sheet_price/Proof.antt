@@ -4,14 +4,16 @@ use Prim.Native.Nat.{_<_}
 use mathlib.Core.Path.{_≡_, sym, _∙_}
 use native.Mathlib.Omega.{arith}
 use borrow.Author.Needs.{needs}
+use lib.ListN.{getD, take}
 use lib.Seq.{length-take-le}
 use Rattle.model.specs.Sheets.{traceOf, rowAt}
 use Rattle.model.specs.Values.{headValueOf, valueOf}
 use Rattle.model.proofs.Standing.{rows-counted, row-of}
 use Rattle.pricing.specs.Checking.{priceAnswer}
 use Rattle.plans.specs.Plans.{pricedAt, priceFor}
+use Rattle.plans.specs.inner.PlainPrices.{PlainOf}
 use Rattle.plans.proofs.PlanResults.{price-no-row, price-at}
-use Rattle.plans.proofs.Prices.{marks-empty, plain-at}
+use Rattle.plans.proofs.Prices.{marks-empty, plain-at, sheet-plain}
 use Rattle.plans.proofs.sheet_price.Statement.{statement}
 use Rattle.plans.proofs.sheet_price.Tie as tie
 
@@ -22,27 +24,21 @@ returns c =
     c .refused .ensures
     ∙ sym (price-no-row (valueOf (s .args .s)) (s .args .row) (s .args .schedule .now) (omega (arith, c .before .if1 .taken)))
 
--- where the row was tested, and where the function begins
+-- where the row was tested, where the function begins, and that the row is one of the sheet's
 abbrev Found : tie.After-price-arg → tie.Else1
-Found c = c .before .before .before .before .before .before
+Found c = c .before .before .before .before .before
 
 abbrev Entry : tie.After-price-arg → tie.Start
 Entry c = Found c .before .before .before
 
-array-share-prefix-sizes : tie.Need-array-share-prefix-sizes
-array-share-prefix-sizes c = omega (arith, Entry c .pre)
+there : (c : tie.After-price-arg) → Entry c .args .row < Entry c .args .s .head .rows
+there c = omega (arith, Found c .if1 .left)
 
 slice-aggregate-price : tie.Need-slice-aggregate-price
 slice-aggregate-price c = sym (length-take-le _ _ (omega (arith, Entry (c .before) .pre)))
 
-array-share-prefix-holds : tie.Need-array-share-prefix-holds
-array-share-prefix-holds c = omega (arith, Entry (c .before) .pre)
-
 slice-aggregate-price-2 : tie.Need-slice-aggregate-price-2
 slice-aggregate-price-2 c = sym (length-take-le _ _ (omega (arith, Entry (c .before .before) .pre)))
-
-array-share-prefix-touches : tie.Need-array-share-prefix-touches
-array-share-prefix-touches c = omega (arith, Entry (c .before .before) .pre)
 
 slice-aggregate-price-3 : tie.Need-slice-aggregate-price-3
 slice-aggregate-price-3 c = sym (length-take-le _ _ (omega (arith, Entry (c .before .before .before) .pre)))
@@ -59,8 +55,7 @@ plain : (c : tie.After-price) → let s = Entry (c .before .before .before .befo
 unfolding valueOf headValueOf
 plain c =
     let s = Entry (c .before .before .before .before) in
-    let l : s .args .row < s .args .s .head .rows = omega (arith, Found (c .before .before .before .before) .if1 .left) in
-    rw (row-of (s .args .s) (s .pre) (s .args .row) l) (c .price .ensures)
+    rw (row-of (s .args .s) (s .pre) (s .args .row) (there (c .before .before .before .before))) (c .price .ensures)
 
 -- and what is answered by it, at a row that there is
 at-row : (c : tie.After-price) → let s = Entry (c .before .before .before .before) in
@@ -70,7 +65,7 @@ at-row c =
     let s = Entry (c .before .before .before .before) in
     let n = rows-counted (s .args .s) (s .pre) in
     sym (price-at (valueOf (s .args .s)) (s .args .row) (s .args .schedule .now)
-    (omega (arith, n, Found (c .before .before .before .before) .if1 .left)))
+    (omega (arith, n, there (c .before .before .before .before))))
 
 returns-2 : tie.Need-returns-2
 returns-2 c =
@@ -80,14 +75,44 @@ returns-2 c =
     ∙ plain-at (valueOf (s .args .s)) (s .args .row) (s .args .schedule .now) (marks-empty (s .args .s) (c .if2 .taken))
     ∙ at-row q
 
+-- where the price without stores was found, and where the function begins
+abbrev Priced : tie.After-with-stores-arg → tie.After-price
+Priced c = c .before .before .before .before
+
+abbrev Begin : tie.After-with-stores-arg → tie.Start
+Begin c = Entry (Priced c .before .before .before .before)
+
+-- the parts that the stores are counted from are those of the sheet's value
+of-sheet : (c : tie.After-with-stores-arg) → let s = Begin c in
+    let x = s .args .s in
+    PlainOf (valueOf x) (s .args .row) (x .head .a) (getD (x .head .prices) (s .args .row) (record { h = 0; d = 0 }))
+    (take (x .head .segs) (x .head .sizes)) (take (x .steps) (x .touches)) (take (x .marked) (x .marks)) (s .args .schedule .now)
+    (Priced c .price .result)
+of-sheet c =
+    let s = Begin c in
+    sheet-plain (s .args .s) (s .pre) (omega (arith, c .before .before .if2 .left)) (s .args .row)
+    (there (Priced c .before .before .before .before)) (s .args .schedule .now) (plain (Priced c))
+
+slice-aggregate-with-stores : tie.Need-slice-aggregate-with-stores
+slice-aggregate-with-stores c = sym (length-take-le _ _ (omega (arith, Begin (c .before) .pre)))
+
+slice-aggregate-with-stores-2 : tie.Need-slice-aggregate-with-stores-2
+slice-aggregate-with-stores-2 c = sym (length-take-le _ _ (omega (arith, Begin (c .before .before) .pre)))
+
+slice-aggregate-with-stores-3 : tie.Need-slice-aggregate-with-stores-3
+slice-aggregate-with-stores-3 c = sym (length-take-le _ _ (omega (arith, Begin (c .before .before .before) .pre)))
+
 with-stores-requires : tie.Need-with-stores-requires
 with-stores-requires c κs =
-    let q = c .before .before in
-    let s = Entry (q .before .before .before .before) in
-    ((s .pre, omega (arith, Found (q .before .before .before .before) .if1 .left), omega (arith, c .if2 .left)), plain q)
+    let b = c .before .before .before in
+    let s = Begin b in
+    (valueOf (s .args .s), s .args .row, of-sheet b)
 
 returns-3 : tie.Need-returns-3
-returns-3 c = c .with-stores .ensures ∙ at-row (c .before .before .before)
+returns-3 c =
+    let b = c .before .before .before .before in
+    let s = Begin b in
+    c .with-stores .ensures (valueOf (s .args .s)) (s .args .row) (of-sheet b) ∙ at-row (Priced b)
 
 pub sheet-price-spec : {M : Type 1} → statement M
 sheet-price-spec =
@@ -97,13 +122,21 @@ sheet-price-spec =
     returns
     (λ c. search needs)
     (λ c. search needs)
-    array-share-prefix-sizes
+    (λ c. search needs)
     slice-aggregate-price
-    array-share-prefix-holds
+    (λ c. search needs)
     slice-aggregate-price-2
-    array-share-prefix-touches
+    (λ c. search needs)
     slice-aggregate-price-3
     price-requires
     returns-2
+    (λ c. search needs)
+    (λ c. search needs)
+    (λ c. search needs)
+    slice-aggregate-with-stores
+    (λ c. search needs)
+    slice-aggregate-with-stores-2
+    (λ c. search needs)
+    slice-aggregate-with-stores-3
     with-stores-requires
     returns-3)
