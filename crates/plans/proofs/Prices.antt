@@ -37,7 +37,7 @@ module _ (v : SheetValue) (r : ℕ) (p : List ℕ) where
   plainPrice = priceAnswer (traceOf v) (rowAt v r .h) (rowAt v r .d) p
 
   -- an accepted schedule, and one that is refused
-  accepted-at : scheduleVerdict (traceOf v) p ≡ Accepted
+  pub accepted-at : scheduleVerdict (traceOf v) p ≡ Accepted
       → pricedAt v r p ≡ priced (scheduleMemory (traceOf v) p) (sheetLoad v p) (sheetTotal v r p)
   unfolding pricedAt
   accepted-at y = rw (y, pricedAt)
