@@ -50,8 +50,8 @@ pub struct Sheet {
     pub form: u8,
     pub head: Head,
     pub steps: usize,
-    pub touches: [u16; Sheet::MAX_STEPS],
     pub marked: usize,
+    pub touches: [u16; Sheet::MAX_STEPS],
     pub marks: [bool; Sheet::MAX_STEPS],
 }
 
