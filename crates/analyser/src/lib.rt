@@ -45,7 +45,7 @@ pub fn figures(bytes: &[u8], row: usize) -> FiguresAnswer
 pub fn listing(bytes: &[u8], out: &mut [u8]) -> PlaceAnswer
     ensures { λ r. ⌜ PlaceLeft (listingResult (now (bytes .entry))) (now (out .entry)) (now (out .exit)) r ⌝ }
 {
-    let answer = reading::read(bytes);
+    let answer = reading::read_forms(bytes, 1, Sheet::NEWEST_FORM);
     let verdict = answer.verdict;
     let s = answer.sheet;
     match verdict {
@@ -59,7 +59,7 @@ pub fn listing(bytes: &[u8], out: &mut [u8]) -> PlaceAnswer
 pub fn printed(bytes: &[u8], out: &mut [u8]) -> PlaceAnswer
     ensures { λ r. ⌜ PlaceLeft (gives (printedText (now (bytes .entry)))) (now (out .entry)) (now (out .exit)) r ⌝ }
 {
-    let answer = reading::read(bytes);
+    let answer = reading::read_forms(bytes, 1, Sheet::NEWEST_FORM);
     let verdict = answer.verdict;
     let s = answer.sheet;
     match verdict {
@@ -99,7 +99,7 @@ pub fn optimal_schedule(bytes: &[u8], row: usize, out: &mut [u8]) -> PlaceAnswer
 pub fn price(bytes: &[u8], row: usize, schedule: &[u8]) -> PriceAnswer
     ensures { λ r. ⌜ r ≡ pricing (now (bytes .entry)) row (now (schedule .entry)) ⌝ }
 {
-    let answer = reading::read(bytes);
+    let answer = reading::read_forms(bytes, 1, Sheet::NEWEST_FORM);
     let verdict = answer.verdict;
     let s = answer.sheet;
     match verdict {

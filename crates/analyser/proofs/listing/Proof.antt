@@ -11,14 +11,14 @@ use Rattle.analyser.proofs.listing.Tie as tie
 sheet-listing-requires : tie.Need-sheet-listing-requires
 sheet-listing-requires c κs =
     let r = c .before .before .before .before in
-    stands _ (r .read .result) (r .read .ensures) (cc)
+    stands _ (r .read-forms .result) (r .read-forms .ensures) (cc)
 
 returns : tie.Need-returns
 unfolding listingResult
 returns c =
     let r = c .before .before .before .before .before in
     let a = c .before .before .before .before .before .before .before .before .args in
-    result-refused (readSheet (a .bytes .now)) (r .read .result) (r .read .ensures) (a .out .now) (λ v. gives (listingOf v))
+    result-refused (readSheet (a .bytes .now)) (r .read-forms .result) (r .read-forms .ensures) (a .out .now) (λ v. gives (listingOf v))
     (c .refused .ensures) (cc)
 
 returns-2 : tie.Need-returns-2
@@ -26,7 +26,7 @@ unfolding listingResult
 returns-2 c =
     let r = c .before .before .before .before .before .before .before in
     let a = c .before .before .before .before .before .before .before .before .before .before .args in
-    result-accepted (readSheet (a .bytes .now)) (r .read .result) (r .read .ensures) (λ v. gives (listingOf v))
+    result-accepted (readSheet (a .bytes .now)) (r .read-forms .result) (r .read-forms .ensures) (λ v. gives (listingOf v))
     (c .before .before .sheet-listing .ensures) (cc)
 
 pub listing-spec : {M : Type 1} → statement M

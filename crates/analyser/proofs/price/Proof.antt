@@ -11,7 +11,7 @@ use Rattle.analyser.proofs.price.Tie as tie
 sheet-price-requires : tie.Need-sheet-price-requires
 sheet-price-requires c κs =
     let r = c .before .before .before in
-    stands _ (r .read .result) (r .read .ensures) (cc)
+    stands _ (r .read-forms .result) (r .read-forms .ensures) (cc)
 
 returns : tie.Need-returns
 unfolding pricing
@@ -19,7 +19,7 @@ returns c =
     let r = c .before .before .before .before .before in
     let a = r .before .before .before .args in
     c .refused .ensures ∙ sym
-    (on-refused _ (r .read .result) (r .read .ensures) _ (cc) noPrice (λ v. priceFor v (a .row) (a .schedule .now)))
+    (on-refused _ (r .read-forms .result) (r .read-forms .ensures) _ (cc) noPrice (λ v. priceFor v (a .row) (a .schedule .now)))
 
 returns-2 : tie.Need-returns-2
 unfolding pricing
@@ -27,7 +27,7 @@ returns-2 c =
     let r = c .before .before .before .before in
     let a = r .before .before .before .args in
     c .sheet-price .ensures
-    ∙ sym (on-accepted _ (r .read .result) (r .read .ensures) (cc) noPrice (λ v. priceFor v (a .row) (a .schedule .now)))
+    ∙ sym (on-accepted _ (r .read-forms .result) (r .read-forms .ensures) (cc) noPrice (λ v. priceFor v (a .row) (a .schedule .now)))
 
 pub price-spec : {M : Type 1} → statement M
 price-spec =

@@ -10,14 +10,14 @@ use Rattle.analyser.proofs.printed.Tie as tie
 sheet-listing-requires : tie.Need-sheet-listing-requires
 sheet-listing-requires c κs =
     let r = c .before .before .before .before in
-    stands _ (r .read .result) (r .read .ensures) (cc)
+    stands _ (r .read-forms .result) (r .read-forms .ensures) (cc)
 
 returns : tie.Need-returns
 unfolding printedText
 returns c =
     let r = c .before .before .before .before .before .before .before .before in
     let a = r .before .before .before .args in
-    text-refused (readSheet (a .bytes .now)) (r .read .result) (r .read .ensures) refusedText listingOf
+    text-refused (readSheet (a .bytes .now)) (r .read-forms .result) (r .read-forms .ensures) refusedText listingOf
     (c .before .before .write-refusal .ensures)
     (c .before .before .before .before .before .verdict .given .1)
 
@@ -26,7 +26,7 @@ unfolding printedText
 returns-2 c =
     let r = c .before .before .before .before .before .before .before in
     let a = r .before .before .before .args in
-    rw (on-accepted (readSheet (a .bytes .now)) (r .read .result) (r .read .ensures) (cc) refusedText listingOf)
+    rw (on-accepted (readSheet (a .bytes .now)) (r .read-forms .result) (r .read-forms .ensures) (cc) refusedText listingOf)
     (c .before .before .sheet-listing .ensures)
 
 pub printed-spec : {M : Type 1} → statement M
