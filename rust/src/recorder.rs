@@ -27,7 +27,7 @@ pub struct Recorder {
     pub sums: [u64; 390],
 }
 
-// In each call the pointers come from arrays of the right length and from slices, so they are valid, and the lent ones overlap nothing else.
+// In each call the pointers come from arrays of the right length and from slices: they are valid, and the lent ones overlap nothing else.
 impl Recorder {
     /// No segments, no rows and no references.
     const EMPTY: Recorder = Recorder {
