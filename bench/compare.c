@@ -26,7 +26,8 @@ typedef struct {
     uint64_t (*rewrite)(const uint8_t *, size_t, uint8_t *, size_t, uint64_t *);
 } library;
 
-static const char *const names[CALLS] = {"check", "figures", "all_figures", "listing", "page", "optimal_schedule", "price", "margin", "rewrite"};
+static const char *const names[CALLS] = {"check", "figures", "all_figures", "listing", "page",
+                                         "optimal_schedule", "price", "margin", "rewrite"};
 
 static char sheet[SEGTRACE_SHEET_BYTES];
 static size_t sheet_length;

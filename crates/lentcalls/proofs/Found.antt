@@ -21,7 +21,7 @@ use Rattle.figures.specs.Rows.{figuresAt}
 use Rattle.sheet.specs.Accepting.{onSheet}
 use Rattle.rows.proofs.RowFigures.{figures-front}
 use Rattle.records.specs.Listed.{rowRecords, sheetAnswer}
-use Rattle.records.specs.inner.Held.{noRecords, recordsFor, recordsFound}
+use Rattle.records.specs.Held.{noRecords, recordsFor, recordsFound}
 use Rattle.records.specs.declared.Records.{Records}
 use Rattle.numbers.specs.Figures.{figureLists}
 use Rattle.numbers.proofs.RowNumbers.{rows-length}

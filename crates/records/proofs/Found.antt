@@ -18,7 +18,7 @@ use Rattle.model.proofs.Tables.{tabulate-eq}
 use Rattle.sheet.specs.Accepting.{onSheet}
 use Rattle.rows.proofs.RowFigures.{figures-at}
 use Rattle.records.specs.Listed.{sheetAnswer, sheetAfter, listAnswer, listAfter}
-use Rattle.records.specs.inner.Held.{noRecords, recordsFor, recordsFound}
+use Rattle.records.specs.Held.{noRecords, recordsFor, recordsFound}
 use Rattle.records.specs.declared.Records.{Records}
 use Rattle.records.proofs.Fronts.{front, front-none}
 

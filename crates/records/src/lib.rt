@@ -13,7 +13,7 @@ ghost use Rattle.model.specs.Rows.{zeroFigures};
 ghost use Rattle.model.specs.Standing.{Standing};
 ghost use Rattle.model.specs.Values.{valueOf};
 ghost use Rattle.records.specs.Listed.{listAnswer, listAfter};
-ghost use Rattle.records.specs.inner.Held.{noRecords, recordsFor, recordsFound};
+ghost use Rattle.records.specs.Held.{noRecords, recordsFor, recordsFound};
 
 // The records to be written: the answer, whose length is how many they are, and the figures of every row, zeros where there is none.
 pub struct Records {

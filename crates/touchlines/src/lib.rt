@@ -280,6 +280,7 @@ fn short_touch(s: &[u8], letters: bool, segs: u32, steps: u32, before: u32) -> T
 
 // Reads the touches of `n` lines ref=, up to the first line that is not short, into the entries and the marks, one for each step, which are
 // idle and false.
+// How many lines it reads is left free: `touch_lines` reads those that are left.
 fn short_touches(
     s: &[u8],
     n: usize,

@@ -2,7 +2,7 @@
 use mathlib.Core.Path.{sym, _∙_}
 use borrow.Author.Needs.{needs}
 use Rattle.sheet.proofs.Accepting.{on-refused, on-accepted, stands}
-use Rattle.records.specs.inner.Held.{noRecords, recordsFor, recordsFound}
+use Rattle.records.specs.Held.{noRecords, recordsFor, recordsFound}
 use Rattle.records.proofs.all_records.Statement.{statement}
 use Rattle.records.proofs.all_records.Tie as tie
 

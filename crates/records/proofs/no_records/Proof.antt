@@ -4,7 +4,7 @@ use borrow.Author.Needs.{needs}
 use Rattle.model.specs.Rows.{zeroFigures}
 use Rattle.model.specs.Sheets.{mostRows}
 use Rattle.model.proofs.Tables.{tabulate-const}
-use Rattle.records.specs.inner.Held.{noRecords}
+use Rattle.records.specs.Held.{noRecords}
 use Rattle.records.proofs.no_records.Statement.{statement}
 use Rattle.records.proofs.no_records.Tie as tie
 

@@ -63,7 +63,7 @@ use Rattle.model.proofs.PlaceAnswer.Laws as P′
 use Rattle.model.proofs.RowFigures as F
 use Rattle.model.proofs.RowFigures.Laws as F′
 use Rattle.records.specs.Listed.{listAnswer, listAfter}
-use Rattle.records.specs.inner.Held.{recordsFound}
+use Rattle.records.specs.Held.{recordsFound}
 use Rattle.records.specs.declared.Records.{Records}
 use Rattle.records.proofs.Fronts.{front, front-none, length-front, front-more}
 use Rattle.records.proofs.Found.{Counted, recordOf, written, found-counted, found-answer, found-after}

@@ -6,7 +6,7 @@ use lib.ListN.{length}
 use Rattle.model.specs.Values.{valueOf}
 use Rattle.model.proofs.Standing.{rows-counted}
 use Rattle.records.specs.Listed.{sheetAnswer}
-use Rattle.records.specs.inner.Held.{recordsFor}
+use Rattle.records.specs.Held.{recordsFor}
 use Rattle.records.proofs.sheet_records.Statement.{statement}
 use Rattle.records.proofs.sheet_records.Tie as tie
 

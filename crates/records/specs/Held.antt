@@ -1,4 +1,4 @@
--- The records to be written, as the code holds them by value. Assumes nothing.
+-- What `all_records` answers: the records to be written, by value. Assumes nothing.
 use Prim.Native.Nat.{ℕ}
 use mathlib.Core.Bool.{cond}
 use mathlib.Core.List.{List}
