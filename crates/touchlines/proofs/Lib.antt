@@ -1,2 +1,1 @@
 pub mod ReadTouches
-pub mod ShortTouches

@@ -6,7 +6,7 @@ use mathlib.Core.Bool.{false}
 use native.Mathlib.Omega.{arith}
 use borrow.Author.Needs.{needs}
 use lib.ListN.{length, length-replicate}
-use Rattle.touchlines.specs.inner.TouchesAtPlace.{parsedTouch, touchNext}
+use Rattle.touchvalue.specs.inner.TouchAtPlace.{parsedTouch, touchNext}
 use Rattle.touchlines.specs.inner.Passed.{PassedTouches}
 use Rattle.touchlines.proofs.ReadTouches.{touch-within, touches-step, touches-stop, touches-end}
 use Rattle.scan.proofs.Tails.{tail-place}

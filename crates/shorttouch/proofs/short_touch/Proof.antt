@@ -1,4 +1,4 @@
--- `touchlines::short_touch` meets its contract: the first number reaches up to "@", the step up to the line feed. Assumes nothing.
+-- `shorttouch::short_touch` meets its contract: the first number reaches up to "@", the step up to the line feed. Assumes nothing.
 use Prim.Native.Nat.{_+_, _≤_, _<_}
 use mathlib.Core.Path.{_≡_, sym, _∙_}
 use mathlib.Core.Bool.{true}
@@ -9,10 +9,10 @@ use lib.ListN.{length, take}
 use Rattle.lines.specs.Keys.{refKey}
 use Rattle.sheet.specs.Lines.{sameBytes}
 use Rattle.scan.proofs.KeyedLines.{long-key}
-use Rattle.touchlines.proofs.ShortTouches.{short-touch}
+use Rattle.shorttouch.proofs.ShortTouches.{short-touch}
 use Rattle.scan.proofs.Tails.{tail-place}
-use Rattle.touchlines.proofs.short_touch.Statement.{statement}
-use Rattle.touchlines.proofs.short_touch.Tie as tie
+use Rattle.shorttouch.proofs.short_touch.Statement.{statement}
+use Rattle.shorttouch.proofs.short_touch.Tie as tie
 
 -- the line starts with its key
 keyed : (c : tie.Else1) → sameBytes (take 4 (c .before .before .before .before .args .s .now)) refKey ≡ true

@@ -1,10 +1,10 @@
--- `touchlines::step_bytes` meets its contract: the first letter w is looked for, and counts at the end alone. Assumes nothing.
+-- `touchvalue::step_bytes` meets its contract: the first letter w is looked for, and counts at the end alone. Assumes nothing.
 use native.Mathlib.Omega.{arith}
 use borrow.Author.Needs.{needs}
 use borrow.Author.Tests.{not-true, not-false}
-use Rattle.touchlines.proofs.ReadTouches.{step-whole, step-letter, step-other}
-use Rattle.touchlines.proofs.step_bytes.Statement.{statement}
-use Rattle.touchlines.proofs.step_bytes.Tie as tie
+use Rattle.touchvalue.proofs.TouchValues.{step-whole, step-letter, step-other}
+use Rattle.touchvalue.proofs.step_bytes.Statement.{statement}
+use Rattle.touchvalue.proofs.step_bytes.Tie as tie
 
 returns : tie.Need-returns
 returns c = (omega arith, step-whole _ _ (not-true (c .before .before .args .letters) (c .if1 .taken)))

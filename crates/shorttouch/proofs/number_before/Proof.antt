@@ -1,9 +1,9 @@
--- `touchlines::number_before` meets its contract: the byte after the digits is `mark`. Assumes nothing.
+-- `shorttouch::number_before` meets its contract: the byte after the digits is `mark`. Assumes nothing.
 use native.Mathlib.Omega.{arith}
 use borrow.Author.Needs.{needs}
-use Rattle.touchlines.proofs.ShortTouches.{number-then}
-use Rattle.touchlines.proofs.number_before.Statement.{statement}
-use Rattle.touchlines.proofs.number_before.Tie as tie
+use Rattle.shorttouch.proofs.ShortTouches.{number-then}
+use Rattle.shorttouch.proofs.number_before.Statement.{statement}
+use Rattle.shorttouch.proofs.number_before.Tie as tie
 
 returns : tie.Need-returns
 returns c = λ h. absurd (omega arith)

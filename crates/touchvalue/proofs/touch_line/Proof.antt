@@ -1,4 +1,4 @@
--- `touchlines::touch_line` meets its contract: the line's value is read as a touch. Assumes nothing.
+-- `touchvalue::touch_line` meets its contract: the line's value is read as a touch. Assumes nothing.
 use Prim.Native.Nat.{_≤_, _<_}
 use mathlib.Core.Path.{refl, sym, _∙_}
 use native.Mathlib.Omega.{arith}
@@ -7,8 +7,8 @@ use lib.ListN.{length}
 use Rattle.sheet.specs.Lines.{splitAt}
 use Rattle.sheet.specs.Touches.{touchLine}
 use Rattle.scan.proofs.KeyedLines.{line-missing, line-value, value-within}
-use Rattle.touchlines.proofs.touch_line.Statement.{statement}
-use Rattle.touchlines.proofs.touch_line.Tie as tie
+use Rattle.touchvalue.proofs.touch_line.Statement.{statement}
+use Rattle.touchvalue.proofs.touch_line.Tie as tie
 
 -- where the value stands
 within : (c : tie.After-start) → (c .start .given .0 .0 ≤ c .start .given .0 .1 .0)

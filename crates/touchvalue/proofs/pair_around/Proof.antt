@@ -1,4 +1,4 @@
--- `touchlines::pair_around` meets its contract: the two sides of the first "@" are read as the two numbers. Assumes nothing.
+-- `touchvalue::pair_around` meets its contract: the two sides of the first "@" are read as the two numbers. Assumes nothing.
 use Prim.Native.Nat.{_+_, _≤_}
 use mathlib.Core.Path.{refl, sym, _∙_}
 use native.Mathlib.Omega.{arith}
@@ -6,9 +6,9 @@ use borrow.Author.Needs.{needs}
 use lib.ListN.{length}
 use lib.Seq.{length-take-le}
 use Rattle.scan.proofs.Tails.{tail-place}
-use Rattle.touchlines.proofs.ReadTouches.{pair-within, pair-none}
-use Rattle.touchlines.proofs.pair_around.Statement.{statement}
-use Rattle.touchlines.proofs.pair_around.Tie as tie
+use Rattle.touchvalue.proofs.TouchValues.{pair-within, pair-none}
+use Rattle.touchvalue.proofs.pair_around.Statement.{statement}
+use Rattle.touchvalue.proofs.pair_around.Tie as tie
 
 -- the bytes of the step lie within the value
 within : (c : tie.After-step-bytes) → (let k = c .before .before in

@@ -1,7 +1,7 @@
--- `touchlines::pair_of` meets its contract, one answer for each case of the two readings. Assumes nothing.
+-- `touchvalue::pair_of` meets its contract, one answer for each case of the two readings. Assumes nothing.
 use borrow.Author.Needs.{needs}
-use Rattle.touchlines.proofs.pair_of.Statement.{statement}
-use Rattle.touchlines.proofs.pair_of.Tie as tie
+use Rattle.touchvalue.proofs.pair_of.Statement.{statement}
+use Rattle.touchvalue.proofs.pair_of.Tie as tie
 
 returns-7 : tie.Need-returns-7
 returns-7 c = let x = c .before in rw (x .x .given .1, x .before .before .before .y .given .1)

@@ -1,10 +1,10 @@
--- `touchlines::touch_value` meets its contract, one answer for each case of the pair. Assumes nothing.
+-- `touchvalue::touch_value` meets its contract, one answer for each case of the pair. Assumes nothing.
 use mathlib.Core.Path.{sym, _∙_}
 use native.Mathlib.Omega.{arith}
 use borrow.Author.Needs.{needs}
-use Rattle.touchlines.proofs.ReadTouches.{pair-first, touch-value}
-use Rattle.touchlines.proofs.touch_value.Statement.{statement}
-use Rattle.touchlines.proofs.touch_value.Tie as tie
+use Rattle.touchvalue.proofs.TouchValues.{pair-first, touch-value}
+use Rattle.touchvalue.proofs.touch_value.Statement.{statement}
+use Rattle.touchvalue.proofs.touch_value.Tie as tie
 
 cast-t17 : tie.Need-cast-t17
 cast-t17 c =

@@ -1,10 +1,10 @@
--- `touchlines::step_before` meets its contract: the digits reach up to the line feed, or to the letter w before it. Assumes nothing.
+-- `shorttouch::step_before` meets its contract: the digits reach up to the line feed, or to the letter w before it. Assumes nothing.
 use mathlib.Core.Bool.{false≢true}
 use native.Mathlib.Omega.{arith}
 use borrow.Author.Needs.{needs}
-use Rattle.touchlines.proofs.ShortTouches.{step-feed, letter-there, step-letter-feed}
-use Rattle.touchlines.proofs.step_before.Statement.{statement}
-use Rattle.touchlines.proofs.step_before.Tie as tie
+use Rattle.shorttouch.proofs.ShortTouches.{step-feed, letter-there, step-letter-feed}
+use Rattle.shorttouch.proofs.step_before.Statement.{statement}
+use Rattle.shorttouch.proofs.step_before.Tie as tie
 
 returns-3 : tie.Need-returns-3
 returns-3 c =
