@@ -4,8 +4,7 @@ use mathlib.Core.Path.{_≡_, refl, sym, ap, _∙_}
 use mathlib.Core.Bool.{Bool, true, false, cond}
 use mathlib.Core.List.{List, []}
 use native.Mathlib.Omega.{arith}
-use borrow.Author.Tests.{le-ltb}
-use lib.Dec.{eqb, ltb}
+use lib.Dec.{ltb}
 use lib.ListN.{length, take, drop-of-length-le}
 use lib.Seq.{drop-cons}
 use Rattle.model.specs.Sheets.{SheetValue, mostSegs, mostRows, mostSteps, formBytes}
@@ -13,13 +12,13 @@ use Rattle.model.specs.declared.Head.{Head}
 use Rattle.model.specs.declared.Refusal.the-variants.{SheetTooLong, BytesAfterEnd}
 use Rattle.model.specs.declared.Verdict.the-variants.{Accepted}
 use Rattle.lines.specs.Keys.{formKey}
-use Rattle.sheet.specs.Lines.{Parsed, read, andThen, sameBytes, numberLine}
+use Rattle.sheet.specs.Lines.{read, andThen, sameBytes, numberLine}
 use Rattle.sheet.specs.Order.{bodyPart, sheetPart}
 use Rattle.sheet.specs.Reading.{accepted, rejected, atEnd, sheetLines, namedForm, readForms}
 use Rattle.model.specs.Values.{zeros, idles, zeroRows, blankMarks, headOf, headValueOf, sheetOf}
 use Rattle.sheet.specs.Answers.{answerOf}
 use Rattle.scan.specs.inner.AtPlace.{Filled}
-use Rattle.reading.specs.inner.AtPlace.{formLine}
+use Rattle.formline.specs.inner.FormAtPlace.{formLine}
 use Rattle.headlines.specs.inner.HeadsAtPlace.{HeadFilled}
 use Rattle.touchlines.specs.inner.TouchesAtPlace.{markCount}
 use Rattle.sheet.specs.declared.SheetAnswer.{SheetAnswer}
@@ -77,23 +76,6 @@ finished form h letters steps marked touches marks f g e k =
     taken true = refl
     taken false = refl
 
--- no form has a smaller limit than form 1
-least-limit : (form : ℕ) → formBytes 1 ≤ formBytes form
-least-limit form = go (eqb form 2) (eqb form 3) (eqb form 4)
-  where
-    go : (b d e : Bool) → 20012 ≤ cond b 29163 (cond d 31366 (cond e 33414 20012))
-    go true d e = omega arith
-    go false true e = omega arith
-    go false false true = omega arith
-    go false false false = omega arith
-
-pub within-least : (s : List ℕ) → length s ≤ formBytes 1 → false ≡ ltb (formBytes (namedForm s)) (length s)
-within-least s h = sym (le-ltb (formBytes (namedForm s)) (length s) (omega (arith, h, least-limit (namedForm s))))
-
-pub by-limit : (s : List ℕ) (most form : ℕ) → most ≡ formBytes form → form ≡ namedForm s
-    → ltb most (length s) ≡ ltb (formBytes (namedForm s)) (length s)
-by-limit s most form m f = ap (λ k. ltb k (length s)) (m ∙ ap formBytes f)
-
 -- bytes beyond the limit, and within it
 pub answer-long : (lo hi : ℕ) (s : List ℕ) (b : Bool) → b ≡ ltb (formBytes (namedForm s)) (length s) → b ≡ true
     → answerOf (readForms lo hi s) ≡ answerOf (rejected SheetTooLong)
@@ -115,14 +97,6 @@ pub answer-short : (lo hi : ℕ) (s : List ℕ) (r : SheetAnswer) (b : Bool) →
     → r ≡ answerOf (atEnd (andThen (formLine lo hi s) (λ form rest. bodyPart lo form .reads rest))) → r ≡ answerOf (readForms lo hi s)
 unfolding readForms
 answer-short lo hi s r b e t f = rw (← e, t) (f ∙ ap (λ p. answerOf (atEnd p)) (sym (sheet-form lo hi s)))
-
--- the form line where the bytes begin with its key, and where they do not
-pub form-there : (lo hi m : ℕ) (s : List ℕ) (p : Parsed ℕ) (b : Bool) → b ≡ sameBytes (take 5 s) formKey → b ≡ true → m ≡ max 2 lo
-    → p ≡ numberLine formKey m hi s → p ≡ formLine lo hi s
-form-there lo hi m s p b e t f g = rw (← e, t, ← f) g
-
-pub form-away : (lo hi : ℕ) (s : List ℕ) (b : Bool) → b ≡ sameBytes (take 5 s) formKey → b ≡ false → read 1 s ≡ formLine lo hi s
-form-away lo hi s b e t = rw (← e, t)
 
 -- a form that is read fits a byte
 pub form-bound : (lo hi : ℕ) (s : List ℕ) (form : ℕ) (rest : List ℕ) → hi ≤ 255 → formLine lo hi s ≡ read form rest → form ≤ 255

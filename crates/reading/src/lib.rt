@@ -5,26 +5,25 @@ use model::Head;
 use model::Refusal;
 use model::Sheet;
 use model::Verdict;
-use scan::bytes;
 use scan::numbers;
 use scan::numbers::CountedAt;
 use scan::numbers::LinesRead;
 use scan::numbers::NumberAt;
 use sheet::SheetAnswer;
 ghost use mathlib.Core.Path.{_≡_};
-ghost use Prim.Native.Nat.{_-_, _≤_, _<_, max};
-ghost use lib.Dec.{leb, ltb};
+ghost use Prim.Native.Nat.{_≤_};
+ghost use lib.Dec.{leb};
 ghost use lib.ListN.{length, take};
-ghost use Rattle.model.specs.Sheets.{mostSegs, mostSteps, formBytes};
+ghost use Rattle.model.specs.Sheets.{mostSegs, mostSteps};
 ghost use Rattle.model.specs.Values.{zeros, idles, blankMarks, headValueOf};
 ghost use Rattle.sheet.specs.Answers.{answerOf};
 ghost use Rattle.sheet.specs.Lines.{andThen};
 ghost use Rattle.sheet.specs.Order.{headPart, entriesPart, runPart};
-ghost use Rattle.sheet.specs.Reading.{atEnd, namedForm, readForms, readSheet, rejected};
-ghost use Rattle.scan.specs.inner.AtPlace.{parsedNumber, numberNext, parsedLines, linesNext, Filled};
+ghost use Rattle.sheet.specs.Reading.{atEnd, readForms, readSheet, rejected};
+ghost use Rattle.scan.specs.inner.AtPlace.{parsedLines, linesNext, Filled};
 ghost use Rattle.model.specs.declared.Head.{Head};
 ghost use Rattle.scan.specs.declared.numbers.LinesRead.the-variants.{Refused as NoLines};
-ghost use Rattle.reading.specs.inner.AtPlace.{formLine, sheetOn, answerAt, answerWith};
+ghost use Rattle.reading.specs.inner.AtPlace.{sheetOn, answerAt, answerWith};
 ghost use Rattle.headlines.specs.inner.HeadsAtPlace.{HeadFilled, headWith};
 ghost use Rattle.touchlines.specs.inner.TouchesAtPlace.{entriesWith, markCount};
 
@@ -114,63 +113,6 @@ fn run_lines(s: &[u8], form: u8, segs: usize, touches: &mut [u16], marks: &mut [
     }
 }
 
-// The form that the first line names, 1 where it names none from 2 on.
-fn named_form(bytes: &[u8]) -> u32
-    ensures { λ r. ⌜ r ≡ namedForm (now (bytes .entry)) ⌝ }
-{
-    match numbers::number_line(bytes, b"form=", 2, Sheet::NEWEST_FORM as u32) {
-        NumberAt::Refused(_) => 1,
-        NumberAt::Number(form, _) => form,
-    }
-}
-
-// The most bytes of a sheet of the form.
-fn form_bytes(form: u32) -> usize
-    ensures { λ r. ⌜ r ≡ formBytes form ⌝ }
-{
-    if form == 2 {
-        return Sheet::MAX_BYTES_2;
-    }
-    if form == 3 {
-        return Sheet::MAX_BYTES_3;
-    }
-    if form == 4 {
-        return Sheet::MAX_BYTES_4;
-    }
-    Sheet::MAX_BYTES
-}
-
-// Whether there are more bytes than a sheet of the form that the first line names may have. Up to the least limit no line is looked at.
-fn too_long(bytes: &[u8]) -> bool
-    ensures { λ r. ⌜ r ≡ ltb (formBytes (namedForm (now (bytes .entry)))) (length (now (bytes .entry))) ⌝ }
-{
-    if bytes.len() <= Sheet::MAX_BYTES {
-        return false;
-    }
-    form_bytes(named_form(bytes)) < bytes.len()
-}
-
-// The least form that a form line may name, where a call takes the forms from `lo` on.
-fn least_form(lo: u8) -> u32
-    ensures { λ r. ⌜ r ≡ max 2 lo ⌝ }
-{
-    if lo <= 2 {
-        return 2;
-    }
-    lo as u32
-}
-
-// The form `lo` to `hi` of the form line, or 1 where the bytes do not begin with its key.
-fn form_line(bytes: &[u8], lo: u8, hi: u8) -> NumberAt
-    ensures { λ r. ⌜ parsedNumber (now (bytes .entry)) r ≡ formLine lo hi (now (bytes .entry)) ⌝ }
-    ensures { λ r. ⌜ numberNext r ≤ length (now (bytes .entry)) ⌝ }
-{
-    if bytes::has_key(bytes, b"form=") {
-        return numbers::number_line(bytes, b"form=", least_form(lo), hi as u32);
-    }
-    NumberAt::Number(1, 0)
-}
-
 // 256 zeros.
 fn blank_sizes() -> [u16; Sheet::MAX_SEGS]
     ensures { λ r. ⌜ r ≡ zeros mostSegs ⌝ }
@@ -237,10 +179,10 @@ fn all_lines(
     ensures { λ r. ⌜ answerWith r (now (sizes .exit)) (now (holds .exit)) (now (touches .exit)) (now (marks .exit))
         ≡ answerOf (readForms lo hi (now (bytes .entry))) ⌝ }
 {
-    if too_long(bytes) {
+    if formline::too_long(bytes) {
         return no_sheet(Refusal::SheetTooLong);
     }
-    match form_line(bytes, lo, hi) {
+    match formline::form_line(bytes, lo, hi) {
         NumberAt::Refused(why) => no_sheet(why),
         NumberAt::Number(form, first) => {
             let taken = lo as u32 <= form;

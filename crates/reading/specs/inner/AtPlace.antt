@@ -1,15 +1,11 @@
--- The form line as the code reads it, and the answer to what was read: the lists of a sheet stand in slices that were lent. Assumes
--- nothing.
-use Prim.Native.Nat.{ℕ, max}
-use mathlib.Core.Bool.{Bool, cond}
+-- The answer to what was read of a sheet: its lists stand in slices that were lent. Assumes nothing.
+use Prim.Native.Nat.{ℕ}
+use mathlib.Core.Bool.{Bool}
 use mathlib.Core.List.{List}
 use lib.Dec.{leb}
-use lib.ListN.{take}
 use Rattle.model.specs.declared.Head.{Head}
 use Rattle.model.specs.declared.Sheet.{Sheet}
 use Rattle.model.specs.declared.Verdict.the-variants.{Accepted}
-use Rattle.lines.specs.Keys.{formKey}
-use Rattle.sheet.specs.Lines.{Parsed, read, sameBytes, numberLine}
 use Rattle.sheet.specs.Answers.{answerOf}
 use Rattle.sheet.specs.Reading.{rejected}
 use Rattle.sheet.specs.declared.SheetAnswer.{SheetAnswer}
@@ -18,10 +14,6 @@ use Rattle.scan.specs.declared.numbers.LinesRead.the-variants.{Done, Refused as
 use Rattle.headlines.specs.inner.HeadsAtPlace.{headWith}
 use Rattle.touchlines.specs.inner.TouchesAtPlace.{markCount}
 use Rattle.reading.specs.declared.SheetRead.{SheetRead}
-
--- the form lo to hi of the form line, or 1 where the bytes do not begin with its key
-abbrev pub formLine : ℕ → ℕ → List ℕ → Parsed ℕ
-formLine lo hi s = cond (sameBytes (take 5 s) formKey) (numberLine formKey (max 2 lo) hi s) (read 1 s)
 
 -- a sheet of a form with a head, so many steps, and its entries and marks
 abbrev pub sheetOn : ℕ → Head → ℕ → List ℕ → List Bool → Sheet

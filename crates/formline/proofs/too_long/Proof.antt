@@ -1,8 +1,8 @@
--- `reading::too_long` meets its contract: the least limit, then that of the form. Assumes nothing.
+-- `formline::too_long` meets its contract: the least limit, then that of the form. Assumes nothing.
 use borrow.Author.Needs.{needs}
-use Rattle.reading.proofs.ReadStages.{within-least, by-limit}
-use Rattle.reading.proofs.too_long.Statement.{statement}
-use Rattle.reading.proofs.too_long.Tie as tie
+use Rattle.formline.proofs.FormLines.{within-least, by-limit}
+use Rattle.formline.proofs.too_long.Statement.{statement}
+use Rattle.formline.proofs.too_long.Tie as tie
 
 returns : tie.Need-returns
 returns c = within-least _ (c .if1 .taken)

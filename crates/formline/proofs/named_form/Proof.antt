@@ -1,11 +1,11 @@
--- `reading::named_form` meets its contract: the number of the form line, or 1. Assumes nothing.
+-- `formline::named_form` meets its contract: the number of the form line, or 1. Assumes nothing.
 use mathlib.Core.Path.{refl, sym, ap, _∙_}
 use borrow.Author.Needs.{needs}
 use Rattle.sheet.specs.Lines.{splitAt}
 use Rattle.sheet.specs.Reading.{formIn, namedForm}
 use Rattle.scan.specs.inner.AtPlace.{parsedNumber}
-use Rattle.reading.proofs.named_form.Statement.{statement}
-use Rattle.reading.proofs.named_form.Tie as tie
+use Rattle.formline.proofs.named_form.Statement.{statement}
+use Rattle.formline.proofs.named_form.Tie as tie
 
 number-line-requires : tie.Need-number-line-requires
 unfolding splitAt

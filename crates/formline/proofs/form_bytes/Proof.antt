@@ -1,7 +1,7 @@
--- `reading::form_bytes` meets its contract: forms 2, 3 and 4 have limits of their own. Assumes nothing.
+-- `formline::form_bytes` meets its contract: forms 2, 3 and 4 have limits of their own. Assumes nothing.
 use borrow.Author.Tests.{eq-eqb, ne-eqb}
-use Rattle.reading.proofs.form_bytes.Statement.{statement}
-use Rattle.reading.proofs.form_bytes.Tie as tie
+use Rattle.formline.proofs.form_bytes.Statement.{statement}
+use Rattle.formline.proofs.form_bytes.Tie as tie
 
 returns : tie.Need-returns
 returns c = rw (eq-eqb (c .before .args .form) 2 (c .if1 .taken))

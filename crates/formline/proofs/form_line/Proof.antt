@@ -1,11 +1,11 @@
--- `reading::form_line` meets its contract: the line is read where the bytes begin with its key. Assumes nothing.
+-- `formline::form_line` meets its contract: the line is read where the bytes begin with its key. Assumes nothing.
 use mathlib.Core.Path.{refl}
 use native.Mathlib.Omega.{arith}
 use borrow.Author.Needs.{needs}
 use Rattle.sheet.specs.Lines.{splitAt}
-use Rattle.reading.proofs.ReadStages.{form-there, form-away}
-use Rattle.reading.proofs.form_line.Statement.{statement}
-use Rattle.reading.proofs.form_line.Tie as tie
+use Rattle.formline.proofs.FormLines.{form-there, form-away}
+use Rattle.formline.proofs.form_line.Statement.{statement}
+use Rattle.formline.proofs.form_line.Tie as tie
 
 number-line-requires : tie.Need-number-line-requires
 unfolding splitAt
