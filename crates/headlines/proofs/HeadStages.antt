@@ -21,7 +21,7 @@ use Rattle.scan.proofs.Tails.{tail}
 use Rattle.headlines.specs.declared.HeadRead.{HeadRead}
 use Rattle.headlines.specs.inner.HeadsAtPlace.{headWith, noHead, HeadReads}
 use Rattle.headlines.proofs.HeadParts.{warm-read, head-read, sizes-counted}
-use Rattle.headlines.proofs.ReadWarm.{tables-refused, tables-warm}
+use Rattle.headlines.proofs.WarmTables.{tables-refused, tables-warm}
 
 -- a refusal: what was read of the sizes stands at the front of zeros, and nothing of the rest was read
 pub head-refused : (s : List ℕ) (r : HeadRead) (why : Refusal) (segs : ℕ) (sizes holds : List ℕ) (p : Parsed HeadValue)

@@ -1,4 +1,3 @@
 pub mod HeadParts
 pub mod HeadStages
-pub mod ReadRows
-pub mod ReadWarm
+pub mod WarmTables

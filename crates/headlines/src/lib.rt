@@ -1,8 +1,5 @@
 // The head of a sheet: its kind, a, the sizes, the rows and the warm segments. Each function reads from the head of the bytes that it is
 // lent, and gives the place of what follows. Nothing is assumed.
-pub mod rows;
-pub mod warming;
-
 use model::Kind;
 use model::PriceRow;
 use model::Refusal;
@@ -109,7 +106,7 @@ fn cold_head(s: &[u8], kind: Kind, a: u8, sizes: &mut [u16]) -> HeadRead
     match lines {
         LinesRead::Refused(why) => no_head(why, segs),
         LinesRead::Done(at) => {
-            let priced = rows::price_lines(&s[at..]);
+            let priced = rowlines::price_lines(&s[at..]);
             let rest = priced.lines;
             let prices = priced.rows;
             HeadRead {
@@ -146,7 +143,7 @@ fn table_lines(
     match lines {
         LinesRead::Refused(_) => found,
         LinesRead::Done(at) => {
-            let warmed = warming::warm_lines(&s[at..], found.segs, holds);
+            let warmed = warmlines::warm_lines(&s[at..], found.segs, holds);
             let rest = warmed.lines;
             let named = found.kind;
             let prices = found.prices;

@@ -1,31 +1,21 @@
--- What a kind, a row and a head that were read stand for: the code gives places in the bytes that it is lent, the definitions speak
--- of bytes. Assumes nothing.
-use Prim.Native.Nat.{ℕ, zero, suc, _≤_}
+-- What a kind and a head that were read stand for: the code gives places in the bytes that it is lent, the definitions speak of bytes.
+-- Assumes nothing.
+use Prim.Native.Nat.{ℕ, _≤_}
 use mathlib.Core.Path.{_≡_}
 use mathlib.Core.List.{List}
-use mathlib.Core.Option.{Option, none, some}
 use lib.ListN.{length, drop}
 use Rattle.model.specs.Sheets.{HeadValue, mostSegs, mostRows}
 use Rattle.model.specs.Values.{zeros, zeroRows, headValueOf}
 use Rattle.model.specs.declared.Head.{Head}
 use Rattle.model.specs.declared.Kind.{Kind}
 use Rattle.model.specs.declared.Kind.the-variants.{Time}
-use Rattle.model.specs.declared.PriceRow.{PriceRow}
 use Rattle.model.specs.declared.Refusal.{Refusal}
-use Rattle.model.specs.declared.Refusal.the-variants.{ValueMalformed, OutOfRange}
-use Rattle.decimal.specs.declared.Reading.{Reading}
-use Rattle.decimal.specs.declared.Reading.the-variants.{NotNumber, OutOfRange as Beyond, Number}
 use Rattle.sheet.specs.Lines.{Parsed, read, refused}
-use Rattle.sheet.specs.Values.{rowAfter}
 use Rattle.scan.specs.inner.AtPlace.{parsedLines, linesNext, Filled}
 use Rattle.scan.specs.declared.numbers.LinesRead.the-variants.{Refused as NoLines}
 use Rattle.headlines.specs.declared.HeadRead.{HeadRead}
 use Rattle.headlines.specs.declared.KindAt.{KindAt}
 use Rattle.headlines.specs.declared.KindAt.the-variants.{Kind as KindThen, Refused as NoKind}
-use Rattle.headlines.specs.declared.rows.Previous.{Previous}
-use Rattle.headlines.specs.declared.rows.Previous.the-variants.{Nothing, Row as Before}
-use Rattle.headlines.specs.declared.rows.RowAt.{RowAt}
-use Rattle.headlines.specs.declared.rows.RowAt.the-variants.{Row as RowThen, Refused as NoRow}
 
 -- a kind and what follows from the next place on
 abbrev pub parsedKind : List ℕ → KindAt → Parsed Kind
@@ -36,48 +26,9 @@ abbrev pub kindNext : KindAt → ℕ
 kindNext (KindThen k next) = next
 kindNext (NoKind r) = 0
 
--- the row before, if any
-abbrev pub before : Previous → Option PriceRow
-before Nothing = none
-before (Before p) = some p
-
--- a row and what follows from the next place on
-abbrev pub parsedRow : List ℕ → RowAt → Parsed PriceRow
-parsedRow s (RowThen q next) = read q (drop next s)
-parsedRow s (NoRow r) = refused r
-
-abbrev pub rowNext : RowAt → ℕ
-rowNext (RowThen q next) = next
-rowNext (NoRow r) = 0
-
--- the segment of the line hold= before, where `least` is the first that may follow it
-abbrev pub heldBefore : ℕ → Option ℕ
-heldBefore zero = none
-heldBefore (suc p) = some p
-
 -- a head with these warm segments
 abbrev pub withWarm : HeadValue → List ℕ → List ℕ → Parsed HeadValue
 withWarm h warm rest = read (record { kind = h .kind; a = h .a; sizes = h .sizes; rows = h .rows; warm = warm }) rest
-
--- ---- a row by its two readings
-
--- the number that was read, 0 where there is none
-abbrev pub numberIn : Reading → ℕ
-numberIn NotNumber = 0
-numberIn Beyond = 0
-numberIn (Number n) = n
-
--- refusal 3 where one is no number, then 4 where one lies outside its range, then 5
-abbrev pub rowOfReadings : Option PriceRow → Reading → Reading → List ℕ → Parsed PriceRow
-rowOfReadings prev NotNumber y rest = refused ValueMalformed
-rowOfReadings prev Beyond NotNumber rest = refused ValueMalformed
-rowOfReadings prev Beyond Beyond rest = refused OutOfRange
-rowOfReadings prev Beyond (Number d) rest = refused OutOfRange
-rowOfReadings prev (Number h) NotNumber rest = refused ValueMalformed
-rowOfReadings prev (Number h) Beyond rest = refused OutOfRange
-rowOfReadings prev (Number h) (Number d) rest = rowAfter prev (record { h = h; d = d }) rest
-
--- ---- a head
 
 -- the lists of a head stand at the front of zeros
 pub record HeadFilled (h : Head) : Type 0 where
