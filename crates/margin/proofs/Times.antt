@@ -1,19 +1,19 @@
--- Unreferenced times by value: at the start, after one step more, and their range. Assumes nothing.
-use Prim.Native.Nat.{ℕ, suc, _+_, _≤_, _<_}
-use mathlib.Core.Path.{_≡_, refl, ap, _∙_}
+-- Unreferenced times by value: of a warm segment, and after steps that do not touch the segment. Assumes nothing.
+use Prim.Native.Nat.{ℕ, suc, _+_, _-_, _≤_, _<_}
+use mathlib.Core.Path.{_≡_, refl, sym, ap, _∙_}
 use mathlib.Core.Bool.{Bool, true, false, cond, not}
 use mathlib.Core.List.{List, [], _∷_}
 use mathlib.Core.Option.{Option, none, some}
-use native.Mathlib.Numerals.{add-one}
 use native.Mathlib.Omega.{arith}
+use borrow.Author.Tests.{eq-eqb, ne-eqb}
 use lib.Dec.{eqb}
 use lib.ListN.{length, getD}
 use Rattle.model.specs.LastTouches.{untouchedMark, startTable}
 use Rattle.model.specs.Sheets.{mostSegs, listed}
-use Rattle.model.specs.Traces.{Trace, segs, entry, later, unreferenced}
+use Rattle.model.specs.Traces.{Trace, segs, entry, touched, later, unreferenced}
 use Rattle.model.proofs.Tables.{getD-tabulate}
 use Rattle.model.proofs.Touches.{entry-ref, touched-entry, unreferenced-none, unreferenced-touched, unreferenced-later}
-use Rattle.margin.specs.inner.Times.{timeOf, nextTime}
+use Rattle.margin.specs.inner.Times.{timeOf, laterBy, untouchedTime}
 use Rattle.margin.specs.declared.Unreferenced.{Unreferenced}
 
 -- of no warm segments none is one
@@ -31,49 +31,63 @@ warm-mark warm i lt = rw (getD-tabulate mostSegs (λ j. cond (listed warm j) 0 u
     go true = refl
     go false = refl
 
-later-time : (o : Option ℕ) → nextTime (timeOf o) false ≡ timeOf (later o)
+-- no step later, and one step and then n more
+later-start : (o : Option ℕ) → timeOf o ≡ laterBy 0 (timeOf o)
+later-start none = refl
+later-start (some k) = let e : k + 0 ≡ k = omega arith in rw e refl
+
+later-on : (n : ℕ) (o : Option ℕ) → laterBy n (timeOf (later o)) ≡ laterBy (suc n) (timeOf o)
 unfolding later
-later-time none = refl
-later-time (some k) = rw (add-one k)
+later-on n none = refl
+later-on n (some k) = let e : suc k + n ≡ k + suc n = omega arith in rw e refl
 
--- the time after one step more
-time-step : (T : Trace) (t i : ℕ) → i < segs T
-    → nextTime (timeOf (unreferenced T t i)) (eqb (entry T t) i) ≡ timeOf (unreferenced T (suc t) i)
-time-step T t i lt = go (eqb (entry T t) i) refl
-  where
-    go : (b : Bool) → eqb (entry T t) i ≡ b → nextTime (timeOf (unreferenced T t i)) b ≡ timeOf (unreferenced T (suc t) i)
-    go true e = rw (unreferenced-touched T t i (touched-entry T t i lt ∙ e)) refl
-    go false e = rw (unreferenced-later T t i (touched-entry T t i lt ∙ e)) (later-time (unreferenced T t i))
+-- from a touch on
+later-zero : (n : ℕ) → _≡_ {A = Unreferenced} (record { reuse = true; time = n }) (laterBy n (timeOf (some 0)))
+later-zero n = let e : 0 + n ≡ n = omega arith in ap (λ k. record { reuse = true; time = k }) (sym e)
 
--- after n steps the time of segment i is u, in every run with these entries
-pub record Timed (warm : Bool) (i : ℕ) (refs : List ℕ) (n : ℕ) (u : Unreferenced) : Type 0 where
-  pub within : u .time ≤ n
-  pub is-time : (T : Trace) → T .refs ≡ refs → i < segs T → T .start i ≡ warm → u ≡ timeOf (unreferenced T n i)
+-- none of the steps after the first n, up to t, touches segment i: its time after t steps is that after n, and t - n more
+pub record Since (i : ℕ) (refs : List ℕ) (t n : ℕ) : Type 0 where
+  pub within : n ≤ t
+  pub same : (T : Trace) → T .refs ≡ refs → i < segs T → timeOf (unreferenced T t i) ≡ laterBy (t - n) (timeOf (unreferenced T n i))
 
-next-within : (u : Unreferenced) (n : ℕ) → u .time ≤ n → (b : Bool) → nextTime u b .time ≤ n + 1
-next-within u n le true = omega arith
-next-within u n le false = go (u .reuse)
-  where
-    go : (b : Bool) → cond {A = Unreferenced} b (record { reuse = true; time = u .time + 1 }) u .time ≤ n + 1
-    go true = omega arith
-    go false = omega arith
-
-module _ (warm : Bool) (i : ℕ) (refs : List ℕ) where
-  -- before step 1 a warm segment has the time 0, and no other has one
-  pub time-start : Timed warm i refs 0 (record { reuse = warm; time = 0 })
-  time-start = record { within = omega arith; is-time = λ T is lt start. rw (unreferenced-none T i, start) (go warm) }
-    where
-      go : (b : Bool) → _≡_ {A = Unreferenced} (record { reuse = b; time = 0 }) (timeOf (cond b (some 0) none))
-      go true = refl
-      go false = refl
-
-  -- and after one step more
-  pub time-again : (n : ℕ) (u : Unreferenced) → n < length refs → Timed warm i refs n u
-      → Timed warm i refs (n + 1) (nextTime u (eqb (getD refs n 0) i))
-  time-again n u lt e =
+module _ (i : ℕ) (refs : List ℕ) (t : ℕ) where
+  pub since-start : Since i refs t t
+  since-start =
       record {
-        within = next-within u n (e .within) (eqb (getD refs n 0) i);
-        is-time = λ T is seg start.
-            let same : entry T n ≡ getD refs n 0 = entry-ref T n (rw is lt) ∙ ap (λ (l : List ℕ). getD l n 0) is in
-            rw (e .is-time T is seg start, add-one n, ← same) (time-step T n i seg);
+        within = omega arith;
+        same = λ T is lt. let e : t - t ≡ 0 = omega arith in rw e (later-start (unreferenced T t i));
       }
+
+  -- the step before, which is one of the run's
+  module _ (n m : ℕ) (one : n ≡ suc m) (lt : m < length refs) (s : Since i refs t n) where
+    entry-is : (T : Trace) → T .refs ≡ refs → entry T m ≡ getD refs m 0
+    entry-is T is = entry-ref T m (rw is lt) ∙ ap (λ (l : List ℕ). getD l m 0) is
+
+    -- it does not touch the segment
+    pub since-before : (getD refs m 0 ≡ i → ⊥) → Since i refs t m
+    since-before f =
+        record {
+          within = omega (arith, s .within);
+          same = λ T is seg.
+              let apart : touched T m i ≡ false = touched-entry T m i seg ∙ ap (λ x. eqb x i) (entry-is T is) ∙ ne-eqb (getD refs m 0) i f in
+              let more : suc (t - n) ≡ t - m = omega (arith, s .within) in
+              rw (← more, ← (later-on (t - n) (unreferenced T m i)), ← (unreferenced-later T m i apart), ← one) (s .same T is seg);
+        }
+
+    -- it touches the segment
+    pub since-found : getD refs m 0 ≡ i → (T : Trace) → T .refs ≡ refs → i < segs T
+        → _≡_ {A = Unreferenced} (record { reuse = true; time = t - n }) (timeOf (unreferenced T t i))
+    since-found f T is seg =
+        let met : touched T m i ≡ true = touched-entry T m i seg ∙ ap (λ x. eqb x i) (entry-is T is) ∙ eq-eqb (getD refs m 0) i f in
+        rw (s .same T is seg, one, unreferenced-touched T m i met) (later-zero (t - suc m))
+
+  -- no step touches it
+  pub since-none : Since i refs t 0 → (warm : Bool) (T : Trace) → T .refs ≡ refs → i < segs T → T .start i ≡ warm
+      → untouchedTime warm t ≡ timeOf (unreferenced T t i)
+  since-none s warm T is seg start =
+      let all : t - 0 ≡ t = omega arith in
+      rw (s .same T is seg, all, unreferenced-none T i, start) (go warm)
+    where
+      go : (b : Bool) → untouchedTime b t ≡ laterBy t (timeOf (cond b (some 0) none))
+      go true = later-zero t
+      go false = refl

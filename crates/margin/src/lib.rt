@@ -15,7 +15,7 @@ ghost use Rattle.model.specs.Traces.{Trace, unreferenced};
 ghost use Rattle.model.specs.Values.{valueOf};
 ghost use Rattle.model.specs.Standing.{Standing};
 ghost use Rattle.margin.specs.Margins.{noMargin, touchMargin, marginFor};
-ghost use Rattle.margin.specs.inner.Times.{timeOf, nextTime, leftAfter, PlaceFound};
+ghost use Rattle.margin.specs.inner.Times.{timeOf, untouchedTime, leftAfter, PlaceFound};
 
 // The margin of a reference, signed; 0 where the call is refused.
 pub struct MarginAnswer {
@@ -39,27 +39,6 @@ pub fn no_margin(why: Refusal) -> MarginAnswer
     }
 }
 
-// The unreferenced time after one step more, which touches the segment or does not.
-fn next_time(before: Unreferenced, touched: bool) -> Unreferenced
-    requires { ⌜ before .time < 65535 ⌝ }
-    ensures { λ r. ⌜ r ≡ nextTime before touched ⌝ }
-{
-    if touched {
-        return Unreferenced {
-            reuse: true,
-            time: 0,
-        };
-    }
-    let reuse = before.reuse;
-    if reuse {
-        return Unreferenced {
-            reuse: true,
-            time: before.time + 1,
-        };
-    }
-    before
-}
-
 // Whether a segment is one of the warm ones: it counts as touched at step 0.
 fn is_warm(warm: &[u16], segment: u16) -> bool
     requires { ⌜ segment < mostSegs ⌝ }
@@ -72,23 +51,41 @@ fn is_warm(warm: &[u16], segment: u16) -> bool
     start[segment as usize] != model::UNTOUCHED
 }
 
-// The unreferenced time of a segment after t steps, in every run with these entries. That of a warm segment begins at step 0.
+// The unreferenced time after t steps of a segment that none of them touches: that of a warm one begins at step 0.
+fn untouched_time(warm: bool, t: u16) -> Unreferenced
+    ensures { λ r. ⌜ r ≡ untouchedTime warm t ⌝ }
+{
+    if warm {
+        return Unreferenced {
+            reuse: true,
+            time: t,
+        };
+    }
+    Unreferenced {
+        reuse: false,
+        time: 0,
+    }
+}
+
+// The unreferenced time of a segment after t steps, in every run with these entries. Its last touch is looked for from the last step back.
 fn unreferenced_time(warm: bool, segment: u16, refs: &[u16], t: usize) -> Unreferenced
     requires { ⌜ (t ≤ length (now refs)) × (t ≤ mostSteps) ⌝ }
     ensures { λ r.
         ⌜ ((T : Trace) → T .refs ≡ now (refs .entry) → segment < length (T .sizes) → T .start segment ≡ warm
         → r ≡ timeOf (unreferenced T t segment)) ⌝ }
 {
-    let mut time = Unreferenced {
-        reuse: warm,
-        time: 0,
-    };
-    let mut i = 0;
-    while i < t {
-        time = next_time(time, refs[i] == segment);
-        i += 1;
+    let mut i = t;
+    while 0 < i {
+        let before = i - 1;
+        if refs[before] == segment {
+            return Unreferenced {
+                reuse: true,
+                time: (t - i) as u16,
+            };
+        }
+        i = before;
     }
-    time
+    untouched_time(warm, t as u16)
 }
 
 // The margin of the touch at place t, at a row of every sheet with this run: 15 where it is the first touch of a segment that is not warm.

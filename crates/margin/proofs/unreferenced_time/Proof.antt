@@ -1,37 +1,53 @@
--- `margin::unreferenced_time` meets its contract. The loop's invariant: the time is that after i steps. The measure is what is left of
--- the t steps. Assumes nothing.
-use Prim.Native.Nat.{_-_, _≤_}
+-- `margin::unreferenced_time` meets its contract. The loop's invariant: none of the steps after the first i, up to t, touches the segment.
+-- The measure is i. Assumes nothing.
+use Prim.Native.Nat.{_-_}
 use mathlib.Core.Path.{_≡_}
 use native.Mathlib.Omega.{arith}
 use borrow.Author.Needs.{needs}
-use Rattle.margin.proofs.Times.{Timed, time-start, time-again}
+use Rattle.margin.proofs.Times.{Since, since-start, since-before, since-found, since-none}
 use Rattle.margin.proofs.unreferenced_time.Statement.{statement}
 use Rattle.margin.proofs.unreferenced_time.Tie as tie
 
 abbrev Inv-loop : tie.InvT-loop
-Inv-loop warm segment refs t time₀ i₀ time i = (i ≤ t) × Timed warm segment refs i time
+Inv-loop warm segment refs t i₀ i = Since segment refs t i
 
 abbrev μ-loop : tie.MeasureT-loop
-μ-loop warm segment refs t time₀ i₀ time i = t - i
+μ-loop warm segment refs t i₀ i = i
 
 loop-holds : tie.Need-loop-holds Inv-loop μ-loop
-loop-holds c = (omega arith, time-start _ _ _)
+loop-holds c = since-start _ _ _
 
-next-time-requires : tie.Need-next-time-requires Inv-loop μ-loop
-next-time-requires c κs =
+shared-slice-read-if1 : tie.Need-shared-slice-read-if1 Inv-loop μ-loop
+shared-slice-read-if1 c =
     let l = c .before .before in
-    omega (arith, l .loop .inv .1 .within, l .before .before .pre .1)
+    omega (arith, l .loop .inv .within, l .before .before .pre .0)
+
+sub-t11 : tie.Need-sub-t11 Inv-loop μ-loop
+sub-t11 c = omega (arith, c .before .before .before .loop .inv .within)
+
+cast-t12 : tie.Need-cast-t12 Inv-loop μ-loop
+cast-t12 c = omega (arith, c .before .before .before .before .before .pre .1)
+
+returns : tie.Need-returns Inv-loop μ-loop
+returns c T is seg start =
+    let l = c .before .before .before in
+    since-found _ _ _ _ (l .loop .i - 1) (omega arith) (omega (arith, l .loop .inv .within, l .before .before .pre .0)) (l .loop .inv)
+    (c .if1 .taken) T is seg
 
 loop-again : tie.Need-loop-again Inv-loop μ-loop
 loop-again c =
     let l = c .before .before .before in
-    (omega arith, rw (c .next-time .ensures) (time-again _ _ _ _ _ (omega (arith, l .before .before .pre .0)) (l .loop .inv .1)))
+    since-before _ _ _ _ (l .loop .i - 1) (omega arith) (omega (arith, l .loop .inv .within, l .before .before .pre .0)) (l .loop .inv)
+    (c .if1 .left)
 
-returns : tie.Need-returns Inv-loop μ-loop
-returns c =
-    let l = c .before in
-    let all : l .loop .i ≡ l .before .before .args .t = omega arith in
-    rw (← all) (l .loop .inv .1 .is-time)
+cast-untouched-time : tie.Need-cast-untouched-time Inv-loop μ-loop
+cast-untouched-time c = omega (arith, c .before .before .before .pre .1)
+
+returns-2 : tie.Need-returns-2 Inv-loop μ-loop
+returns-2 c T is seg start =
+    let l = c .before .before in
+    let all : l .loop .i ≡ 0 = omega arith in
+    rw (c .untouched-time .ensures) (since-none _ _ _ (rw all at (l .loop .inv)) _ T is seg start)
 
 pub unreferenced-time-spec : {M : Type 1} → statement M
 unreferenced-time-spec =
@@ -42,8 +58,12 @@ unreferenced-time-spec =
     loop-holds
     (λ c. search needs)
     (λ c. search needs)
-    next-time-requires
-    (λ c. search needs)
+    shared-slice-read-if1
+    sub-t11
+    cast-t12
+    returns
     (λ c. search needs)
     loop-again
-    returns)
+    cast-untouched-time
+    (λ c κs. search needs)
+    returns-2)

@@ -11,9 +11,13 @@ abbrev pub timeOf : Option ℕ → Unreferenced
 timeOf none = record { reuse = false; time = 0 }
 timeOf (some k) = record { reuse = true; time = k }
 
--- and after one step more: 0 where the step touches the segment, else one more where there is a time
-abbrev pub nextTime : Unreferenced → Bool → Unreferenced
-nextTime u touch = cond touch (record { reuse = true; time = 0 }) (cond (u .reuse) (record { reuse = true; time = u .time + 1 }) u)
+-- and n steps later, none of which touches the segment
+abbrev pub laterBy : ℕ → Unreferenced → Unreferenced
+laterBy n u = cond (u .reuse) (record { reuse = true; time = u .time + n }) u
+
+-- that of a segment, warm or not, that none of the first t steps touches
+abbrev pub untouchedTime : Bool → ℕ → Unreferenced
+untouchedTime warm t = cond warm (record { reuse = true; time = t }) (record { reuse = false; time = 0 })
 
 -- how many references are left to pass after a step that has a touch or not
 abbrev pub leftAfter : Bool → ℕ → ℕ
