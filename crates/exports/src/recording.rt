@@ -5,7 +5,7 @@ use buckets::Tally;
 use model::RowFigures;
 use model::Sheet;
 ghost use Rattle.recorder.specs.Recorders.{Touched, TouchedAll};
-ghost use Rattle.numbers.specs.Recorders.{lists};
+ghost use Rattle.recordnumbers.specs.Recorders.{lists};
 ghost use Rattle.lentrecorder.specs.Recording.{StartCall, TouchCall, IdleCall, FiguresCall};
 
 // A recorder with the kind, a, sizes, rows and warm segments of a sheet and no steps: the sheet's refusals.
@@ -57,7 +57,7 @@ pub extern "C" fn segtrace_recorder_touch(
 pub extern "C" fn segtrace_recorder_idle(counts: &mut [u64; 3]) -> u64
     ensures { λ r. ⌜ IdleCall (now (counts .entry)) (now (counts .exit)) r ⌝ }
 {
-    model::verdict_number(numbers::recorders::idle(counts))
+    model::verdict_number(recordnumbers::idle(counts))
 }
 
 // Takes all references, or none where one would be refused: 4, 13.

@@ -13,9 +13,9 @@ use Rattle.recorder.specs.declared.Recorder.{Recorder}
 use Rattle.recorder.specs.declared.TouchAnswer.{TouchAnswer}
 use Rattle.recordcalls.specs.Recording.{startAnswer}
 use Rattle.numbers.specs.Figures.{figureList}
-use Rattle.numbers.specs.Recorders.{RecorderLists, lists, recorderIn, listsOf}
-use Rattle.numbers.specs.inner.Stored.{HeadStored, TakenStored}
-use Rattle.numbers.proofs.RecorderLists.{all-stored, taken-stored, recorder-again, taken-lists}
+use Rattle.recordnumbers.specs.Recorders.{RecorderLists, lists, recorderIn, listsOf}
+use Rattle.recordnumbers.specs.inner.Stored.{HeadStored, TakenStored}
+use Rattle.recordnumbers.proofs.RecorderLists.{all-stored, taken-stored, recorder-again, taken-lists}
 use Rattle.lentrecorder.specs.Recording.{StartCall, TouchCall, FiguresCall}
 
 -- the number that is returned

@@ -9,7 +9,7 @@ use Rattle.recorder.specs.Recorders.{Figured, stepVerdict}
 use Rattle.recorder.specs.declared.Recorder.{Recorder}
 use Rattle.recorder.specs.declared.TouchAnswer.{TouchAnswer}
 use Rattle.numbers.specs.Figures.{figureList}
-use Rattle.numbers.specs.Recorders.{RecorderLists, recorderIn, listsOf, withTaken, idleCounts}
+use Rattle.recordnumbers.specs.Recorders.{RecorderLists, recorderIn, listsOf, withTaken, idleCounts}
 use Rattle.recordcalls.specs.Recording.{startAnswer}
 use Rattle.lentcalls.specs.Exported.{orOld}
 

@@ -6,11 +6,11 @@ use buckets::Tally;
 use model::RowFigures;
 use model::Sheet;
 use model::Verdict;
-use numbers::recorders::recorder_of;
-use numbers::recorders::store_head;
-use numbers::recorders::store_taken;
+use recordnumbers::recorder_of;
+use recordnumbers::store_head;
+use recordnumbers::store_taken;
 ghost use Rattle.recorder.specs.Recorders.{Touched, TouchedAll};
-ghost use Rattle.numbers.specs.Recorders.{lists};
+ghost use Rattle.recordnumbers.specs.Recorders.{lists};
 ghost use Rattle.lentrecorder.specs.Recording.{StartCall, TouchCall, FiguresCall};
 
 // A recorder with the kind, a, sizes, rows and warm segments of a sheet and no steps: the sheet's refusals.

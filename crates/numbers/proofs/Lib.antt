@@ -1,4 +1,3 @@
+pub mod BucketSums
 pub mod PriceRows
-pub mod RecorderLists
-pub mod RecorderSums
 pub mod RowNumbers

@@ -7,8 +7,8 @@ use native.Mathlib.Numerals.{add-one}
 use lib.ListN.{length, getD, take, set, length-set, length-map, List·getD-map}
 use lib.Seq.{take-all, take-suc-set, take-suc}
 use Rattle.model.specs.declared.PriceRow.{PriceRow}
-use Rattle.numbers.specs.Recorders.{rowsOf}
-use Rattle.numbers.specs.inner.Stored.{pricesOf}
+use Rattle.numbers.specs.Tables.{rowsOf}
+use Rattle.numbers.specs.inner.Apart.{pricesOf}
 use Rattle.model.specs.Sheets.{rowIn}
 
 pub length-rowsOf : (hs ds : List ℕ) → length hs ≡ length ds → length (rowsOf hs ds) ≡ length hs

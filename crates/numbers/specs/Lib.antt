@@ -1,3 +1,3 @@
 pub mod Figures
-pub mod Recorders
+pub mod Tables
 pub mod inner

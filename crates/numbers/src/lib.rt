@@ -1,6 +1,6 @@
-// Figures and recorders as lists of numbers, as programs in C and other languages hold them.
+// Figures, rows of prices and buckets as lists of numbers, as programs in C and other languages hold them.
 // What the numbers are is written in specs/; nothing is assumed.
-pub mod recorders;
+pub mod tables;
 
 use model::RowFigures;
 use model::Sheet;

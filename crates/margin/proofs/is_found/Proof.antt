@@ -1,5 +1,4 @@
 -- `margin::is_found` meets its contract. Assumes nothing.
-use borrow.Author.Needs.{needs}
 use Rattle.margin.proofs.is_found.Statement.{statement}
 use Rattle.margin.proofs.is_found.Tie as tie
 

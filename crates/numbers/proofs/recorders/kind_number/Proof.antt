@@ -1,7 +1,0 @@
--- `recorders::kind_number` meets its contract. Assumes nothing.
-use borrow.Author.Needs.{needs}
-use Rattle.numbers.proofs.recorders.kind_number.Statement.{statement}
-use Rattle.numbers.proofs.recorders.kind_number.Tie as tie
-
-pub kind-number-spec : {M : Type 1} → statement M
-kind-number-spec = tie.close (tie.spec (λ c. search needs) (λ c. search needs) (λ c. search needs) (λ c. search needs))
