@@ -15,11 +15,11 @@ use Rattle.sheet.specs.Writing.{sheetText}
 use Rattle.sheet.proofs.Accepted.{accepted-valid}
 use Rattle.sheet.proofs.Lengths.{text-within}
 use Rattle.sheet.proofs.RoundTrip.{written-then-read, every-form}
-use Rattle.joining.specs.Figures.{jointRun}
-use Rattle.joining.specs.Joining.{joinOf}
-use Rattle.joining.specs.Joint.{jointHead, joined, Joins}
-use Rattle.joining.proofs.Joined.{same-heads, joined-valid, joint-figures, side-by-side}
-use Rattle.joining.proofs.Joining.{join-joined, join-accepted}
+use Rattle.joint.specs.Figures.{jointRun}
+use Rattle.joint.specs.Joining.{joinOf}
+use Rattle.joint.specs.Joint.{jointHead, joined, Joins}
+use Rattle.joint.proofs.Joined.{same-heads, joined-valid, joint-figures, side-by-side}
+use Rattle.joint.proofs.Joining.{join-joined, join-accepted}
 use Rattle.analyser.specs.Answers.{figuresAnswer}
 use Rattle.analyser.proofs.Demand.{figures-are}
 use Rattle.sheetcalls.proofs.Given.{given-accepted}

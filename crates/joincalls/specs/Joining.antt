@@ -11,9 +11,9 @@ use Rattle.model.specs.declared.Verdict.the-variants.{Accepted}
 use Rattle.sheet.specs.Accepting.{onSheet}
 use Rattle.sheet.specs.Reading.{accepted, readForms, readSheet}
 use Rattle.sheet.specs.Writing.{sheetText}
-use Rattle.joining.specs.Figures.{SideBySide}
-use Rattle.joining.specs.Joining.{joinOf}
-use Rattle.joining.specs.Joint.{joined, Joins}
+use Rattle.joint.specs.Figures.{SideBySide}
+use Rattle.joint.specs.Joining.{joinOf}
+use Rattle.joint.specs.Joint.{joined, Joins}
 use Rattle.analyser.specs.Answers.{figuresAnswer}
 
 -- the joint sheet of two sheets: 20, 21, 22, then 11 by the place

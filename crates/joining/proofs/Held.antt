@@ -17,10 +17,12 @@ use Rattle.model.specs.declared.Head.{Head}
 use Rattle.model.specs.declared.Sheet.{Sheet}
 use Rattle.model.proofs.Standing.{segs-counted, warm-counted, steps-counted}
 use Rattle.model.proofs.Warm.{warm-few}
-use Rattle.joining.specs.Joint.{jointSteps, jointRefs, jointHead, joined, Joins}
-use Rattle.joining.specs.inner.Parts.{moved, movedAfter, Movable, HeadsFit, IsEntry, entriesOf}
-use Rattle.joining.proofs.Entries.{entry-within, joint-length}
-use Rattle.joining.proofs.Lists.{numbers-length}
+use Rattle.joint.specs.Joint.{jointSteps, jointRefs, jointHead, joined, Joins}
+use Rattle.joint.specs.inner.Moved.{moved, movedAfter}
+use Rattle.jointentries.specs.inner.Entries.{IsEntry, entriesOf}
+use Rattle.joining.specs.inner.Parts.{Movable, HeadsFit}
+use Rattle.joint.proofs.Entries.{entry-within, joint-length}
+use Rattle.joint.proofs.Lists.{numbers-length}
 
 -- numbers moved by 0
 moved-none : (ys : List ℕ) → moved 0 ys ≡ ys

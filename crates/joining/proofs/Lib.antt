@@ -1,11 +1,3 @@
-pub mod Beyond
-pub mod Embedded
-pub mod Entries
-pub mod Examples
-pub mod Filling
-pub mod Halves
 pub mod Held
-pub mod Joined
-pub mod Joining
-pub mod Lists
 pub mod Parts
+pub mod Told

@@ -1,4 +1,1 @@
-pub mod Figures
-pub mod Joining
-pub mod Joint
 pub mod inner

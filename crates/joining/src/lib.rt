@@ -8,16 +8,17 @@ use model::Sheet;
 use model::Verdict;
 use sheet::SheetAnswer;
 ghost use mathlib.Core.Path.{_≡_};
-ghost use Prim.Native.Nat.{ℕ, _≤_, _<_, _+_, min, max};
+ghost use Prim.Native.Nat.{_≤_, _<_, _+_, max};
 ghost use lib.ListN.{length, getD, take};
-ghost use Rattle.model.specs.Sheets.{idle, mostSegs, mostRows, mostSteps};
+ghost use Rattle.model.specs.Sheets.{mostSegs, mostRows};
 ghost use Rattle.model.specs.Standing.{Standing};
-ghost use Rattle.model.specs.Values.{zeros, idles, zeroRows, padded, headOf, headValueOf, sheetOf, valueOf};
+ghost use Rattle.model.specs.Values.{zeros, zeroRows, padded, headOf, headValueOf, sheetOf, valueOf};
 ghost use Rattle.sheet.specs.Answers.{answerOf};
 ghost use Rattle.sheet.specs.Reading.{rejected};
-ghost use Rattle.joining.specs.Joint.{sameKind, sameRows, sameHeads, bothTouch, jointEntry, jointHead, joined, Joins};
-ghost use Rattle.joining.specs.Joining.{joinOf};
-ghost use Rattle.joining.specs.inner.Parts.{sameRow, bothAt, movedAfter, Movable, HeadsFit, IsEntry, entriesOf};
+ghost use Rattle.joint.specs.Joint.{sameKind, sameRows, sameHeads, jointHead, joined, Joins};
+ghost use Rattle.joint.specs.Joining.{joinOf};
+ghost use Rattle.joint.specs.inner.Moved.{movedAfter};
+ghost use Rattle.joining.specs.inner.Parts.{sameRow, Movable, HeadsFit};
 
 // The form of a joint sheet.
 const FORM: u8 = 3;
@@ -86,73 +87,7 @@ fn same_heads(p: Head, q: Head) -> bool
     same_rows(ps, p.rows, qs, q.rows)
 }
 
-// The entry of a step, idle beyond the last.
-fn entry_at(refs: &[u16], t: usize) -> u16
-    ensures { λ r. ⌜ r ≡ getD (now (refs .entry)) t idle ⌝ }
-{
-    if t < refs.len() {
-        return refs[t];
-    }
-    Sheet::IDLE
-}
-
-// Whether both entries of a step are touches.
-fn both_at(first: u16, second: u16) -> bool
-    ensures { λ r. ⌜ r ≡ bothAt first second ⌝ }
-{
-    if first != Sheet::IDLE {
-        second != Sheet::IDLE
-    } else {
-        false
-    }
-}
-
-// The smaller of the two.
-fn smaller(a: usize, b: usize) -> usize
-    ensures { λ r. ⌜ r ≡ min a b ⌝ }
-{
-    if b < a {
-        return b;
-    }
-    a
-}
-
-// Whether both touch in one of the first n steps: beyond the last of either none does.
-fn both_touch(xs: &[u16], ys: &[u16], n: usize) -> bool
-    ensures { λ r. ⌜ r ≡ bothTouch (now (xs .entry)) (now (ys .entry)) n ⌝ }
-{
-    let common = smaller(n, smaller(xs.len(), ys.len()));
-    let mut t = 0;
-    while t < common {
-        if both_at(xs[t], ys[t]) {
-            return true;
-        }
-        t += 1;
-    }
-    false
-}
-
-// The entry of a step of the joint sheet, where the first has n segments.
-fn joint_entry(n: u16, x: u16, y: u16) -> u16
-    requires { ⌜ (n ≤ mostSegs) × IsEntry y ⌝ }
-    ensures { λ r. ⌜ r ≡ jointEntry n x y ⌝ }
-{
-    if x != Sheet::IDLE {
-        return x;
-    }
-    if y != Sheet::IDLE {
-        return n + y;
-    }
-    Sheet::IDLE
-}
-
-// Idle entries, zeros and rows 0/0.
-fn no_touches() -> [u16; Sheet::MAX_STEPS]
-    ensures { λ r. ⌜ r ≡ idles mostSteps ⌝ }
-{
-    [Sheet::IDLE; Sheet::MAX_STEPS]
-}
-
+// Zeros, and rows 0/0.
 fn no_numbers() -> [u16; Sheet::MAX_SEGS]
     ensures { λ r. ⌜ r ≡ zeros mostSegs ⌝ }
 {
@@ -163,35 +98,6 @@ fn no_rows() -> [PriceRow; Sheet::MAX_ROWS]
     ensures { λ r. ⌜ r ≡ zeroRows mostRows ⌝ }
 {
     [PriceRow { h: 0, d: 0 }; Sheet::MAX_ROWS]
-}
-
-// The entries of the joint sheet in its first steps, up to the last of the shorter record.
-fn common_touches(n: u16, xs: &[u16], ys: &[u16], common: usize) -> [u16; Sheet::MAX_STEPS]
-    requires { ⌜ (n ≤ mostSegs) × (common ≤ mostSteps) × (common ≤ length (now xs)) × (common ≤ length (now ys))
-        × ((t : ℕ) → IsEntry (getD (now ys) t idle)) ⌝ }
-    ensures { λ r. ⌜ r ≡ padded (entriesOf n (now (xs .entry)) (now (ys .entry)) common) (idles mostSteps) ⌝ }
-{
-    let mut touches = no_touches();
-    let mut t = 0;
-    while t < common {
-        touches[t] = joint_entry(n, xs[t], ys[t]);
-        t += 1;
-    }
-    touches
-}
-
-// The entries of the joint sheet, step by step on the same clock.
-fn joint_touches(n: u16, xs: &[u16], ys: &[u16], steps: usize) -> [u16; Sheet::MAX_STEPS]
-    requires { ⌜ (n ≤ mostSegs) × (steps ≤ mostSteps) × ((t : ℕ) → IsEntry (getD (now ys) t idle)) ⌝ }
-    ensures { λ r. ⌜ r ≡ padded (entriesOf n (now (xs .entry)) (now (ys .entry)) steps) (idles mostSteps) ⌝ }
-{
-    let mut t = smaller(steps, smaller(xs.len(), ys.len()));
-    let mut touches = common_touches(n, xs, ys, t);
-    while t < steps {
-        touches[t] = joint_entry(n, entry_at(xs, t), entry_at(ys, t));
-        t += 1;
-    }
-    touches
 }
 
 // The k-th of some numbers and then others, which are moved by n.
@@ -301,7 +207,7 @@ fn joint_sheet(first: Sheet, second: Sheet) -> Sheet
         form: FORM,
         head: head,
         steps: steps,
-        touches: joint_touches(n, &xs[..x_end], &ys[..y_end], steps),
+        touches: jointentries::joint_touches(n, &xs[..x_end], &ys[..y_end], steps),
         marked: 0,
         marks: [false; Sheet::MAX_STEPS],
     }
@@ -322,7 +228,7 @@ pub fn join(first: Sheet, second: Sheet) -> SheetAnswer
     let ys = second.touches;
     let x_end = first.steps;
     let y_end = second.steps;
-    if both_touch(&xs[..x_end], &ys[..y_end], larger(x_end, y_end)) {
+    if jointentries::both_touch(&xs[..x_end], &ys[..y_end], larger(x_end, y_end)) {
         return refused(Refusal::BothTouch);
     }
     if Sheet::MAX_SEGS < p.segs + q.segs {

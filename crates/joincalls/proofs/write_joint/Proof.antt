@@ -8,8 +8,8 @@ use Rattle.model.specs.Places.{gives}
 use Rattle.model.specs.Values.{valueOf}
 use Rattle.sheet.specs.Writing.{sheetText}
 use Rattle.sheet.proofs.Accepting.{on-accepted, result-refused, result-accepted}
-use Rattle.joining.specs.Joining.{joinOf}
-use Rattle.joining.proofs.Joining.{accepted-within}
+use Rattle.joint.specs.Joining.{joinOf}
+use Rattle.joint.proofs.Joining.{accepted-within}
 use Rattle.joincalls.proofs.write_joint.Statement.{statement}
 use Rattle.joincalls.proofs.write_joint.Tie as tie
 

@@ -8,7 +8,7 @@ use lib.Seq.{length-take-le, getD-take}
 use Rattle.model.specs.Sheets.{mostRows}
 use Rattle.model.specs.Values.{zeroRows, padded}
 use Rattle.model.proofs.Values.{zero-rows-length}
-use Rattle.joining.proofs.Filling.{filling-none, filling-next, filling-all}
+use Rattle.jointentries.proofs.Filling.{filling-none, filling-next, filling-all}
 use Rattle.joining.proofs.first_rows.Statement.{statement}
 use Rattle.joining.proofs.first_rows.Tie as tie
 

@@ -8,7 +8,8 @@ use Rattle.model.specs.declared.Sheet.{Sheet}
 use Rattle.model.specs.declared.Verdict.the-variants.{Accepted}
 use Rattle.sheet.specs.Answers.{answerOf}
 use Rattle.sheet.specs.declared.SheetAnswer.{SheetAnswer}
-use Rattle.joining.proofs.Joining.{join-joined, told-differs, told-both, told-many, told-joins}
+use Rattle.joint.proofs.Joining.{join-joined}
+use Rattle.joining.proofs.Told.{told-differs, told-both, told-many, told-joins}
 use Rattle.joining.proofs.join.Statement.{statement}
 use Rattle.joining.proofs.join.Tie as tie
 

@@ -9,9 +9,9 @@ use lib.ListN.{length, take}
 use Rattle.model.specs.Sheets.{mostSegs}
 use Rattle.model.specs.Values.{zeros, padded}
 use Rattle.model.proofs.Values.{zeros-length}
-use Rattle.joining.specs.inner.Parts.{movedAfter}
-use Rattle.joining.proofs.Filling.{filling-none, filling-next, filling-all}
-use Rattle.joining.proofs.Lists.{numbers-length}
+use Rattle.joint.specs.inner.Moved.{movedAfter}
+use Rattle.jointentries.proofs.Filling.{filling-none, filling-next, filling-all}
+use Rattle.joint.proofs.Lists.{numbers-length}
 use Rattle.joining.proofs.joint_numbers.Statement.{statement}
 use Rattle.joining.proofs.joint_numbers.Tie as tie
 

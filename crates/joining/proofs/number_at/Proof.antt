@@ -5,7 +5,7 @@ use native.Mathlib.Omega.{arith}
 use borrow.Author.Needs.{needs}
 use denote.Ref.{now}
 use lib.ListN.{length}
-use Rattle.joining.proofs.Lists.{first-number, second-number}
+use Rattle.joint.proofs.Lists.{first-number, second-number}
 use Rattle.joining.proofs.number_at.Statement.{statement}
 use Rattle.joining.proofs.number_at.Tie as tie
 

@@ -6,7 +6,7 @@ use borrow.Author.Needs.{needs}
 use borrow.Author.Tests.{not-true, not-false}
 use lib.ListN.{length, take, drop}
 use lib.Seq.{length-take-le}
-use Rattle.joining.specs.Joint.{sameRows}
+use Rattle.joint.specs.Joint.{sameRows}
 use Rattle.joining.proofs.Parts.{rows-unlike, rows-next, rows-off, rows-end}
 use Rattle.joining.proofs.same_rows.Statement.{statement}
 use Rattle.joining.proofs.same_rows.Tie as tie

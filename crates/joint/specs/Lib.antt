@@ -1,0 +1,4 @@
+pub mod Figures
+pub mod Joining
+pub mod Joint
+pub mod inner
