@@ -20,7 +20,7 @@ use Rattle.model.proofs.Warm.{warm-few}
 use Rattle.joint.specs.Joint.{jointSteps, jointRefs, jointHead, joined, Joins}
 use Rattle.joint.specs.inner.Moved.{moved, movedAfter}
 use Rattle.jointentries.specs.inner.Entries.{IsEntry, entriesOf}
-use Rattle.joining.specs.inner.Parts.{Movable, HeadsFit}
+use Rattle.joining.specs.inner.Parts.{Movable, HeadsFit, jointSheetOf}
 use Rattle.joint.proofs.Entries.{entry-within, joint-length}
 use Rattle.joint.proofs.Lists.{numbers-length}
 
@@ -36,6 +36,24 @@ module _ (kind : Kind) (a segs segs' rows rows' warm warm' : ℕ) (sizes sizes' 
       (record { kind = kind; a = a; segs = segs; sizes = sizes; rows = rows; prices = prices; warm = warm; holds = holds })
       (record { kind = kind; a = a; segs = segs'; sizes = sizes'; rows = rows'; prices = prices'; warm = warm'; holds = holds' })
   head-parts e f g h i j = rw (e, f, g, h, i, j)
+
+-- sheets by their parts
+sheet-parts : (head head' : Head) (steps steps' : ℕ) (touches touches' : List ℕ) → head ≡ head' → steps ≡ steps' → touches ≡ touches'
+    → _≡_ {A = Sheet}
+    (record { form = 3; head = head; steps = steps; touches = touches; marked = 0; marks = blankMarks mostSteps })
+    (record { form = 3; head = head'; steps = steps'; touches = touches'; marked = 0; marks = blankMarks mostSteps })
+sheet-parts head head' steps steps' touches touches' e f g = rw (e, f, g)
+
+-- the sheet by the head, steps and entries that were worked out
+pub sheet-made : (p q : Head) (xs ys : List ℕ) (head : Head) (steps : ℕ) (touches : List ℕ)
+    → head ≡ headOf (jointHead (headValueOf p) (headValueOf q)) → steps ≡ max (length xs) (length ys)
+    → touches ≡ padded (entriesOf (p .segs) xs ys steps) (idles mostSteps)
+    → _≡_ {A = Sheet}
+    (record { form = 3; head = head; steps = steps; touches = touches; marked = 0; marks = blankMarks mostSteps })
+    (jointSheetOf p q xs ys)
+unfolding jointSheetOf
+sheet-made p q xs ys head steps touches e f g =
+    sheet-parts head _ steps _ touches _ e f (g ∙ ap (λ n. padded (entriesOf (p .segs) xs ys n) (idles mostSteps)) f)
 
 module _ (p q : Head) (segs-in : p .segs ≤ length (p .sizes)) (more-segs-in : q .segs ≤ length (q .sizes))
     (warm-in : p .warm ≤ length (p .holds))
@@ -85,24 +103,20 @@ module _ (first second : Sheet) (p : Standing first) (q : Standing second) where
       ap (λ n. entriesOf n (valueOf first .refs) (valueOf second .refs) steps) (sym (segs-counted first p))
       ∙ ap (λ k. entriesOf (length (valueOf first .head .sizes)) (valueOf first .refs) (valueOf second .refs) k) (e ∙ sym steps-joint)
 
-  -- the sheet by its head, steps and entries
-  pub sheet-held : (head : Head) (steps : ℕ) (touches : List ℕ)
-      → head ≡ headOf (jointHead (headValueOf (first .head)) (headValueOf (second .head))) → steps ≡ max (first .steps) (second .steps)
-      → touches ≡ padded (entriesOf (first .head .segs) (take (first .steps) (first .touches))
-      (take (second .steps) (second .touches)) steps) (idles mostSteps)
-      → _≡_ {A = Sheet}
-      (record { form = 3; head = head; steps = steps; touches = touches; marked = 0; marks = blankMarks mostSteps })
-      (sheetOf (joined (valueOf first) (valueOf second)))
-  unfolding sheetOf joined valueOf padded
-  sheet-held head steps touches e f g =
-      sheet-parts head _ steps _ touches _ e (f ∙ sym steps-joint ∙ sym (joint-length (valueOf first) (valueOf second)))
-      (g ∙ ap (λ refs. padded refs (idles mostSteps)) (entries-joint steps f))
-    where
-      sheet-parts : (head head' : Head) (steps steps' : ℕ) (touches touches' : List ℕ) → head ≡ head' → steps ≡ steps' → touches ≡ touches'
-          → _≡_ {A = Sheet}
-          (record { form = 3; head = head; steps = steps; touches = touches; marked = 0; marks = blankMarks mostSteps })
-          (record { form = 3; head = head'; steps = steps'; touches = touches'; marked = 0; marks = blankMarks mostSteps })
-      sheet-parts head head' steps steps' touches touches' e f g = rw (e, f, g)
+  -- as many entries as the counts say
+  steps-held : max (length (take (first .steps) (first .touches))) (length (take (second .steps) (second .touches)))
+      ≡ max (first .steps) (second .steps)
+  unfolding valueOf
+  steps-held = steps-joint
+
+  -- the sheet by the heads and the entries
+  pub sheet-held : jointSheetOf (first .head) (second .head) (take (first .steps) (first .touches)) (take (second .steps) (second .touches))
+      ≡ sheetOf (joined (valueOf first) (valueOf second))
+  unfolding jointSheetOf sheetOf joined valueOf padded
+  sheet-held =
+      let f = steps-held in
+      sheet-parts _ _ _ _ _ _ refl (f ∙ sym steps-joint ∙ sym (joint-length (valueOf first) (valueOf second)))
+      (ap (λ refs. padded refs (idles mostSteps)) (entries-joint _ f))
 
   -- the second's entries are below 256 or idle
   pub entries-within : (t : ℕ) → IsEntry (getD (take (second .steps) (second .touches)) t idle)

@@ -8,17 +8,18 @@ use model::Sheet;
 use model::Verdict;
 use sheet::SheetAnswer;
 ghost use mathlib.Core.Path.{_≡_};
-ghost use Prim.Native.Nat.{_≤_, _<_, _+_, max};
+ghost use Prim.Native.Nat.{ℕ, _≤_, _<_, _+_, max};
 ghost use lib.ListN.{length, getD, take};
-ghost use Rattle.model.specs.Sheets.{mostSegs, mostRows};
+ghost use Rattle.model.specs.Sheets.{idle, mostSegs, mostRows, mostSteps};
 ghost use Rattle.model.specs.Standing.{Standing};
-ghost use Rattle.model.specs.Values.{zeros, zeroRows, padded, headOf, headValueOf, sheetOf, valueOf};
+ghost use Rattle.model.specs.Values.{zeros, zeroRows, padded, headOf, headValueOf, valueOf};
 ghost use Rattle.sheet.specs.Answers.{answerOf};
 ghost use Rattle.sheet.specs.Reading.{rejected};
-ghost use Rattle.joint.specs.Joint.{sameKind, sameRows, sameHeads, jointHead, joined, Joins};
+ghost use Rattle.joint.specs.Joint.{sameKind, sameRows, sameHeads, jointHead};
 ghost use Rattle.joint.specs.Joining.{joinOf};
 ghost use Rattle.joint.specs.inner.Moved.{movedAfter};
-ghost use Rattle.joining.specs.inner.Parts.{sameRow, Movable, HeadsFit};
+ghost use Rattle.jointentries.specs.inner.Entries.{IsEntry};
+ghost use Rattle.joining.specs.inner.Parts.{sameRow, Movable, HeadsFit, jointSheetOf};
 
 // The form of a joint sheet.
 const FORM: u8 = 3;
@@ -189,25 +190,20 @@ fn joint_head(p: Head, q: Head) -> Head
     }
 }
 
-// The joint sheet of two accepted sheets that join.
-fn joint_sheet(first: Sheet, second: Sheet) -> Sheet
-    requires { ⌜ Standing first × Standing second × Joins (valueOf first) (valueOf second) ⌝ }
-    ensures { λ r. ⌜ r ≡ sheetOf (joined (valueOf first) (valueOf second)) ⌝ }
+// The joint sheet by the heads and the entries of two sheets.
+fn joint_sheet(p: Head, q: Head, xs: &[u16], ys: &[u16]) -> Sheet
+    requires { ⌜ HeadsFit p q × (length (now xs) ≤ mostSteps) × (length (now ys) ≤ mostSteps)
+        × ((t : ℕ) → IsEntry (getD (now ys) t idle)) ⌝ }
+    ensures { λ r. ⌜ r ≡ jointSheetOf p q (now (xs .entry)) (now (ys .entry)) ⌝ }
 {
-    let p = first.head;
-    let q = second.head;
     let head = joint_head(p, q);
     let n = p.segs as u16;
-    let steps = larger(first.steps, second.steps);
-    let xs = first.touches;
-    let ys = second.touches;
-    let x_end = first.steps;
-    let y_end = second.steps;
+    let steps = larger(xs.len(), ys.len());
     Sheet {
         form: FORM,
         head: head,
         steps: steps,
-        touches: jointentries::joint_touches(n, &xs[..x_end], &ys[..y_end], steps),
+        touches: jointentries::joint_touches(n, xs, ys, steps),
         marked: 0,
         marks: [false; Sheet::MAX_STEPS],
     }
@@ -236,6 +232,6 @@ pub fn join(first: Sheet, second: Sheet) -> SheetAnswer
     }
     SheetAnswer {
         verdict: Verdict::Accepted,
-        sheet: joint_sheet(first, second),
+        sheet: joint_sheet(p, q, &xs[..x_end], &ys[..y_end]),
     }
 }

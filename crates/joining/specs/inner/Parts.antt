@@ -1,13 +1,18 @@
--- What the parts of joining work out or need: rows alike, numbers that fit when moved, heads that fit. Assumes nothing.
-use Prim.Native.Nat.{ℕ, _+_, _≤_, _<_}
+-- What the parts of joining work out or need: rows alike, numbers that fit when moved, heads that fit, the joint
+-- sheet by heads and entries. Assumes nothing.
+use Prim.Native.Nat.{ℕ, _+_, _≤_, _<_, max}
 use mathlib.Core.Path.{_≡_}
 use mathlib.Core.Bool.{Bool, _&&_}
 use mathlib.Core.List.{List}
 use lib.Dec.{eqb}
 use lib.ListN.{length, getD, take}
-use Rattle.model.specs.Sheets.{mostSegs, mostRows}
+use Rattle.model.specs.Sheets.{mostSegs, mostRows, mostSteps}
+use Rattle.model.specs.Values.{idles, blankMarks, padded, headOf, headValueOf}
 use Rattle.model.specs.declared.Head.{Head}
 use Rattle.model.specs.declared.PriceRow.{PriceRow}
+use Rattle.model.specs.declared.Sheet.{Sheet}
+use Rattle.joint.specs.Joint.{jointHead}
+use Rattle.jointentries.specs.inner.Entries.{entriesOf}
 
 -- two rows are written alike
 abbrev pub sameRow : PriceRow → PriceRow → Bool
@@ -26,3 +31,15 @@ pub record HeadsFit (p q : Head) : Type 0 where
   pub warm : p .warm + q .warm ≤ mostSegs
   pub sizes : Movable (take (p .segs) (p .sizes)) 0 (take (q .segs) (q .sizes))
   pub holds : Movable (take (p .warm) (p .holds)) (p .segs) (take (q .warm) (q .holds))
+
+-- the joint sheet, of form 3, by two heads and the entries of two records
+unfoldable pub jointSheetOf : Head → Head → List ℕ → List ℕ → Sheet
+jointSheetOf p q xs ys =
+    record {
+      form = 3;
+      head = headOf (jointHead (headValueOf p) (headValueOf q));
+      steps = max (length xs) (length ys);
+      touches = padded (entriesOf (p .segs) xs ys (max (length xs) (length ys))) (idles mostSteps);
+      marked = 0;
+      marks = blankMarks mostSteps;
+    }
