@@ -9,8 +9,8 @@ use Rattle.model.specs.Sheets.{mostRows}
 use Rattle.model.specs.Values.{zeroRows, padded}
 use Rattle.model.proofs.Values.{zero-rows-length}
 use Rattle.jointentries.proofs.Filling.{filling-none, filling-next, filling-all}
-use Rattle.joining.proofs.first_rows.Statement.{statement}
-use Rattle.joining.proofs.first_rows.Tie as tie
+use Rattle.jointheads.proofs.first_rows.Statement.{statement}
+use Rattle.jointheads.proofs.first_rows.Tie as tie
 
 abbrev Inv-loop : tie.InvT-loop
 Inv-loop n prices rows₀ r₀ rows r = (r ≤ n) × (rows ≡ padded (take r (take n prices)) (zeroRows mostRows))

@@ -6,8 +6,8 @@ use borrow.Author.Needs.{needs}
 use denote.Ref.{now}
 use lib.ListN.{length}
 use Rattle.joint.proofs.Lists.{first-number, second-number}
-use Rattle.joining.proofs.number_at.Statement.{statement}
-use Rattle.joining.proofs.number_at.Tie as tie
+use Rattle.jointheads.proofs.number_at.Statement.{statement}
+use Rattle.jointheads.proofs.number_at.Tie as tie
 
 returns : tie.Need-returns
 returns c =

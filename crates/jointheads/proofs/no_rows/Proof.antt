@@ -1,8 +1,8 @@
 -- `no_rows` meets its contract: the repeat is that of the definition. Assumes nothing.
 use borrow.Author.Needs.{needs}
 use Rattle.model.specs.Values.{zeroRows}
-use Rattle.joining.proofs.no_rows.Statement.{statement}
-use Rattle.joining.proofs.no_rows.Tie as tie
+use Rattle.jointheads.proofs.no_rows.Statement.{statement}
+use Rattle.jointheads.proofs.no_rows.Tie as tie
 
 returns : tie.Need-returns
 unfolding zeroRows

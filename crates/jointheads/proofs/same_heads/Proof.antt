@@ -1,9 +1,9 @@
 -- `same_heads` meets its contract: kind, a and rows, one after the other. Assumes nothing.
 use borrow.Author.Needs.{needs}
 use borrow.Author.Tests.{not-true, not-false}
-use Rattle.joining.proofs.Parts.{heads-kind, heads-a, heads-rows}
-use Rattle.joining.proofs.same_heads.Statement.{statement}
-use Rattle.joining.proofs.same_heads.Tie as tie
+use Rattle.jointheads.proofs.Heads.{heads-kind, heads-a, heads-rows}
+use Rattle.jointheads.proofs.same_heads.Statement.{statement}
+use Rattle.jointheads.proofs.same_heads.Tie as tie
 
 returns : tie.Need-returns
 returns c =

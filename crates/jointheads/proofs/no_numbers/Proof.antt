@@ -1,8 +1,8 @@
 -- `no_numbers` meets its contract: the repeat is that of the definition. Assumes nothing.
 use borrow.Author.Needs.{needs}
 use Rattle.model.specs.Values.{zeros}
-use Rattle.joining.proofs.no_numbers.Statement.{statement}
-use Rattle.joining.proofs.no_numbers.Tie as tie
+use Rattle.jointheads.proofs.no_numbers.Statement.{statement}
+use Rattle.jointheads.proofs.no_numbers.Tie as tie
 
 returns : tie.Need-returns
 unfolding zeros

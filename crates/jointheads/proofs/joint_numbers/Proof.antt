@@ -12,8 +12,8 @@ use Rattle.model.proofs.Values.{zeros-length}
 use Rattle.joint.specs.inner.Moved.{movedAfter}
 use Rattle.jointentries.proofs.Filling.{filling-none, filling-next, filling-all}
 use Rattle.joint.proofs.Lists.{numbers-length}
-use Rattle.joining.proofs.joint_numbers.Statement.{statement}
-use Rattle.joining.proofs.joint_numbers.Tie as tie
+use Rattle.jointheads.proofs.joint_numbers.Statement.{statement}
+use Rattle.jointheads.proofs.joint_numbers.Tie as tie
 
 abbrev Inv-loop : tie.InvT-loop
 Inv-loop xs n ys count all₀ k₀ all k = (k ≤ count) × (all ≡ padded (take k (movedAfter xs n ys)) (zeros mostSegs))

@@ -7,9 +7,9 @@ use borrow.Author.Tests.{not-true, not-false}
 use lib.ListN.{length, take, drop}
 use lib.Seq.{length-take-le}
 use Rattle.joint.specs.Joint.{sameRows}
-use Rattle.joining.proofs.Parts.{rows-unlike, rows-next, rows-off, rows-end}
-use Rattle.joining.proofs.same_rows.Statement.{statement}
-use Rattle.joining.proofs.same_rows.Tie as tie
+use Rattle.jointheads.proofs.Heads.{rows-unlike, rows-next, rows-off, rows-end}
+use Rattle.jointheads.proofs.same_rows.Statement.{statement}
+use Rattle.jointheads.proofs.same_rows.Tie as tie
 
 abbrev Inv-loop : tie.InvT-loop
 Inv-loop m n ps qs r₀ r = (m ≡ n) × (r ≤ m) × (sameRows (take m ps) (take n qs) ≡ sameRows (drop r (take m ps)) (drop r (take n qs)))

@@ -5,9 +5,9 @@ use native.Mathlib.Omega.{arith}
 use borrow.Author.Needs.{needs}
 use lib.ListN.{length}
 use lib.Seq.{length-take-le}
-use Rattle.joining.proofs.Held.{joint-held}
-use Rattle.joining.proofs.joint_head.Statement.{statement}
-use Rattle.joining.proofs.joint_head.Tie as tie
+use Rattle.jointheads.proofs.Held.{joint-held}
+use Rattle.jointheads.proofs.joint_head.Statement.{statement}
+use Rattle.jointheads.proofs.joint_head.Tie as tie
 
 -- the counts are within the arrays
 module _ (s : tie.Start) where

@@ -1,7 +1,7 @@
 -- `same_row` meets its contract. Assumes nothing.
 use borrow.Author.Tests.{eq-eqb, ne-eqb}
-use Rattle.joining.proofs.same_row.Statement.{statement}
-use Rattle.joining.proofs.same_row.Tie as tie
+use Rattle.jointheads.proofs.same_row.Statement.{statement}
+use Rattle.jointheads.proofs.same_row.Tie as tie
 
 returns : tie.Need-returns
 returns c = rw (eq-eqb _ _ (c .before .before .if1 .taken))

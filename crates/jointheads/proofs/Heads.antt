@@ -1,4 +1,4 @@
--- What the parts of joining rest on: rows compared one by one, then heads. Assumes nothing.
+-- What the code of the heads rests on: rows compared one by one, then heads. Assumes nothing.
 use Prim.Native.Nat.{ℕ, suc, _+_, _≤_, _<_}
 use mathlib.Core.Path.{_≡_, refl, ap, _∙_}
 use mathlib.Core.Bool.{Bool, true, false, _&&_}
@@ -13,7 +13,7 @@ use Rattle.model.specs.declared.Head.{Head}
 use Rattle.model.specs.declared.PriceRow.{PriceRow}
 use Rattle.joint.specs.Joint.{sameKind, sameRows, sameHeads}
 use Rattle.jointentries.proofs.Entries.{and-none}
-use Rattle.joining.specs.inner.Parts.{sameRow}
+use Rattle.jointheads.specs.inner.Heads.{sameRow}
 
 -- ---- rows
 
