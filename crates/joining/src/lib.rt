@@ -1,5 +1,5 @@
 // Two sheets as one on the same clock, for two aligners in one memory.
-// What the joint sheet is, and which sheets do not join, is written in specs/; nothing is assumed.
+// What the joint sheet is, and which sheets do not join, is written in specs/ of crate `joint`; nothing is assumed.
 use model::Head;
 use model::Refusal;
 use model::Sheet;
