@@ -2,7 +2,7 @@
 use Prim.Native.Nat.{ℕ, _+_, _≤_}
 use mathlib.Core.Path.{_≡_, refl, sym, ap, _∙_}
 use mathlib.Core.Bool.{Bool, true, false}
-use mathlib.Core.List.{List, _++_}
+use mathlib.Core.List.{List}
 use native.Mathlib.Omega.{arith}
 use lib.ListN.{length, take, drop}
 use Rattle.lines.specs.Keys.{aKey}
@@ -15,7 +15,7 @@ use Rattle.sheet.specs.Order.{kindFor, warmPart, tablesPart, headPart}
 use Rattle.scan.specs.inner.AtPlace.{parsedLines, linesNext, movedOn, Filled}
 use Rattle.scan.specs.declared.numbers.LinesRead.{LinesRead}
 use Rattle.scan.specs.declared.numbers.LinesRead.the-variants.{Done, Refused as NoLines}
-use Rattle.scan.proofs.Blanks.{filled-start, lent-back}
+use Rattle.scan.proofs.Blanks.{filled-start}
 use Rattle.scan.proofs.Stages.{moved-within}
 use Rattle.scan.proofs.Tails.{tail}
 use Rattle.headlines.specs.declared.HeadRead.{HeadRead}
@@ -51,11 +51,6 @@ head-unread s r sizes holds p why f e = sym (f .same) ∙ ap (λ l. parsedLines 
 pub head-place : (s : List ℕ) (r : HeadRead) (sizes holds : List ℕ) (p : Parsed HeadValue) (at : ℕ) → HeadReads s r sizes holds p
     → r .lines ≡ Done at → at ≤ length s
 head-place s r sizes holds p at f e = omega (arith, f .within, ap linesNext e)
-
--- lists that were lent whole
-pub head-lent : (most : ℕ) (s : List ℕ) (r : HeadRead) (p : Parsed HeadValue) (xs b ys d : List ℕ) → length b ≤ most → length d ≤ most
-    → HeadReads s r xs ys p → HeadReads s r (xs ++ drop most b) (ys ++ drop most d) p
-head-lent most s r p xs b ys d h k f = rw (lent-back most xs b h, lent-back most ys d k) f
 
 -- the sizes and the rows of an earlier form
 pub cold-later : (later : Bool) (kind : Kind) (a : ℕ) (s : List ℕ) (r : HeadRead) (sizes holds : List ℕ) → later ≡ false

@@ -95,15 +95,11 @@ module _ (T : Trace) (f : ℕ → ℕ → Bool) where
       let done : steps T - steps T ≡ 0 = omega arith in
       rw done
 
-  -- what is no segment is never kept, and the schedule never holds it
+  -- what is no segment is never kept
   pub nextDecided-beyond : (k t i : ℕ) → segs T ≤ i → nextDecided T f k t i ≡ false
   unfolding nextDecided
   nextDecided-beyond zero t i le = refl
   nextDecided-beyond (suc k) t i le = rw (touched-beyond T t i le) (nextDecided-beyond k (suc t) i le)
-
-  pub decidedHeld-beyond : (t i : ℕ) → segs T ≤ i → decidedHeld T f t i ≡ false
-  unfolding decidedHeld
-  decidedHeld-beyond t i le = rw (touched-beyond T t i le) (nextDecided-beyond (steps T - suc t) (suc t) i le)
 
   -- its bytes hold what it holds
   pub held-decided : (t i : ℕ) → t < steps T → i < 256 → held T (decidedSchedule T f) (suc t) i ≡ decidedHeld T f t i

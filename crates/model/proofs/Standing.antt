@@ -1,11 +1,10 @@
 -- What the counts and arrays of a standing sheet hold: its value's lists, rows, references and sizes. Assumes nothing.
 use Prim.Native.Nat.{ℕ, _≤_, _<_}
 use mathlib.Core.Path.{_≡_, refl, sym, ap, _∙_}
-use mathlib.Core.Logic.{_⊎_, inl, inr, ⊎-elim}
 use native.Mathlib.Omega.{arith}
 use lib.ListN.{length, getD}
 use lib.Seq.{length-take-le, getD-take}
-use Rattle.model.specs.Sheets.{traceOf, rowAt, idle, largestSize}
+use Rattle.model.specs.Sheets.{traceOf, rowAt, largestSize}
 use Rattle.model.specs.Standing.{Standing}
 use Rattle.model.specs.Traces.{entry, sizeOf}
 use Rattle.model.specs.Values.{headValueOf, valueOf}
@@ -65,12 +64,6 @@ module _ (s : Sheet) (c : Standing s) where
     entry-of =
         getD-any (valueOf s .refs) t (length (valueOf s .head .sizes)) 0 (omega (arith, steps-counted))
         ∙ getD-take (s .steps) (s .touches) t 0 lt
-
-    -- and the number of a segment, or idle
-    pub entry-segment : (getD (s .touches) t 0 < s .head .segs) ⊎ (getD (s .touches) t 0 ≡ idle)
-    entry-segment =
-        ⊎-elim (λ l. inl (omega (arith, entry-of, segs-counted, l))) (λ e. inr (sym entry-of ∙ e))
-        (c .valid .run .entry-within t (omega (arith, steps-counted)))
 
   module _ (i : ℕ) (lt : i < s .head .segs) where
     -- the size of segment i

@@ -6,7 +6,7 @@ use mathlib.Core.Bool.{Bool, cond}
 use mathlib.Core.List.{List}
 use native.Mathlib.Omega.{arith}
 use native.Mathlib.Numerals.{add-one}
-use lib.ListN.{length, getD, set}
+use lib.ListN.{getD, set}
 use borrow.Author.Tests.{ne-eqb}
 use Rattle.model.specs.Figures.{kept}
 use Rattle.model.specs.LastTouches.{lastTable}
@@ -14,7 +14,7 @@ use Rattle.model.specs.Sheets.{RunWithin}
 use Rattle.model.specs.Traces.{Trace, segs, steps, entry, sizeOf, swapOf}
 use Rattle.model.specs.declared.PriceRow.{PriceRow}
 use Rattle.model.proofs.LastTouches.{lastTable-step, lastTable-idle}
-use Rattle.model.proofs.Tables.{length-tabulate, getD-tabulate, tabulate-const, tabulate-eq, tabulate-set}
+use Rattle.model.proofs.Tables.{getD-tabulate, tabulate-const, tabulate-eq, tabulate-set}
 use Rattle.model.proofs.Touches.{touched-at, touched-is, idle-touched, entry-ref}
 use Rattle.stores.specs.Stores.{excess, sinceMark, sinceThrough, storeCost, joined}
 use Rattle.modpass.specs.declared.touching.Touched.{Touched}
@@ -23,10 +23,6 @@ use Rattle.modpass.proofs.Bounds.{since-within}
 use Rattle.modpass.proofs.Touches.{code-plus, code-after, code-store, code-joins, excess-mark, kept-mark}
 
 module _ (T : Trace) (marks : ℕ → Bool) (row : PriceRow) where
-  length-since : (t : ℕ) → length (sinceTable T marks row t) ≡ 256
-  unfolding sinceTable
-  length-since t = length-tabulate 256 (λ i. codeOf (sinceMark T marks (row .h) (row .d) t i))
-
   since-at : (t i : ℕ) → i < 256 → getD (sinceTable T marks row t) i 0 ≡ codeOf (sinceMark T marks (row .h) (row .d) t i)
   unfolding sinceTable
   since-at t i lt = getD-tabulate 256 (λ i. codeOf (sinceMark T marks (row .h) (row .d) t i)) i 0 lt

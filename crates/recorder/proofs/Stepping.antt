@@ -11,7 +11,7 @@ use Rattle.model.specs.Costs.{unitCost}
 use Rattle.model.specs.Figures.{refCost, refVolume}
 use Rattle.model.specs.Traces.{segs, steps}
 use Rattle.model.specs.Sheets.{SheetValue, RowsWithin, RunWithin, Valid, traceOf, idle, mostSegs, mostRows, mostSteps}
-use Rattle.model.proofs.Growth.{withRefs, grown, grown-agree, grown-sums, steps-grown, entry-grown}
+use Rattle.model.proofs.Growth.{withRefs, grown, grown-agree, cost-grown, volume-grown, steps-grown, entry-grown}
 use Rattle.model.specs.Values.{zeros, zeroRows, headOf}
 use Rattle.model.specs.declared.Head.{Head}
 use Rattle.model.proofs.Bounds.{unit-within}
@@ -78,7 +78,6 @@ stepped-of v valid x lt room N s =
     let unit-small = unit-within (v .head .kind) (getD sizes x 0) (2 ^ 16 - 1) (omega arith) (omega (arith, small)) in
     let cost-is = s .cost-is (omega (arith, cost-within T run)) (omega (arith, unit-small)) in
     let volume-is = rw size at (s .volume-is (omega (arith, volume-within T run)) (rw size (omega arith))) in
-    let sums = grown-sums T x 0 0 in
     let end : n + 1 ≡ steps (grown T x) = omega (arith, steps-grown T x) in
     let all : passedAfter rows (grown T x) (n + 1) ≡ passedOf rows (grown T x) = ap (passedAfter rows (grown T x)) end in
     let passed =
@@ -88,8 +87,8 @@ stepped-of v valid x lt room N s =
     s .next-is
     ∙ recorder-passed (taken v x) (n + 1) end (set (recorderOf v .buckets) (s .touch .bucket) (s .bucket))
     (set (recorderOf v .last) x (n + 1)) (s .cost) (s .volume) (passed ∙ all)
-    (cost-is ∙ ap (λ u. refCost T + u) unit-is ∙ sym (rw (lt-ltb x (segs T) lt) at (sums .cost)))
-    (volume-is ∙ sym (rw (lt-ltb x (segs T) lt) at (sums .sizes)))
+    (cost-is ∙ ap (λ u. refCost T + u) unit-is ∙ sym (rw (lt-ltb x (segs T) lt) at (cost-grown T x)))
+    (volume-is ∙ sym (rw (lt-ltb x (segs T) lt) at (volume-grown T x)))
 
 -- from any recorder that stands for v
 pub stepped-stands : (R N : Recorder) (x : ℕ) → x < min (R .head .segs) mostSegs → R .steps < mostSteps → Stepped R x N
@@ -107,14 +106,13 @@ rested-of v valid =
     let n = length (v .refs) in
     let rows = v .head .rows in
     let none : segs T ≤ idle = omega (arith, valid .run .segs-within) in
-    let sums = grown-sums T idle 0 0 in
     let end : n + 1 ≡ steps (grown T idle) = omega (arith, steps-grown T idle) in
     let all : passedAfter rows (grown T idle) (n + 1) ≡ passedOf rows (grown T idle) = ap (passedAfter rows (grown T idle)) end in
     let passed =
     pass-idle rows (grown T idle) n (recorderOf v .buckets) (recorderOf v .last)
     (standing v ∙ passed-agree rows T (v .refs ++ (idle ∷ [])) n (grown-agree T idle)) (rw (entry-grown T idle) none) in
-    let cost : refCost T ≡ refCost (grown T idle) = omega (arith, rw (le-ltb idle (segs T) none) at (sums .cost)) in
-    let volume : refVolume T ≡ refVolume (grown T idle) = omega (arith, rw (le-ltb idle (segs T) none) at (sums .sizes)) in
+    let cost : refCost T ≡ refCost (grown T idle) = omega (arith, rw (le-ltb idle (segs T) none) at (cost-grown T idle)) in
+    let volume : refVolume T ≡ refVolume (grown T idle) = omega (arith, rw (le-ltb idle (segs T) none) at (volume-grown T idle)) in
     recorder-passed (rested v) (n + 1) end (recorderOf v .buckets) (recorderOf v .last) (refCost T) (refVolume T) (passed ∙ all) cost volume
 
 -- from any recorder that stands for v

@@ -3,7 +3,6 @@ use Prim.Native.Nat.{ℕ, _+_, _≤_, _<_}
 use mathlib.Core.Path.{_≡_, ap, _∙_}
 use mathlib.Core.Bool.{true, false}
 use mathlib.Core.List.{List, _++_, append-assoc, append-nil}
-use native.Mathlib.Omega.{arith}
 use lib.ListN.{length, take, getD, length-append}
 use lib.Dec.{leb}
 use lib.Seq.{length-take-le}
@@ -48,10 +47,6 @@ module _ (form refs steps : ℕ) where
         → listing form refs steps segs fs ms ≡ listing form refs steps segs fs ns
     unfolding listing
     listing-same fs ms ns same = rw (rows-same (leb 4 form) fs ms ns same)
-
-    pub listing-unmarked : (fs : List RowFigures) (ms ns : List ℕ) → leb 4 form ≡ false
-        → listing form refs steps segs fs ms ≡ listing form refs steps segs fs ns
-    listing-unmarked fs ms ns below = listing-same fs ms ns (λ e. let z : _≡_ {A = ℕ} 0 1 = cc in absurd (omega arith))
 
     module _ (n : ℕ) (fs : List RowFigures) (ms : List ℕ) (h : n ≤ length fs) where
       -- the listing of the first n rows

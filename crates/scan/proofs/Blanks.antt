@@ -4,7 +4,7 @@ use mathlib.Core.Path.{_≡_, ap, _∙_}
 use mathlib.Core.List.{List, _++_, append-nil}
 use native.Mathlib.Omega.{arith}
 use lib.ListN.{length, take, drop, set, length-append, length-set, length-drop, take-append-drop, drop-of-length-le}
-use lib.Seq.{length-take-le, take-at, take-all, drop-at, drop-set-lt}
+use lib.Seq.{length-take-le, take-at, drop-at, drop-set-lt}
 use Rattle.model.specs.Values.{padded}
 use Rattle.scan.specs.inner.AtPlace.{Filled}
 
@@ -44,8 +44,3 @@ module _ {A : Type 0} (n : ℕ) (xs b blank : List A) (e : length xs ≡ n) wher
 module _ {A : Type 0} (most : ℕ) (xs b : List A) (h : length b ≤ most) where
   pub lent-back : xs ++ drop most b ≡ xs
   lent-back = rw (drop-of-length-le b h) (append-nil xs)
-
-  pub lent-filled : (n : ℕ) (blank : List A) → b ≡ blank → Filled n xs (take most b) → Filled n (xs ++ drop most b) blank
-  lent-filled n blank e f =
-      let w : take most b ≡ blank = take-all most b h ∙ e in
-      rw lent-back (rw w at f)

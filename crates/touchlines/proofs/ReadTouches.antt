@@ -18,7 +18,7 @@ use Rattle.scan.specs.inner.AtPlace.{Filled}
 use Rattle.sheet.specs.Touches.{Touch, touchLine, touchLines, entryLines}
 use Rattle.touchlines.specs.inner.TouchesAtPlace.{entriesWith, markCount}
 use Rattle.touchlines.specs.inner.Passed.{withTouches, filling, PassedTouches}
-use Rattle.scan.proofs.Blanks.{filled-start, front-filled, front-take, lent-back}
+use Rattle.scan.proofs.Blanks.{filled-start, front-filled, front-take}
 use Rattle.scan.proofs.Tails.{tail, tail-is, tail-place}
 use Rattle.sheet.proofs.Touches.{TouchFits, touch-reads, touches-reads, filledWith, filled-placed}
 
@@ -150,11 +150,6 @@ module _ (letters : Bool) (segs steps n : ℕ) (s : List ℕ) where
 pub entries-front : (letters : Bool) (n : ℕ) (xs out : List ℕ) (ms blank : List Bool) → length xs ≡ n → length ms ≡ n
     → entriesWith letters (take n (xs ++ drop n out)) (take n (ms ++ drop n blank)) ≡ entriesWith letters xs ms
 entries-front letters n xs out ms blank l m = rw (front-take n xs out out l, front-take n ms blank blank m)
-
--- at the fronts of lists b and d that were lent whole
-pub entries-lent : (letters : Bool) (most n : ℕ) (xs b : List ℕ) (ms d : List Bool) → length b ≤ most → length d ≤ most
-    → entriesWith letters (take n (xs ++ drop most b)) (take n (ms ++ drop most d)) ≡ entriesWith letters (take n xs) (take n ms)
-entries-lent letters most n xs b ms d h k = rw (lent-back most xs b h, lent-back most ms d k)
 
 -- no steps have no marks
 pub none-marked : (letters : Bool) (blank : List Bool) → Filled (markCount letters 0) blank blank
