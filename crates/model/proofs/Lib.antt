@@ -1,7 +1,6 @@
 pub mod Ascent
 pub mod Bits
 pub mod Bounds
-pub mod Charges
 pub mod Decisions
 pub mod Demand
 pub mod DoubleSums
@@ -24,7 +23,6 @@ pub mod SizingExamples
 pub mod Standing
 pub mod Sums
 pub mod Tables
-pub mod TariffExamples
 pub mod Touches
 pub mod Values
 pub mod Warm

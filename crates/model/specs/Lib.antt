@@ -11,6 +11,5 @@ pub mod Sheets
 pub mod Sizing
 pub mod Standing
 pub mod Sums
-pub mod Tariff
 pub mod Traces
 pub mod Values

@@ -1,7 +1,5 @@
 // A sheet by value with its limits, the cost rules of the segment trace analyser as functions on numbers, and the numbers of its refusals.
 // What each means is written in specs/; nothing is assumed.
-pub mod tariff;
-
 ghost use mathlib.Core.Path.{_≡_};
 ghost use mathlib.Core.List.{[]};
 ghost use Prim.Native.Nat.{_+_, _*_, _<_, _^_};

@@ -1,8 +1,8 @@
 // Billing: what a run at a row costs by the loading tariff.
 // What is answered is written in specs/Answers.antt; nothing is assumed.
 use model::Verdict;
-use model::tariff::Tariff;
 use rows::billing::BillAnswer;
+use tariff::Tariff;
 ghost use mathlib.Core.Path.{_≡_};
 ghost use Rattle.rowcalls.specs.Answers.{billAnswer};
 

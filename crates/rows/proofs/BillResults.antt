@@ -6,12 +6,12 @@ use lib.ListN.{length}
 use borrow.Author.Tests.{le-ltb, lt-ltb}
 use Rattle.model.specs.Rows.{rowFigures}
 use Rattle.model.specs.Sheets.{SheetValue, Valid, traceOf, rowAt}
-use Rattle.model.specs.Tariff.{inRange, billOf}
 use Rattle.model.specs.declared.Refusal.the-variants.{NoSuchRow, TariffOutOfRange}
 use Rattle.model.specs.declared.RowFigures.{RowFigures}
 use Rattle.model.specs.declared.Verdict.the-variants.{Accepted}
-use Rattle.model.specs.declared.tariff.Cents.{Cents}
-use Rattle.model.specs.declared.tariff.Tariff.{Tariff}
+use Rattle.tariff.specs.Tariff.{inRange, billOf}
+use Rattle.tariff.specs.declared.Cents.{Cents}
+use Rattle.tariff.specs.declared.Tariff.{Tariff}
 use Rattle.figures.specs.Rows.{figuresAt}
 use Rattle.figures.proofs.Limits.{optmem-within, load-within}
 use Rattle.rows.specs.Billing.{noBill, rowBill, billFor}

@@ -4,11 +4,11 @@ use mathlib.Core.Bool.{cond}
 use lib.ListN.{length}
 use lib.Dec.{ltb}
 use Rattle.model.specs.Sheets.{SheetValue, rowOptmem, rowLoad}
-use Rattle.model.specs.Tariff.{inRange, billOf}
 use Rattle.model.specs.declared.Refusal.{Refusal}
 use Rattle.model.specs.declared.Refusal.the-variants.{NoSuchRow, TariffOutOfRange}
 use Rattle.model.specs.declared.Verdict.the-variants.{Accepted, Refused}
-use Rattle.model.specs.declared.tariff.Tariff.{Tariff}
+use Rattle.tariff.specs.Tariff.{inRange, billOf}
+use Rattle.tariff.specs.declared.Tariff.{Tariff}
 use Rattle.rows.specs.declared.billing.BillAnswer.{BillAnswer}
 
 -- no bill: 0 beside the refusal

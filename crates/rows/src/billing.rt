@@ -3,8 +3,8 @@
 use model::Refusal;
 use model::Sheet;
 use model::Verdict;
-use model::tariff::Cents;
-use model::tariff::Tariff;
+use tariff::Cents;
+use tariff::Tariff;
 ghost use mathlib.Core.Path.{_≡_};
 ghost use Rattle.model.specs.Standing.{Standing};
 ghost use Rattle.model.specs.Values.{valueOf};

@@ -2,7 +2,7 @@
 use Prim.Native.Nat.{ℕ, _+_, _*_, _/_}
 use mathlib.Core.Bool.{Bool, cond, _&&_}
 use lib.Dec.{leb, ltb}
-use Rattle.model.specs.declared.tariff.Tariff.{Tariff}
+use Rattle.tariff.specs.declared.Tariff.{Tariff}
 
 -- the limits: the largest rate and the largest minimum, in cents
 abbrev pub largestRate : ℕ

@@ -1,11 +1,11 @@
 // The loading tariff: what a run is billed for the memory and the load of a row.
 // What it means is written in specs/Tariff.antt; nothing is assumed.
-use crate::LoadUnits;
-use crate::MemoryUnits;
+use model::LoadUnits;
+use model::MemoryUnits;
 ghost use mathlib.Core.Bool.{true};
 ghost use mathlib.Core.Path.{_≡_};
 ghost use Prim.Native.Nat.{_<_, _^_};
-ghost use Rattle.model.specs.Tariff.{inRange, startedThousands, billOf};
+ghost use Rattle.tariff.specs.Tariff.{inRange, startedThousands, billOf};
 
 // An amount in cents.
 pub struct Cents(pub u64);

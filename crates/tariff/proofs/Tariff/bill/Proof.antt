@@ -1,9 +1,9 @@
 -- `Tariff::bill` meets its contract: each part is charged by its started thousands, then the minimum is tested. Assumes nothing.
 use borrow.Author.Needs.{needs}
 use native.Mathlib.Omega.{arith}
-use Rattle.model.proofs.Charges.{ranges, charge-within, bill-raised, bill-charged}
-use Rattle.model.proofs.tariff.Tariff.bill.Statement.{statement}
-use Rattle.model.proofs.tariff.Tariff.bill.Tie as tie
+use Rattle.tariff.proofs.Charges.{ranges, charge-within, bill-raised, bill-charged}
+use Rattle.tariff.proofs.Tariff.bill.Statement.{statement}
+use Rattle.tariff.proofs.Tariff.bill.Tie as tie
 
 mul-for-memory : tie.Need-mul-for-memory
 mul-for-memory c =

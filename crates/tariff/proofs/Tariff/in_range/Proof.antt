@@ -1,8 +1,8 @@
 -- `Tariff::in_range` meets its contract, test by test. Assumes nothing.
 use borrow.Author.Tests.{le-leb, lt-leb}
-use Rattle.model.specs.Tariff.{largestRate}
-use Rattle.model.proofs.tariff.Tariff.in_range.Statement.{statement}
-use Rattle.model.proofs.tariff.Tariff.in_range.Tie as tie
+use Rattle.tariff.specs.Tariff.{largestRate}
+use Rattle.tariff.proofs.Tariff.in_range.Statement.{statement}
+use Rattle.tariff.proofs.Tariff.in_range.Tie as tie
 
 returns : tie.Need-returns
 returns c = rw (lt-leb _ largestRate (c .if1 .taken))

@@ -4,8 +4,8 @@ use mathlib.Core.Path.{_≡_, refl}
 use mathlib.Core.Bool.{Bool, true, _&&_}
 use mathlib.Core.List.{List, [], _∷_}
 use lib.Dec.{eqb}
-use Rattle.model.specs.Tariff.{billOf}
-use Rattle.model.specs.declared.tariff.Tariff.{Tariff}
+use Rattle.tariff.specs.Tariff.{billOf}
+use Rattle.tariff.specs.declared.Tariff.{Tariff}
 
 -- so many cents for 1,000 memory units, for 1,000 load units, and the minimum
 tariff : ℕ → ℕ → ℕ → Tariff

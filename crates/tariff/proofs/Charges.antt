@@ -5,9 +5,9 @@ use mathlib.Core.Bool.{Bool, true, false, _&&_, false≢true}
 use native.Mathlib.Omega.{arith}
 use lib.Dec.{leb}
 use borrow.Author.Tests.{leb-true, lt-ltb, le-ltb}
-use Rattle.model.specs.Tariff.{largestRate, largestMinimum, inRange, startedThousands, billOf}
-use Rattle.model.specs.declared.tariff.Tariff.{Tariff}
 use Rattle.model.proofs.Bounds.{product-within}
+use Rattle.tariff.specs.Tariff.{largestRate, largestMinimum, inRange, startedThousands, billOf}
+use Rattle.tariff.specs.declared.Tariff.{Tariff}
 
 -- the started thousands cover the units, and one less would not
 pub record Covering (n k : ℕ) : Type 0 where
