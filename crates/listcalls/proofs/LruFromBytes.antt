@@ -1,6 +1,6 @@
 -- What holds of the misses of least-recently-used replacement of every run of bytes, and of the entries looked at. Assumes nothing.
 use Prim.Native.Nat.{ℕ, suc, _-_, _*_, _≤_}
-use mathlib.Core.Path.{_≡_, refl, sym, ap, _∙_}
+use mathlib.Core.Path.{_≡_, refl, ap, _∙_}
 use mathlib.Core.List.{List}
 use native.Mathlib.Omega.{arith}
 use lib.ListN.{length, getD}

@@ -4,7 +4,6 @@ use mathlib.Core.Path.{_≡_, ap, _∙_}
 use mathlib.Core.List.{List}
 use native.Mathlib.Omega.{arith}
 use lib.ListN.{length}
-use Rattle.model.specs.Places.{gives}
 use Rattle.model.specs.Rows.{rowFigures}
 use Rattle.model.specs.Sheets.{SheetValue, Valid, newestForm, traceOf}
 use Rattle.sheet.specs.Reading.{accepted, readSheet}

@@ -16,7 +16,6 @@ use Rattle.windows.specs.Windows.{windowAt, longerThan}
 use Rattle.windows.proofs.Windows.{window-wsocc}
 use Rattle.windowlist.specs.Answers.{windowsVerdict, wsoccs, windowsFor}
 use Rattle.windowlist.proofs.Answers.{windowed}
-use Rattle.analyser.specs.Answers.{figuresAnswer}
 use Rattle.analyser.proofs.Demand.{figures-are}
 use Rattle.listcalls.specs.Windowing.{windowsResult, WindowsFromBytes}
 use Rattle.listcalls.proofs.GivenLists.{given-after}

@@ -11,7 +11,6 @@ use lib.ListN.{length, getD, set, drop, length-set, length-append}
 use lib.Seq.{drop-cons, set-at}
 use Rattle.model.specs.Sums.{sum}
 use Rattle.model.proofs.Sums.{sum-none, sum-suc}
-use Rattle.points.specs.Points.{Ratio}
 use Rattle.pointsums.specs.inner.Walk.{quotientAt, reuseAt, beforeAt, ended, firstCost, leader, memoryTo, loadTo, pointAt, pointsTo}
 use Rattle.pointsums.specs.inner.Walk.{pointsOf, Summable}
 

@@ -11,7 +11,6 @@ use lib.ListN.{length, getD, set, drop, drop-of-length-le}
 use lib.Seq.{drop-cons}
 use Rattle.model.specs.Figures.{opttotal}
 use Rattle.model.specs.Sheets.{marksOf, mostRows}
-use Rattle.model.specs.Sums.{tabulate}
 use Rattle.model.specs.Traces.{Trace}
 use Rattle.model.specs.Values.{zeros}
 use Rattle.model.specs.declared.PriceRow.{PriceRow}

@@ -1,11 +1,11 @@
 -- The recorder's theorem, for every recorder that a start and the calls after it handed back. Assumes nothing.
-use Prim.Native.Nat.{ℕ, _+_, _≤_, _<_, min, max}
+use Prim.Native.Nat.{ℕ, _+_, _≤_, min, max}
 use mathlib.Core.Path.{_≡_, refl, sym, ap, subst, _∙_}
 use mathlib.Core.List.{List, [], _∷_, _++_, append-nil}
 use native.Mathlib.Omega.{arith}
 use borrow.Author.Tests.{le-ltb}
 use lib.ListN.{length, length-append}
-use Rattle.model.specs.Sheets.{SheetValue, Valid, idle, mostSegs, mostSteps}
+use Rattle.model.specs.Sheets.{SheetValue, Valid, idle, mostSegs}
 use Rattle.model.specs.Values.{emptyHead}
 use Rattle.model.specs.declared.Refusal.{Refusal}
 use Rattle.model.specs.declared.Refusal.the-variants.{OutOfRange}
@@ -15,7 +15,7 @@ use Rattle.sheet.specs.Reading.{Outcome, accepted, rejected, readForms}
 use Rattle.sheet.proofs.Accepted.{accepted-valid, accepted-form}
 use Rattle.figures.specs.Rows.{figuresOf}
 use Rattle.figures.specs.declared.FiguresAnswer.{FiguresAnswer}
-use Rattle.recorder.specs.Recorders.{recorderOf, emptyRecorder, started, rested, withStep, touchVerdict, idleVerdict, refsVerdict}
+use Rattle.recorder.specs.Recorders.{recorderOf, emptyRecorder, started, rested, withStep, touchVerdict, refsVerdict}
 use Rattle.recorder.specs.Recorders.{TouchedAll, Rested, Figured}
 use Rattle.recorder.specs.declared.Recorder.{Recorder}
 use Rattle.recorder.specs.declared.TouchAnswer.{TouchAnswer}

@@ -1,7 +1,7 @@
 -- The rows of a listing as lines one after another, the figures of each beside its modtotal: one row more, how long they are, and that
 -- below form 4 they do not depend on the modtotals. Assumes nothing.
 use Prim.Native.Nat.{ℕ, zero, suc, _+_, _*_, _≤_, _<_}
-use mathlib.Core.Path.{_≡_, refl, sym, ap, _∙_}
+use mathlib.Core.Path.{_≡_, refl, ap, _∙_}
 use mathlib.Core.Bool.{Bool, true, false}
 use mathlib.Core.List.{List, [], _∷_, _++_, append-assoc}
 use mathlib.Core.Option.{Option, none}
@@ -13,7 +13,7 @@ use Rattle.model.specs.Rows.{zeroFigures}
 use Rattle.model.specs.declared.RowFigures.{RowFigures}
 use Rattle.lines.specs.Texts.{linesText}
 use Rattle.lines.proofs.Runs.{each-of, lines-length, lines-next, lines-room}
-use Rattle.rowtext.specs.RowListing.{rowListing, modListing, rowsListing, markedText}
+use Rattle.rowtext.specs.RowListing.{modListing, rowsListing, markedText}
 
 -- ---- the rows as a run of lines
 

@@ -1,9 +1,9 @@
 -- `decimal::put_pair` meets its contract: the two bytes of one number are the digits, by two stores. Assumes nothing.
 use Prim.Native.Nat.{ℕ, _+_, _*_, _-_, _/_, _%_, _<_}
-use mathlib.Core.Path.{_≡_, ap}
+use mathlib.Core.Path.{_≡_}
 use native.Mathlib.Omega.{arith}
 use borrow.Author.Needs.{needs}
-use lib.ListN.{length-set, set}
+use lib.ListN.{length-set}
 use Rattle.decimal.proofs.put_pair.Statement.{statement}
 use Rattle.decimal.proofs.put_pair.Tie as tie
 

@@ -1,6 +1,6 @@
 -- `decimal::write` meets its contract. The loop's invariant: `out` is as it is to be once the digits of `rest` are written, and these are
 -- `left`. Assumes nothing.
-use mathlib.Core.Path.{_≡_, refl, sym}
+use mathlib.Core.Path.{_≡_, refl}
 use mathlib.Core.List.{_++_}
 use Prim.Native.Nat.{_+_}
 use native.Mathlib.Omega.{arith}

@@ -1,7 +1,6 @@
 -- `decimal::write_short` meets its contract, by how many digits there are. Assumes nothing.
 use native.Mathlib.Omega.{arith}
 use borrow.Author.Needs.{needs}
-use lib.ListN.{length-set}
 use Rattle.decimal.proofs.Padded.{short-four, short-three, short-two, short-one}
 use Rattle.decimal.proofs.Written.{written-some, written-width}
 use Rattle.decimal.proofs.write_short.Statement.{statement}

@@ -1,7 +1,6 @@
 -- `forms::has_idle` meets its contract. The loop's invariant: the entries left have an idle one where all have. Assumes nothing.
 use mathlib.Core.Path.{_≡_, refl, sym, _∙_}
 use Prim.Native.Nat.{_-_}
-use native.Mathlib.Omega.{arith}
 use borrow.Author.Needs.{needs}
 use lib.ListN.{length, drop}
 use Rattle.forms.specs.Forms.{someIdle}

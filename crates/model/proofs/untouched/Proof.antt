@@ -1,5 +1,4 @@
 -- `model::untouched` meets its contract. Assumes nothing.
-use mathlib.Core.Path.{refl}
 use borrow.Author.Needs.{needs}
 use Rattle.model.specs.LastTouches.{startTable}
 use Rattle.model.specs.Sheets.{listed}

@@ -1,7 +1,6 @@
 -- `prints::modtotals::any_mark` meets its contract. The loop's invariant: what the marks left say decides. Assumes nothing.
 use Prim.Native.Nat.{_-_}
 use mathlib.Core.Path.{_≡_, refl, sym, _∙_}
-use native.Mathlib.Omega.{arith}
 use borrow.Author.Needs.{needs}
 use lib.ListN.{length, drop}
 use Rattle.prints.specs.inner.Modtotals.{someMark}

@@ -1,7 +1,6 @@
 -- `vectors::lists::numbers` is safe and ends: each number is one of the list. Assumes nothing.
 use Prim.Native.Nat.{_-_, _≤_}
 use lib.ListN.{length}
-use native.Mathlib.Omega.{arith}
 use borrow.Author.Needs.{needs}
 use Rattle.vectors.proofs.lists.numbers.Statement.{statement}
 use Rattle.vectors.proofs.lists.numbers.Tie as tie
