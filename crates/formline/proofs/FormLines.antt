@@ -17,7 +17,7 @@ use Rattle.formline.specs.inner.FormAtPlace.{formLine}
 least-limit : (form : ℕ) → formBytes 1 ≤ formBytes form
 least-limit form = go (eqb form 2) (eqb form 3) (eqb form 4)
   where
-    go : (b d e : Bool) → 20012 ≤ cond b 29163 (cond d 31366 (cond e 33414 20012))
+    go : (b d e : Bool) → formBytes 1 ≤ cond b (formBytes 2) (cond d (formBytes 3) (cond e (formBytes 4) (formBytes 1)))
     go true d e = omega arith
     go false true e = omega arith
     go false false true = omega arith

@@ -22,7 +22,8 @@ module _ (v w : SheetValue) where
   unfolding joinOf
   join-differs e = rw e
 
-  pub join-both : sameHeads (v .head) (w .head) ≡ true → bothTouch (v .refs) (w .refs) (jointSteps v w) ≡ true → joinOf v w ≡ rejected BothTouch
+  pub join-both : sameHeads (v .head) (w .head) ≡ true → bothTouch (v .refs) (w .refs) (jointSteps v w) ≡ true
+      → joinOf v w ≡ rejected BothTouch
   unfolding joinOf
   join-both e f = rw (e, f)
 

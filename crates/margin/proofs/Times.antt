@@ -69,9 +69,9 @@ module _ (i : ℕ) (refs : List ℕ) (t : ℕ) where
         record {
           within = omega (arith, s .within);
           same = λ T is seg.
-              let apart : touched T m i ≡ false = touched-entry T m i seg ∙ ap (λ x. eqb x i) (entry-is T is) ∙ ne-eqb (getD refs m 0) i f in
+              let off = touched-entry T m i seg ∙ ap (λ x. eqb x i) (entry-is T is) ∙ ne-eqb (getD refs m 0) i f in
               let more : suc (t - n) ≡ t - m = omega (arith, s .within) in
-              rw (← more, ← (later-on (t - n) (unreferenced T m i)), ← (unreferenced-later T m i apart), ← one) (s .same T is seg);
+              rw (← more, ← (later-on (t - n) (unreferenced T m i)), ← (unreferenced-later T m i off), ← one) (s .same T is seg);
         }
 
     -- it touches the segment

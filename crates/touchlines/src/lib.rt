@@ -6,6 +6,7 @@ use scan::numbers;
 use scan::numbers::CountedAt;
 use scan::numbers::LinesRead;
 use scan::numbers::NumberAt;
+use shorttouch::short_touch;
 use touchvalue::TouchAt;
 ghost use mathlib.Core.Path.{_≡_};
 ghost use mathlib.Core.Bool.{false};
@@ -48,13 +49,7 @@ fn short_touches(
     let mut at = 0;
     let mut i = 0;
     while i < n {
-        let short = shorttouch::short_touch(
-            &s[at..],
-            letters,
-            segs as u32,
-            steps as u32,
-            before as u32,
-        );
+        let short = short_touch(&s[at..], letters, segs as u32, steps as u32, before as u32);
         let next = short.next;
         if next == 0 {
             break;

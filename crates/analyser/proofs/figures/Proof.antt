@@ -17,14 +17,16 @@ unfolding figuresAnswer
 returns c =
     let r = c .before .before .before .before .before in
     let a = r .before .before .args in
-    c .no-figures .ensures ∙ sym (on-refused _ (r .read-forms .result) (r .read-forms .ensures) _ (cc) noFigures (λ v. figuresOf v (a .row)))
+    c .no-figures .ensures
+    ∙ sym (on-refused _ (r .read-forms .result) (r .read-forms .ensures) _ (cc) noFigures (λ v. figuresOf v (a .row)))
 
 returns-2 : tie.Need-returns-2
 unfolding figuresAnswer
 returns-2 c =
     let r = c .before .before .before .before in
     let a = r .before .before .args in
-    c .sheet-figures .ensures ∙ sym (on-accepted _ (r .read-forms .result) (r .read-forms .ensures) (cc) noFigures (λ v. figuresOf v (a .row)))
+    c .sheet-figures .ensures
+    ∙ sym (on-accepted _ (r .read-forms .result) (r .read-forms .ensures) (cc) noFigures (λ v. figuresOf v (a .row)))
 
 pub figures-spec : {M : Type 1} → statement M
 figures-spec =

@@ -26,7 +26,8 @@ unfolding rewriteResult
 returns-2 c =
     let r = c .before .before .before .before in
     place-refused
-    (on-refused _ (r .read-forms .result) (r .read-forms .ensures) _ (c .before .before .verdict .given .1) refuses (λ v. gives (sheetText v)))
+    (on-refused _ (r .read-forms .result) (r .read-forms .ensures) _ (c .before .before .verdict .given .1) refuses
+    (λ v. gives (sheetText v)))
     (c .number .ensures)
 
 pub segtrace-rewrite-spec : {M : Type 1} → statement M

@@ -16,14 +16,16 @@ unfolding recordsFound
 returns c =
     let r = c .before .before .before .before .before in
     let a = r .before .before .args in
-    c .no-records .ensures ∙ sym (on-refused _ (r .read-forms .result) (r .read-forms .ensures) _ (cc) noRecords (λ v. recordsFor v (a .room)))
+    c .no-records .ensures
+    ∙ sym (on-refused _ (r .read-forms .result) (r .read-forms .ensures) _ (cc) noRecords (λ v. recordsFor v (a .room)))
 
 returns-2 : tie.Need-returns-2
 unfolding recordsFound
 returns-2 c =
     let r = c .before .before .before .before in
     let a = r .before .before .args in
-    c .sheet-records .ensures ∙ sym (on-accepted _ (r .read-forms .result) (r .read-forms .ensures) (cc) noRecords (λ v. recordsFor v (a .room)))
+    c .sheet-records .ensures
+    ∙ sym (on-accepted _ (r .read-forms .result) (r .read-forms .ensures) (cc) noRecords (λ v. recordsFor v (a .room)))
 
 pub all-records-spec : {M : Type 1} → statement M
 all-records-spec =
