@@ -19,7 +19,7 @@ extern "C" {
 /*
  * The most bytes of a sheet (of form 1, of form 2, of form 3, and of any form), of a listing, of two pages and of a schedule; the most
  * rows, steps and segments; more stack than a call uses. That no listing is longer is proved (`listing-most`,
- * crates/report/proofs/ListingMost.antt): each figure with as many digits as it can have.
+ * crates/listing/proofs/ListingMost.antt): each figure with as many digits as it can have.
  */
 enum {
     SEGTRACE_SHEET_BYTES_FORM_1 = 20012,

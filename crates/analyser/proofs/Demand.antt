@@ -20,8 +20,8 @@ use Rattle.sheet.proofs.Accepted.{accepted-valid, accepted-form}
 use Rattle.sheet.proofs.RoundTrip.{every-form}
 use Rattle.figures.specs.Rows.{figuresOf, figuresAt}
 use Rattle.pricing.proofs.Verdicts.{permitted-accepted}
-use Rattle.plans.proofs.PlanResults.{schedule-length, schedule-placed, price-at}
-use Rattle.plans.proofs.Prices.{accepted-at}
+use Rattle.sheet_schedules.proofs.PlanResults.{schedule-length, schedule-placed, price-at}
+use Rattle.sheet_schedules.proofs.Prices.{accepted-at}
 use Rattle.stores.specs.Rows.{sheetLoad, sheetTotal}
 use Rattle.stores.specs.Stores.{markedTotal}
 use Rattle.stores.proofs.Unmarked.{unmarked-load}

@@ -1,3 +1,14 @@
 pub mod Demand
+pub mod Given
+pub mod GivenLists
+pub mod Handed
+pub mod Imported
+pub mod Joined
+pub mod LookedAt
+pub mod LruFromBytes
+pub mod MarginSigns
+pub mod Modified
+pub mod PointsFromBytes
 pub mod Printing
 pub mod RoundTrips
+pub mod WindowsFromBytes

@@ -9,8 +9,8 @@ use Rattle.model.specs.Sheets.{newestForm}
 use Rattle.sheet.specs.Reading.{Outcome, accepted, rejected, readSheet}
 use Rattle.sheet.proofs.Accepted.{accepted-valid}
 use Rattle.sheet.proofs.Refusals.{sheet-refusals}
-use Rattle.report.specs.Listing.{refusedText, mostListing, listingOf}
-use Rattle.report.proofs.ListingMost.{listing-most, refused-most}
+use Rattle.listing.specs.Listing.{refusedText, mostListing, listingOf}
+use Rattle.listing.proofs.ListingMost.{listing-most, refused-most}
 use Rattle.sheet.specs.Accepting.{onSheet}
 use Rattle.analyser.specs.Answers.{printedText}
 

@@ -1,4 +1,4 @@
--- What each call of this crate answers, by what the bytes read as. The sheet's refusals are 1 to 6, 16 and 19. Assumes nothing.
+-- What each call of document 01 answers, by what the bytes read as. The sheet's refusals are 1 to 6, 16 and 19. Assumes nothing.
 use Prim.Native.Nat.{ℕ}
 use mathlib.Core.List.{List}
 use Rattle.model.specs.Places.{Result, gives, refuses}
@@ -9,11 +9,11 @@ use Rattle.sheet.specs.Reading.{readForms, readSheet}
 use Rattle.sheet.specs.Writing.{sheetText}
 use Rattle.figures.specs.Rows.{noFigures, figuresOf}
 use Rattle.figures.specs.declared.FiguresAnswer.{FiguresAnswer}
-use Rattle.report.specs.Listing.{listingOf, refusedText}
+use Rattle.listing.specs.Listing.{listingOf, refusedText}
 use Rattle.page.specs.Page.{pagesOf}
 use Rattle.pricing.specs.Checking.{noPrice}
 use Rattle.pricing.specs.declared.PriceAnswer.{PriceAnswer}
-use Rattle.plans.specs.Plans.{scheduleFor, priceFor}
+use Rattle.sheet_schedules.specs.Plans.{scheduleFor, priceFor}
 
 -- the bytes of a sheet, for a lent place
 abbrev pub writeResult : Sheet → Result

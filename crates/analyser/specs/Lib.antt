@@ -1,3 +1,12 @@
 pub mod Answers
+pub mod Converting
+pub mod Curving
 pub mod Demand
+pub mod Importing
+pub mod Joining
+pub mod Modified
+pub mod Operating
+pub mod Recording
 pub mod RoundTrip
+pub mod RowAnswers
+pub mod Windowing

@@ -1,6 +1,18 @@
 // The public calls of document 01 and the page for the binder, on bytes. None relies on a caller's check: each refuses for itself, and a
 // refused call gives zeros and changes nothing.
 // What each call answers is written in specs/ here and in the crates below; nothing is assumed.
+pub mod billing;
+pub mod converting;
+pub mod curving;
+pub mod importing;
+pub mod margins;
+pub mod modifying;
+pub mod operating;
+pub mod pairing;
+pub mod recording;
+pub mod sizing;
+pub mod windowing;
+
 use figures::FiguresAnswer;
 use model::PlaceAnswer;
 use model::Sheet;
@@ -18,21 +30,21 @@ ghost use Rattle.analyser.specs.Answers.{scheduleResult, pricing};
 pub fn read(bytes: &[u8]) -> SheetAnswer
     ensures { λ r. ⌜ r ≡ answerOf (readSheet (now (bytes .entry))) ⌝ }
 {
-    reading::read(bytes)
+    read_sheet::read(bytes)
 }
 
 // The bytes of a sheet into a lent place, then its old contents; 11 and no change where the place is too short.
 pub fn write(sheet: Sheet, out: &mut [u8]) -> PlaceAnswer
     ensures { λ r. ⌜ PlaceLeft (writeResult sheet) (now (out .entry)) (now (out .exit)) r ⌝ }
 {
-    writing::write(sheet, out)
+    write_sheet::write(sheet, out)
 }
 
 // The figures of a row: refused with the sheet's refusals, 7.
 pub fn figures(bytes: &[u8], row: usize) -> FiguresAnswer
     ensures { λ r. ⌜ r ≡ figuresAnswer (now (bytes .entry)) row ⌝ }
 {
-    let answer = reading::read_forms(bytes, 1, Sheet::NEWEST_FORM);
+    let answer = read_sheet::read_forms(bytes, 1, Sheet::NEWEST_FORM);
     let verdict = answer.verdict;
     let s = answer.sheet;
     match verdict {
@@ -45,7 +57,7 @@ pub fn figures(bytes: &[u8], row: usize) -> FiguresAnswer
 pub fn listing(bytes: &[u8], out: &mut [u8]) -> PlaceAnswer
     ensures { λ r. ⌜ PlaceLeft (listingResult (now (bytes .entry))) (now (out .entry)) (now (out .exit)) r ⌝ }
 {
-    let answer = reading::read_forms(bytes, 1, Sheet::NEWEST_FORM);
+    let answer = read_sheet::read_forms(bytes, 1, Sheet::NEWEST_FORM);
     let verdict = answer.verdict;
     let s = answer.sheet;
     match verdict {
@@ -59,11 +71,11 @@ pub fn listing(bytes: &[u8], out: &mut [u8]) -> PlaceAnswer
 pub fn printed(bytes: &[u8], out: &mut [u8]) -> PlaceAnswer
     ensures { λ r. ⌜ PlaceLeft (gives (printedText (now (bytes .entry)))) (now (out .entry)) (now (out .exit)) r ⌝ }
 {
-    let answer = reading::read_forms(bytes, 1, Sheet::NEWEST_FORM);
+    let answer = read_sheet::read_forms(bytes, 1, Sheet::NEWEST_FORM);
     let verdict = answer.verdict;
     let s = answer.sheet;
     match verdict {
-        Verdict::Refused(why) => report::write_refusal(why, out),
+        Verdict::Refused(why) => listing::write_refusal(why, out),
         Verdict::Accepted => prints::sheet_listing(s, out),
     }
 }
@@ -73,7 +85,7 @@ pub fn printed(bytes: &[u8], out: &mut [u8]) -> PlaceAnswer
 pub fn page(bytes: &[u8], out: &mut [u8]) -> PlaceAnswer
     ensures { λ r. ⌜ PlaceLeft (pageResult (now (bytes .entry))) (now (out .entry)) (now (out .exit)) r ⌝ }
 {
-    let answer = reading::read_forms(bytes, 1, Sheet::NEWEST_FORM);
+    let answer = read_sheet::read_forms(bytes, 1, Sheet::NEWEST_FORM);
     let verdict = answer.verdict;
     let s = answer.sheet;
     match verdict {
@@ -86,12 +98,12 @@ pub fn page(bytes: &[u8], out: &mut [u8]) -> PlaceAnswer
 pub fn optimal_schedule(bytes: &[u8], row: usize, out: &mut [u8]) -> PlaceAnswer
     ensures { λ r. ⌜ PlaceLeft (scheduleResult (now (bytes .entry)) row) (now (out .entry)) (now (out .exit)) r ⌝ }
 {
-    let answer = reading::read_forms(bytes, 1, 3);
+    let answer = read_sheet::read_forms(bytes, 1, 3);
     let verdict = answer.verdict;
     let s = answer.sheet;
     match verdict {
         Verdict::Refused(why) => PlaceAnswer::refused(why),
-        Verdict::Accepted => plans::sheet_schedule(s, row, out),
+        Verdict::Accepted => sheet_schedules::sheet_schedule(s, row, out),
     }
 }
 
@@ -99,11 +111,11 @@ pub fn optimal_schedule(bytes: &[u8], row: usize, out: &mut [u8]) -> PlaceAnswer
 pub fn price(bytes: &[u8], row: usize, schedule: &[u8]) -> PriceAnswer
     ensures { λ r. ⌜ r ≡ pricing (now (bytes .entry)) row (now (schedule .entry)) ⌝ }
 {
-    let answer = reading::read_forms(bytes, 1, Sheet::NEWEST_FORM);
+    let answer = read_sheet::read_forms(bytes, 1, Sheet::NEWEST_FORM);
     let verdict = answer.verdict;
     let s = answer.sheet;
     match verdict {
         Verdict::Refused(why) => pricing::refused(why),
-        Verdict::Accepted => plans::sheet_price(s, row, schedule),
+        Verdict::Accepted => sheet_schedules::sheet_price(s, row, schedule),
     }
 }

@@ -21,7 +21,7 @@ use Rattle.model.proofs.Tables.{tabulate-eq}
 use Rattle.model.specs.Sums.{tabulate}
 use Rattle.buckets.specs.Buckets.{bucketCount, bucketAfter, allEmpty, noBucket}
 use Rattle.buckets.specs.inner.Pass.{touchOf, Limited, withTouch, passedAfter}
-use Rattle.search.specs.inner.Quotients.{timeSince}
+use Rattle.buckets.specs.inner.Quotients.{timeSince}
 use Rattle.buckets.specs.declared.Bucket.{Bucket}
 use Rattle.buckets.specs.declared.pass.Touch.{Touch}
 use Rattle.buckets.specs.declared.pass.Passed.{Passed}

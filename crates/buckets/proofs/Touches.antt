@@ -14,10 +14,10 @@ use Rattle.model.specs.declared.Kind.{Kind}
 use Rattle.model.specs.declared.PriceRow.{PriceRow}
 use Rattle.model.specs.Sheets.{RowsWithin, mostSteps, largestA, largestSize}
 use Rattle.buckets.specs.Buckets.{bucketOf, filed, bucketAfter, ended, endBucket}
-use Rattle.search.specs.FirstRow.{lastBucket}
+use Rattle.buckets.specs.FirstRow.{lastBucket}
 use Rattle.buckets.specs.inner.Pass.{touchOf, unplaced, Limited}
-use Rattle.search.specs.inner.Quotients.{timeSince, IsBucket, IsPlace, Quoted, unitsFor, rateOf}
-use Rattle.search.proofs.RatedSegments.{place-bucket}
+use Rattle.buckets.specs.inner.Quotients.{timeSince, IsBucket, IsPlace, Quoted, unitsFor, rateOf}
+use Rattle.buckets.proofs.RatedSegments.{place-bucket}
 use Rattle.buckets.specs.declared.pass.Touch.{Touch}
 use Rattle.buckets.proofs.Filling.{gathered, bucketOver}
 

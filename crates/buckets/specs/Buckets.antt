@@ -10,7 +10,7 @@ use Rattle.model.specs.Sums.{sum, tabulate}
 use Rattle.model.specs.Traces.{Trace, segs, steps, sizeOf, swapOf, touching, unreferenced}
 use Rattle.model.specs.Figures.{retentionOf, isReuse}
 use Rattle.model.specs.declared.PriceRow.{PriceRow}
-use Rattle.search.specs.FirstRow.{lastBucket, firstRow}
+use Rattle.buckets.specs.FirstRow.{lastBucket, firstRow}
 use Rattle.buckets.specs.declared.Bucket.{Bucket}
 use Rattle.buckets.specs.declared.Tally.{Tally}
 

@@ -1,6 +1,7 @@
 // The buckets of a sheet: one per row and the last. The single pass over the references fills them.
 // What they hold is written in specs/; nothing is assumed.
 pub mod pass;
+pub mod search;
 
 use model::Sheet;
 

@@ -10,7 +10,7 @@ ghost use Prim.Native.Nat.{_≤_, _^_};
 ghost use lib.ListN.{length, take};
 ghost use Rattle.model.specs.Sheets.{RowsWithin, RunWithin, runOf, mostSegs, mostRows};
 ghost use Rattle.buckets.specs.Buckets.{tallyOf, allEmpty};
-ghost use Rattle.search.specs.inner.Quotients.{Listed, Rated, timeSince};
+ghost use Rattle.buckets.specs.inner.Quotients.{Listed, Rated, timeSince};
 ghost use Rattle.buckets.specs.inner.Pass.{unplaced, Limited, withTouch, withEnd, Within, Passable, PassedOn, EndedAt};
 
 // A touch: whether it is a reuse, the segment's size, retention, swap cost, and the bucket that it goes to.
@@ -120,7 +120,7 @@ pub fn references(
         if i < sizes.len() {
             let mark = last[i];
             let mut x = touch_of(kind, a, sizes[i], mark, step as u16);
-            let k = search::bucket_of(rows, qs, rates[i], mark, step as u16);
+            let k = crate::search::bucket_of(rows, qs, rates[i], mark, step as u16);
             x.bucket = k;
             let b = buckets[k];
             buckets[k] = add_touch(b, x);
@@ -153,7 +153,7 @@ pub fn ends(
     while i < sizes.len() {
         let mark = last[i];
         let mut x = touch_of(kind, a, sizes[i], mark, steps);
-        let k = search::bucket_of(rows, qs, rates[i], mark, steps);
+        let k = crate::search::bucket_of(rows, qs, rates[i], mark, steps);
         x.bucket = k;
         let b = buckets[k];
         buckets[k] = add_end(b, x);
@@ -175,8 +175,8 @@ pub fn tally(
     requires { ⌜ (rows ≤ mostRows) × RowsWithin (take rows prices) × RunWithin (runOf kind a (now sizes) (now warm) (now refs)) ⌝ }
     ensures { λ r. ⌜ r ≡ tallyOf (take rows prices) (runOf kind a (now (sizes .entry)) (now (warm .entry)) (now (refs .entry))) ⌝ }
 {
-    let quotients = search::quotients(a, prices, rows);
-    let rates = search::rates(kind, a, sizes);
+    let quotients = crate::search::quotients(a, prices, rows);
+    let rates = crate::search::rates(kind, a, sizes);
     let qs = &quotients[..Sheet::MAX_ROWS];
     let of_segments = &rates[..Sheet::MAX_SEGS];
     let empty = empty_buckets();

@@ -1,6 +1,6 @@
 pub mod Digits
-pub mod Written
+pub mod Leading
+pub mod Padded
 pub mod Readings
 pub mod Scanned
-pub mod Padded
-pub mod Leading
+pub mod Written

@@ -17,11 +17,11 @@ use Rattle.model.specs.declared.Verdict.the-variants.{Accepted, Refused}
 use Rattle.sheet.specs.Answers.{answerOf}
 use Rattle.sheet.specs.declared.SheetAnswer.{SheetAnswer}
 use Rattle.sheet.proofs.Held.{held}
-use Rattle.dinpages.specs.Pages.{Touched, touches, refused}
-use Rattle.dinpages.specs.Pages.{segmentCount, touchedWith}
+use Rattle.din.specs.Pages.{Touched, touches, refused}
+use Rattle.din.specs.Pages.{segmentCount, touchedWith}
 use Rattle.din.specs.Import.{sheetOfTouched, imported}
-use Rattle.dinpages.specs.inner.Held.{importedOf}
-use Rattle.dinpages.specs.declared.Imported.{Imported}
+use Rattle.din.specs.inner.Held.{importedOf}
+use Rattle.din.specs.declared.pages.Imported.{Imported}
 use Rattle.din.proofs.Results.{touched-within}
 
 isAccepted : Verdict → Bool

@@ -10,9 +10,9 @@ use lib.ListN.{replicate}
 use Rattle.model.specs.Refusals.{numberOf}
 use Rattle.sheet.specs.Lines.{sameBytes}
 use Rattle.sheet.specs.Reading.{Outcome, accepted, rejected}
-use Rattle.dinlines.specs.Lines.{linesOf, digitOf, allDigits, valueFrom, addressOf}
-use Rattle.dinpages.specs.Pages.{placeIn, withPage, firstsAfter, firsts, segmentsOf, tooMany, touchedFrom, touchedBy}
-use Rattle.dinpages.specs.Pages.{touchedWith}
+use Rattle.din.specs.Lines.{linesOf, digitOf, allDigits, valueFrom, addressOf}
+use Rattle.din.specs.Pages.{placeIn, withPage, firstsAfter, firsts, segmentsOf, tooMany, touchedFrom, touchedBy}
+use Rattle.din.specs.Pages.{touchedWith}
 use Rattle.din.specs.Import.{sheetOfTouched, imported}
 
 -- an example: k and a trace, with the number of segments and the references of its sheet, or with the number of its refusal; or, with

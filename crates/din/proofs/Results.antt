@@ -19,13 +19,13 @@ use Rattle.model.specs.declared.Refusal.the-variants.{PageOutOfRange, TraceMalf
 use Rattle.sheet.specs.Reading.{Outcome, accepted, rejected, readSheet}
 use Rattle.sheet.specs.Writing.{sheetText}
 use Rattle.sheet.proofs.RoundTrip.{written-then-read}
-use Rattle.dinlines.specs.Lines.{Lines, end, line, linesOf, addressOf}
-use Rattle.dinpages.specs.Pages.{Touched, touches, refused, pageOf, placeIn, firsts}
-use Rattle.dinpages.specs.Pages.{firstsAfter, segmentsOf, tooMany, touchedFrom, touchedBy}
+use Rattle.din.specs.Lines.{Lines, end, line, linesOf, addressOf}
+use Rattle.din.specs.Pages.{Touched, touches, refused, pageOf, placeIn, firsts}
+use Rattle.din.specs.Pages.{firstsAfter, segmentsOf, tooMany, touchedFrom, touchedBy}
 use Rattle.din.specs.Traced.{andAddress, addresses, lineCount, pagesIn, pageAt, pagesBefore}
-use Rattle.dinpages.specs.Pages.{leastPower, largestPower, segmentCount, touchedWith}
+use Rattle.din.specs.Pages.{leastPower, largestPower, segmentCount, touchedWith}
 use Rattle.din.specs.Import.{sheetOfPages, sheetOfTouched, imported}
-use Rattle.dinpages.proofs.Firsts.{place-le, place-page, known, segments-length, segment-at, segment-before, firsts-absent}
+use Rattle.din.proofs.Firsts.{place-le, place-page, known, segments-length, segment-at, segment-before, firsts-absent}
 
 -- ---- the lines of a trace that is taken
 

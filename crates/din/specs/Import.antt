@@ -6,7 +6,7 @@ use Rattle.model.specs.Sheets.{SheetValue}
 use Rattle.model.specs.declared.Kind.the-variants.{Time}
 use Rattle.model.specs.declared.PriceRow.{PriceRow}
 use Rattle.sheet.specs.Reading.{Outcome, accepted, rejected}
-use Rattle.dinpages.specs.Pages.{Touched, touches, refused, segmentCount, segmentsOf, touchedWith}
+use Rattle.din.specs.Pages.{Touched, touches, refused, segmentCount, segmentsOf, touchedWith}
 
 -- the sheet of the pages touched, with the rows: form 1, kind time, a=0, every size 1, no warm segment
 abbrev pub sheetOfPages : List ℕ → List PriceRow → SheetValue

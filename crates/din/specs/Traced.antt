@@ -3,8 +3,8 @@ use Prim.Native.Nat.{ℕ, suc}
 use mathlib.Core.List.{List, [], _∷_, map}
 use mathlib.Core.Option.{Option, none, some}
 use lib.ListN.{getD, take}
-use Rattle.dinlines.specs.Lines.{Lines, end, line, linesOf, addressOf}
-use Rattle.dinpages.specs.Pages.{pageOf}
+use Rattle.din.specs.Lines.{Lines, end, line, linesOf, addressOf}
+use Rattle.din.specs.Pages.{pageOf}
 
 -- the addresses of the lines, and how many lines there are
 abbrev pub andAddress : Option ℕ → List ℕ → List ℕ

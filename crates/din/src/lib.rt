@@ -1,5 +1,8 @@
 // The import of din traces: the pages that the lines of a trace touch as the segments of a sheet, with the rows of a head that was read.
 // What the answer means is written in specs/; nothing is assumed.
+mod lines;
+mod pages;
+
 use model::Head;
 use model::Kind;
 use model::Sheet;
@@ -39,7 +42,7 @@ pub fn import(bytes: &[u8], k: u64, rows: Head) -> SheetAnswer
     requires { ⌜ rows ≡ headOf (headValueOf rows) ⌝ }
     ensures { λ r. ⌜ r ≡ answerOf (imported k (now (bytes .entry)) (headValueOf rows .rows)) ⌝ }
 {
-    let found = dinpages::trace(bytes, k);
+    let found = pages::trace(bytes, k);
     let verdict = found.verdict;
     match verdict {
         Verdict::Refused(why) => SheetAnswer {

@@ -1,9 +1,9 @@
 // The misses of least-recently-used replacement for other languages.
-// What is returned and left is written in crate `lentcalls`; nothing is assumed.
-use lentcalls::tell;
-ghost use Rattle.listcalls.specs.Curving.{lruPlainResult};
-ghost use Rattle.lentcalls.specs.Curving.{LruCall};
-ghost use Rattle.lentcalls.specs.Exported.{PlaceCall};
+// What is returned and left is written in specs/; nothing is assumed.
+use crate::lent_calls::tell;
+ghost use Rattle.analyser.specs.Curving.{lruPlainResult};
+ghost use Rattle.exports.specs.Curving.{LruCall};
+ghost use Rattle.exports.specs.Exported.{PlaceCall};
 
 // The misses with 1, 2, .., segs frames, by stack distances, how many numbers, and the entries of the recency list that were looked at: the
 // sheet's refusals, 26, 27, 11.
@@ -17,7 +17,7 @@ pub extern "C" fn segtrace_lru(
     ensures { λ r. ⌜ LruCall (now (sheet .entry)) (now (out .entry)) (now (out .exit))
         (now (written .entry)) (now (written .exit)) (now (looked .entry)) (now (looked .exit)) r ⌝ }
 {
-    lentcalls::lru(sheet, out, written, looked)
+    crate::lent_calls::lru(sheet, out, written, looked)
 }
 
 // The same misses by simulating each number of frames in turn: the sheet's refusals, 26, 27, 11.
@@ -26,5 +26,5 @@ pub extern "C" fn segtrace_lru_plain(sheet: &[u8], out: &mut [u64], written: &mu
     ensures { λ r. ⌜ PlaceCall (lruPlainResult (now (sheet .entry))) (now (out .entry)) (now (out .exit))
         (now (written .entry)) (now (written .exit)) r ⌝ }
 {
-    tell(listcalls::curving::lru_plain(sheet, out), written)
+    tell(analyser::curving::lru_plain(sheet, out), written)
 }

@@ -1,8 +1,8 @@
 // The call on a trace in the din text form: the trace as a sheet.
-// What it returns and leaves is written in crates `lentcalls` and `sheetcalls`; nothing is assumed.
-use lentcalls::tell;
-ghost use Rattle.sheetcalls.specs.Importing.{importResult};
-ghost use Rattle.lentcalls.specs.Exported.{PlaceCall};
+// What it returns and leaves is written in specs/ and in crate `analyser`; nothing is assumed.
+use crate::lent_calls::tell;
+ghost use Rattle.analyser.specs.Importing.{importResult};
+ghost use Rattle.exports.specs.Exported.{PlaceCall};
 
 // The sheet of a trace with pages of 2 to the power k bytes and the rows of a given sheet, and its length: the given sheet's refusals, 23,
 // 24, 25, 11.
@@ -18,7 +18,7 @@ pub extern "C" fn segtrace_import_din(
         (now (written .entry)) (now (written .exit)) r ⌝ }
 {
     tell(
-        sheetcalls::importing::import_din(trace, k, sheet, out),
+        analyser::importing::import_din(trace, k, sheet, out),
         written,
     )
 }

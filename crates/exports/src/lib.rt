@@ -1,15 +1,17 @@
 // The analyser's calls for programs in C and other languages, as include/segtrace.h declares them: on numbers, slices and lists of
 // numbers. Each returns 0 or the number of the refusal; refused, it leaves all that it was lent as it was.
-// What each returns and leaves is written in specs/ of `lentcalls` and `lentrecorder`; nothing is assumed.
+// What each returns and leaves is written in specs/; nothing is assumed.
 pub mod curving;
 pub mod importing;
+mod lent_calls;
+mod lent_recorder;
 pub mod modifying;
 pub mod operating;
 pub mod pairing;
 pub mod recording;
 pub mod windowing;
 
-use lentcalls::tell;
+use lent_calls::tell;
 use model::RowFigures;
 use model::Sheet;
 use model::Verdict;
@@ -17,11 +19,11 @@ ghost use mathlib.Core.Path.{_≡_};
 ghost use Rattle.model.specs.Refusals.{verdictNumber};
 ghost use Rattle.sheet.specs.Reading.{readSheet};
 ghost use Rattle.sheet.specs.Answers.{answerOf};
-ghost use Rattle.numbers.specs.Figures.{figureList};
+ghost use Rattle.c_lists.specs.Figures.{figureList};
 ghost use Rattle.analyser.specs.Answers.{figuresAnswer, listingResult, pageResult, scheduleResult, pricing};
-ghost use Rattle.rowcalls.specs.Answers.{marginAnswer, sizeAnswer, billAnswer};
-ghost use Rattle.sheetcalls.specs.Converting.{toForm2Result, toForm1Result};
-ghost use Rattle.lentcalls.specs.Exported.{orOld, priceList, rewriteResult, rowsResult, PlaceCall};
+ghost use Rattle.analyser.specs.RowAnswers.{marginAnswer, sizeAnswer, billAnswer};
+ghost use Rattle.analyser.specs.Converting.{toForm2Result, toForm1Result};
+ghost use Rattle.exports.specs.Exported.{orOld, priceList, rewriteResult, rowsResult, PlaceCall};
 
 // Whether the bytes are a sheet: the sheet's refusals.
 #[no_mangle]
@@ -40,11 +42,11 @@ pub extern "C" fn segtrace_rewrite(sheet: &[u8], out: &mut [u8], written: &mut u
     ensures { λ r. ⌜ PlaceCall (rewriteResult (now (sheet .entry))) (now (out .entry)) (now (out .exit))
         (now (written .entry)) (now (written .exit)) r ⌝ }
 {
-    let answer = reading::read_forms(sheet, 1, Sheet::NEWEST_FORM);
+    let answer = read_sheet::read_forms(sheet, 1, Sheet::NEWEST_FORM);
     let verdict = answer.verdict;
     match verdict {
         Verdict::Accepted => tell(
-            writing::write_within(answer.sheet, sheet.len(), out),
+            write_sheet::write_within(answer.sheet, sheet.len(), out),
             written,
         ),
         Verdict::Refused(why) => model::number(why),
@@ -57,7 +59,7 @@ pub extern "C" fn segtrace_to_form_2(sheet: &[u8], out: &mut [u8], written: &mut
     ensures { λ r. ⌜ PlaceCall (toForm2Result (now (sheet .entry))) (now (out .entry)) (now (out .exit))
         (now (written .entry)) (now (written .exit)) r ⌝ }
 {
-    tell(sheetcalls::converting::to_form_2(sheet, out), written)
+    tell(analyser::converting::to_form_2(sheet, out), written)
 }
 
 // A sheet of form 2 in form 1, and its length: the sheet's refusals, where any other form is 4, 17, 11.
@@ -66,7 +68,7 @@ pub extern "C" fn segtrace_to_form_1(sheet: &[u8], out: &mut [u8], written: &mut
     ensures { λ r. ⌜ PlaceCall (toForm1Result (now (sheet .entry))) (now (out .entry)) (now (out .exit))
         (now (written .entry)) (now (written .exit)) r ⌝ }
 {
-    tell(sheetcalls::converting::to_form_1(sheet, out), written)
+    tell(analyser::converting::to_form_1(sheet, out), written)
 }
 
 // The figures of a row in the listing's order: the sheet's refusals, 7.
@@ -84,7 +86,7 @@ pub extern "C" fn segtrace_figures(
     let verdict = answer.verdict;
     match verdict {
         Verdict::Accepted => {
-            *figures = numbers::of_row(answer.figures);
+            *figures = c_lists::of_row(answer.figures);
             0
         }
         Verdict::Refused(why) => model::number(why),
@@ -97,7 +99,7 @@ pub extern "C" fn segtrace_all_figures(sheet: &[u8], out: &mut [u64], written: &
     ensures { λ r. ⌜ PlaceCall (rowsResult (now (sheet .entry))) (now (out .entry)) (now (out .exit))
         (now (written .entry)) (now (written .exit)) r ⌝ }
 {
-    lentcalls::all_figures(sheet, out, written)
+    lent_calls::all_figures(sheet, out, written)
 }
 
 // The listing, and its length: the sheet's refusals, 11.
@@ -147,7 +149,7 @@ pub extern "C" fn segtrace_price(
         × (now (price .exit) ≡ orOld (pricing (now (sheet .entry)) row (now (schedule .entry)) .verdict)
         (priceList (pricing (now (sheet .entry)) row (now (schedule .entry)))) (now (price .entry))) ⌝ }
 {
-    lentcalls::price(sheet, row, schedule, price)
+    lent_calls::price(sheet, row, schedule, price)
 }
 
 // The margin of a reference, counted from 1, at a row: the sheet's refusals, 7, 14, 15.
@@ -157,7 +159,7 @@ pub extern "C" fn segtrace_margin(sheet: &[u8], row: u64, reference: u64, margin
         × (now (margin .exit) ≡ orOld (marginAnswer (now (sheet .entry)) row reference .verdict)
         (marginAnswer (now (sheet .entry)) row reference .margin) (now (margin .entry))) ⌝ }
 {
-    let answer = rowcalls::margins::margin(sheet, row as usize, reference as usize);
+    let answer = analyser::margins::margin(sheet, row as usize, reference as usize);
     let verdict = answer.verdict;
     let value = answer.margin;
     match verdict {
@@ -176,7 +178,7 @@ pub extern "C" fn segtrace_size(sheet: &[u8], ceiling: u64, row: &mut u64) -> u6
         × (now (row .exit) ≡ orOld (sizeAnswer (now (sheet .entry)) ceiling .verdict)
         (sizeAnswer (now (sheet .entry)) ceiling .row) (now (row .entry))) ⌝ }
 {
-    lentcalls::size(sheet, ceiling, row)
+    lent_calls::size(sheet, ceiling, row)
 }
 
 // The bill of a row in cents, at two rates and a minimum: the sheet's refusals, 7, 18.
@@ -193,7 +195,7 @@ pub extern "C" fn segtrace_bill(
         × (now (cents .exit) ≡ orOld (billAnswer (now (sheet .entry)) row «memory_rate» «load_rate» minimum .verdict)
         (billAnswer (now (sheet .entry)) row «memory_rate» «load_rate» minimum .cents .0) (now (cents .entry))) ⌝ }
 {
-    let answer = rowcalls::billing::bill(sheet, row as usize, memory_rate, load_rate, minimum);
+    let answer = analyser::billing::bill(sheet, row as usize, memory_rate, load_rate, minimum);
     let verdict = answer.verdict;
     match verdict {
         Verdict::Accepted => {

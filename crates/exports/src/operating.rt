@@ -1,8 +1,8 @@
 // Every operating point of a sheet for other languages.
-// What is returned and left is written in crate `lentcalls`; nothing is assumed.
-use lentcalls::tell;
-ghost use Rattle.listcalls.specs.Operating.{pointsResult};
-ghost use Rattle.lentcalls.specs.Exported.{PlaceCall};
+// What is returned and left is written in specs/; nothing is assumed.
+use crate::lent_calls::tell;
+ghost use Rattle.analyser.specs.Operating.{pointsResult};
+ghost use Rattle.exports.specs.Exported.{PlaceCall};
 
 // Every operating point as four numbers, R, w, optmem and load, and how many numbers: the sheet's refusals, 11.
 #[no_mangle]
@@ -10,5 +10,5 @@ pub extern "C" fn segtrace_points(sheet: &[u8], out: &mut [u64], written: &mut u
     ensures { λ r. ⌜ PlaceCall (pointsResult (now (sheet .entry))) (now (out .entry)) (now (out .exit))
         (now (written .entry)) (now (written .exit)) r ⌝ }
 {
-    tell(listcalls::operating::points(sheet, out), written)
+    tell(analyser::operating::points(sheet, out), written)
 }

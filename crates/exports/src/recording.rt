@@ -1,12 +1,12 @@
 // The recorder's calls, on a recorder that the caller holds as lists of numbers. Whatever numbers stand there, each call returns.
-// What each returns and leaves is written in crate `lentrecorder`; nothing is assumed.
+// What each returns and leaves is written in specs/; nothing is assumed.
 use buckets::Bucket;
 use buckets::Tally;
 use model::RowFigures;
 use model::Sheet;
 ghost use Rattle.recorder.specs.Recorders.{Touched, TouchedAll};
-ghost use Rattle.recordnumbers.specs.Recorders.{lists};
-ghost use Rattle.lentrecorder.specs.Recording.{StartCall, TouchCall, IdleCall, FiguresCall};
+ghost use Rattle.c_lists.specs.Recorders.{lists};
+ghost use Rattle.exports.specs.Recording.{StartCall, TouchCall, IdleCall, FiguresCall};
 
 // A recorder with the kind, a, sizes, rows and warm segments of a sheet and no steps: the sheet's refusals.
 #[no_mangle]
@@ -27,7 +27,7 @@ pub extern "C" fn segtrace_recorder_start(
         (lists (now (head .exit)) (now (counts .exit)) (now (sizes .exit)) (now (holds .exit))
         (now (h .exit)) (now (d .exit)) (now (last .exit)) (now (sums .exit))) r ⌝ }
 {
-    lentrecorder::start(sheet, head, counts, sizes, holds, h, d, last, sums)
+    crate::lent_recorder::start(sheet, head, counts, sizes, holds, h, d, last, sums)
 }
 
 // Takes one reference: 4, 13.
@@ -49,7 +49,7 @@ pub extern "C" fn segtrace_recorder_touch(
         (lists (now (head .exit)) (now (counts .exit)) (now (sizes .exit)) (now (holds .exit))
         (now (h .exit)) (now (d .exit)) (now (last .exit)) (now (sums .exit))) r ⌝ }
 {
-    lentrecorder::touch(head, counts, sizes, holds, h, d, last, sums, segment)
+    crate::lent_recorder::touch(head, counts, sizes, holds, h, d, last, sums, segment)
 }
 
 // Takes one step without a touch, by the counts alone: 13.
@@ -57,7 +57,7 @@ pub extern "C" fn segtrace_recorder_touch(
 pub extern "C" fn segtrace_recorder_idle(counts: &mut [u64; 3]) -> u64
     ensures { λ r. ⌜ IdleCall (now (counts .entry)) (now (counts .exit)) r ⌝ }
 {
-    model::verdict_number(recordnumbers::idle(counts))
+    model::verdict_number(c_lists::record_numbers::idle(counts))
 }
 
 // Takes all references, or none where one would be refused: 4, 13.
@@ -79,7 +79,7 @@ pub extern "C" fn segtrace_recorder_touch_all(
         (lists (now (head .exit)) (now (counts .exit)) (now (sizes .exit)) (now (holds .exit))
         (now (h .exit)) (now (d .exit)) (now (last .exit)) (now (sums .exit))) r ⌝ }
 {
-    lentrecorder::touch_all(head, counts, sizes, holds, h, d, last, sums, segments)
+    crate::lent_recorder::touch_all(head, counts, sizes, holds, h, d, last, sums, segments)
 }
 
 // The figures of a row at this moment: 7.
@@ -101,5 +101,5 @@ pub extern "C" fn segtrace_recorder_figures(
         (now (h .entry)) (now (d .entry)) (now (last .entry)) (now (sums .entry)))
         row (now (figures .entry)) (now (figures .exit)) r ⌝ }
 {
-    lentrecorder::figures(head, counts, sizes, holds, h, d, last, sums, row, figures)
+    crate::lent_recorder::figures(head, counts, sizes, holds, h, d, last, sums, row, figures)
 }

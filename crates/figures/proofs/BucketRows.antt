@@ -14,9 +14,9 @@ use Rattle.model.specs.Figures.{isReuse, retentionOf, kept}
 use Rattle.model.specs.Sheets.{RowsWithin, rowIn}
 use Rattle.model.specs.declared.PriceRow.{PriceRow}
 use Rattle.buckets.specs.Buckets.{bucketCount, bucketOf}
-use Rattle.search.specs.FirstRow.{lastBucket, firstRow}
-use Rattle.search.proofs.Halving.{Lasts}
-use Rattle.search.proofs.FirstRow.{keepsAt, keeps-after}
+use Rattle.buckets.specs.FirstRow.{lastBucket, firstRow}
+use Rattle.buckets.proofs.Halving.{Lasts}
+use Rattle.buckets.proofs.FirstRow.{keepsAt, keeps-after}
 
 module _ (R w : ℕ) where
   first-row-within : (rows : List PriceRow) (r : ℕ) → r + length rows ≤ lastBucket

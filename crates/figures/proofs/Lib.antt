@@ -1,4 +1,5 @@
 pub mod BucketRows
+pub mod ByKind
 pub mod Filed
 pub mod Limits
 pub mod Starts

@@ -23,7 +23,7 @@ use Rattle.model.proofs.LastTouches.{unreferenced-within}
 use Rattle.buckets.specs.Buckets.{bucketCount, bucketOf, filed, ended, bucketAfter, tallyOf, noBucket}
 use Rattle.buckets.specs.inner.Pass.{Within, Roomy, passedAfter, passedOf}
 use Rattle.figures.specs.inner.Sweep.{summed, withStart}
-use Rattle.rowsums.specs.inner.OneRow.{byKind, largestSwap, retentionBound, mostItems, Holds}
+use Rattle.figures.specs.inner.OneRow.{byKind, largestSwap, retentionBound, mostItems, Holds}
 use Rattle.buckets.specs.declared.Bucket.{Bucket}
 use Rattle.model.proofs.Tables.{getD-tabulate}
 use Rattle.figures.proofs.Filed.{filed-below, ended-below}

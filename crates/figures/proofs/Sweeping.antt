@@ -22,7 +22,7 @@ use Rattle.buckets.specs.Buckets.{bucketCount}
 use Rattle.model.specs.Sums.{tabulate}
 use Rattle.figures.specs.Rows.{figuresIn, runFigures}
 use Rattle.figures.specs.inner.Sweep.{summed, withStart, noRowFigures, Tallied}
-use Rattle.rowsums.specs.inner.OneRow.{byKind, rowFrom, mostItems, Holds, RowFits}
+use Rattle.figures.specs.inner.OneRow.{byKind, rowFrom, mostItems, Holds, RowFits}
 use Rattle.buckets.specs.declared.Bucket.{Bucket}
 use Rattle.buckets.specs.declared.Tally.{Tally}
 use Rattle.figures.specs.declared.rows.StartSwaps.{StartSwaps}

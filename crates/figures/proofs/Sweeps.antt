@@ -17,7 +17,7 @@ use Rattle.model.specs.declared.PriceRow.{PriceRow}
 use Rattle.model.proofs.Sums.{sum-eq}
 use Rattle.buckets.specs.Buckets.{bucketCount, filed, ended, bucketAfter, endBucket, tallyOf, noBucket}
 use Rattle.figures.specs.inner.Sweep.{added, summed}
-use Rattle.rowsums.specs.inner.OneRow.{byKind, Holds}
+use Rattle.figures.specs.inner.OneRow.{byKind, Holds}
 use Rattle.buckets.specs.declared.Bucket.{Bucket}
 use Rattle.model.proofs.Tables.{getD-tabulate}
 use Rattle.figures.proofs.Filed.{filed-all, filed-kept, ended-kept}

@@ -14,7 +14,7 @@ use Rattle.model.specs.declared.PriceRow.{PriceRow}
 use Rattle.model.proofs.FirstTouches.{started}
 use Rattle.model.proofs.Loads.{overTouches-eq}
 use Rattle.figures.specs.inner.Sweep.{withStart}
-use Rattle.rowsums.specs.inner.OneRow.{byKind, loadFrom, wsmemFrom, wsspaceFrom, wsoccFrom, rowFrom, KeptWithin}
+use Rattle.figures.specs.inner.OneRow.{byKind, loadFrom, wsmemFrom, wsspaceFrom, wsoccFrom, rowFrom, KeptWithin}
 use Rattle.buckets.specs.declared.Bucket.{Bucket}
 use Rattle.figures.proofs.Sweeps.{bucketBy, space-of}
 use Rattle.figures.proofs.WorkingSets.{touches-split, kept-swaps-within, working-set, smaller-priced, sized-priced}

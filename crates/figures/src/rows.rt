@@ -16,7 +16,7 @@ ghost use Rattle.model.specs.Sheets.{runOf, mostSteps, mostSegs, mostRows};
 ghost use Rattle.buckets.specs.Buckets.{bucketCount, noBucket};
 ghost use Rattle.figures.specs.Rows.{runFigures};
 ghost use Rattle.figures.specs.inner.Sweep.{added, summed, startSwaps, withStart, noRowFigures, Tallied};
-ghost use Rattle.rowsums.specs.inner.OneRow.{mostItems, Holds};
+ghost use Rattle.figures.specs.inner.OneRow.{mostItems, Holds};
 
 // A bucket that holds nothing.
 fn none() -> Bucket
@@ -142,7 +142,7 @@ pub fn all_rows(
     let touches = add_up(buckets);
     let start = start_swaps(a, sizes, warm);
     let all = with_start(touches, start);
-    let cost = rowsums::by_kind(kind, touches.count, touches.volume);
+    let cost = crate::row_sums::by_kind(kind, touches.count, touches.volume);
     let mut kept = none();
     let mut ends = none();
     let mut out = no_figures();
@@ -152,7 +152,17 @@ pub fn all_rows(
         kept = add(kept, b);
         ends = add(ends, e);
         let row = prices[r];
-        out[r] = rowsums::row_figures(kind, a, row, steps, cost, touches.volume, all, kept, ends);
+        out[r] = crate::row_sums::row_figures(
+            kind,
+            a,
+            row,
+            steps,
+            cost,
+            touches.volume,
+            all,
+            kept,
+            ends,
+        );
     }
     out
 }

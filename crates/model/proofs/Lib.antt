@@ -6,6 +6,7 @@ pub mod Demand
 pub mod DoubleSums
 pub mod Empty
 pub mod Examples
+pub mod FigureBounds
 pub mod FirstTouches
 pub mod Growth
 pub mod LastTouches

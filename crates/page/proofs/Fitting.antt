@@ -5,7 +5,7 @@ use lib.ListN.{length}
 use Rattle.model.specs.Figures.{misses, volume, load, mean}
 use Rattle.model.specs.Sheets.{SheetValue, Valid, traceOf, rowAt}
 use Rattle.model.specs.Rows.{rowFigures}
-use Rattle.bounds.proofs.FigureBounds.{misses-within, volume-within, load-within, mean-within, sizes-within}
+use Rattle.model.proofs.FigureBounds.{misses-within, volume-within, load-within, mean-within, sizes-within}
 use Rattle.decimal.proofs.Written.{written-length}
 use Rattle.figures.specs.Rows.{figuresAt}
 use Rattle.page.specs.Page.{Fits}

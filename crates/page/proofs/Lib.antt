@@ -1,5 +1,5 @@
 pub mod Blanks
+pub mod Fitting
 pub mod Lines
 pub mod Parts
-pub mod Fitting
 pub mod Printed

@@ -16,7 +16,7 @@ use Rattle.model.specs.declared.Kind.the-variants.{Time, Space}
 use Rattle.model.specs.declared.RowFigures.{RowFigures}
 use Rattle.decimal.specs.Decimal.{written}
 use Rattle.decimal.proofs.Written.{written-length}
-use Rattle.lines.specs.Keys.{kindKey, kindWord, aKey}
+use Rattle.text.specs.Keys.{kindKey, kindWord, aKey}
 use Rattle.page.specs.Page.{
   lineWidth,
   pageHeight,

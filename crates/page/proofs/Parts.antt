@@ -9,9 +9,9 @@ use Rattle.model.specs.declared.Kind.{Kind}
 use Rattle.model.specs.declared.Kind.the-variants.{Time, Space}
 use Rattle.model.specs.declared.RowFigures.{RowFigures}
 use Rattle.decimal.specs.Decimal.{written}
-use Rattle.lines.specs.Keys.{lineFeed, kindKey, kindWord, aKey}
-use Rattle.lines.specs.Texts.{linesText}
-use Rattle.lines.proofs.Runs.{lines-next}
+use Rattle.text.specs.Keys.{lineFeed, kindKey, kindWord, aKey}
+use Rattle.text.specs.Texts.{linesText}
+use Rattle.text.proofs.Runs.{lines-next}
 use Rattle.page.specs.Page.{
   rowsOnPage,
   blank,

@@ -1,12 +1,12 @@
 // The page for the binder as text: its lines one after the other into the lent place.
 // What the text is stands in specs/Page.antt. That every field fits its column is asked of the figures, and proved of every accepted sheet.
-use lines::put;
 use model::Kind;
 use model::PlaceAnswer;
 use model::Refusal;
 use model::RowFigures;
 use model::Sheet;
 use model::Verdict;
+use text::put;
 ghost use mathlib.Core.Path.{_≡_};
 ghost use mathlib.Core.List.{[], _∷_, _++_, map};
 ghost use Prim.Native.Nat.{ℕ, _+_, _*_, _-_, _≤_, _<_};
@@ -15,8 +15,8 @@ ghost use Rattle.model.specs.Sheets.{mostRows};
 ghost use Rattle.decimal.specs.Decimal.{written};
 ghost use Rattle.model.specs.Places.{gives, PlaceLeft};
 ghost use Rattle.model.specs.Rows.{zeroFigures};
-ghost use Rattle.lines.specs.inner.Puts.{Put};
-ghost use Rattle.lines.specs.Keys.{kindKey, kindWord, aKey};
+ghost use Rattle.text.specs.inner.Puts.{Put};
+ghost use Rattle.text.specs.Keys.{kindKey, kindWord, aKey};
 ghost use Rattle.page.specs.Page.{blank, blanks, field, titleLine, namesLine, rowLine, blankLine};
 ghost use Rattle.page.specs.Page.{pageLines, joined, pages, pagesLength, Fits};
 

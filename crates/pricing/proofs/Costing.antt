@@ -15,10 +15,10 @@ use Rattle.model.proofs.Sums.{sum-none, sum-eq, sum-add}
 use Rattle.model.proofs.Touches.{touching-sum}
 use Rattle.pricing.specs.Checking.{scheduleVerdict, priceAnswer}
 use Rattle.pricing.specs.inner.StartCost.{startCost}
-use Rattle.stepprice.specs.declared.Costs.{Costs}
-use Rattle.stepprice.specs.StepVerdicts.{stepsVerdict}
-use Rattle.stepprice.specs.inner.Steps.{heldCost, memoryThrough, loadThrough, Through}
-use Rattle.stepprice.proofs.StepCosts.{memory-within, load-within}
+use Rattle.pricing.specs.declared.step_price.Costs.{Costs}
+use Rattle.pricing.specs.StepVerdicts.{stepsVerdict}
+use Rattle.pricing.specs.inner.Steps.{heldCost, memoryThrough, loadThrough, Through}
+use Rattle.pricing.proofs.StepCosts.{memory-within, load-within}
 use Rattle.pricing.proofs.Verdicts.{accepted-permitted, whole-verdict, accepted-answer, priced}
 
 -- before the first step: what is held is the start set

@@ -9,7 +9,7 @@ use Rattle.model.specs.Traces.{Trace}
 use Rattle.model.specs.declared.Kind.the-variants.{Time}
 use Rattle.model.specs.declared.Refusal.the-variants.{HeldNotBefore}
 use Rattle.model.specs.declared.Verdict.the-variants.{Accepted, Refused}
-use Rattle.stepprice.specs.StepVerdicts.{missing, enters, someEnters, stepVerdict, stepsVerdict}
+use Rattle.pricing.specs.StepVerdicts.{missing, enters, someEnters, stepVerdict, stepsVerdict}
 use Rattle.pricing.specs.Checking.{scheduleVerdict}
 
 -- two segments, of which 0 is warm; steps 1 and 2 touch nothing

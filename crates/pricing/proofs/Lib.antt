@@ -1,4 +1,11 @@
+pub mod Bytes
+pub mod Changing
 pub mod Costing
 pub mod Examples
+pub mod Held
+pub mod Runs
 pub mod StartCosts
+pub mod StepCosts
+pub mod StepFaults
 pub mod Verdicts
+pub mod Words

@@ -21,8 +21,8 @@ use Rattle.model.proofs.Touches.{touched-at}
 use Rattle.model.proofs.Optimal.{optimal-permitted, optimal-memory, optimal-load, optimal-total}
 use Rattle.pricing.specs.declared.PriceAnswer.{PriceAnswer}
 use Rattle.pricing.specs.Checking.{scheduleVerdict, noPrice, priceAnswer}
-use Rattle.stepprice.specs.StepVerdicts.{missing, enters, someEnters, stepVerdict, firstOf, stepsVerdict}
-use Rattle.stepprice.proofs.StepFaults.{none-enters, step-accepted, held-touched}
+use Rattle.pricing.specs.StepVerdicts.{missing, enters, someEnters, stepVerdict, firstOf, stepsVerdict}
+use Rattle.pricing.proofs.StepFaults.{none-enters, step-accepted, held-touched}
 
 -- two verdicts are accepted where the first of them is
 first-left : (v w : Verdict) → firstOf v w ≡ Accepted → v ≡ Accepted

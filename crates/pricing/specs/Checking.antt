@@ -11,7 +11,7 @@ use Rattle.model.specs.declared.Refusal.{Refusal}
 use Rattle.model.specs.declared.Refusal.the-variants.{ScheduleLength}
 use Rattle.model.specs.declared.Verdict.{Verdict}
 use Rattle.model.specs.declared.Verdict.the-variants.{Accepted, Refused}
-use Rattle.stepprice.specs.StepVerdicts.{stepsVerdict}
+use Rattle.pricing.specs.StepVerdicts.{stepsVerdict}
 use Rattle.pricing.specs.declared.PriceAnswer.{PriceAnswer}
 
 -- a whole schedule: 8 where it does not have 32 × refs bytes, then its steps

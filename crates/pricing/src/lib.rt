@@ -1,6 +1,10 @@
 // Checking and pricing a schedule handed in: one pass over its steps that keeps the costs of those priced so far. What a price is is
 // written in specs/; nothing is assumed.
-use heldbits::StartWords;
+mod byte_words;
+mod held_bits;
+mod step_price;
+
+use held_bits::StartWords;
 use model::Kind;
 use model::LoadUnits;
 use model::MemoryUnits;
@@ -8,15 +12,15 @@ use model::PriceRow;
 use model::Refusal;
 use model::Verdict;
 use schedule::Schedule;
-use stepprice::Costs;
-use stepprice::Stepped;
+use step_price::Costs;
+use step_price::Stepped;
 ghost use mathlib.Core.Path.{_≡_};
 ghost use mathlib.Core.Bool.{cond};
 ghost use Prim.Native.Nat.{_≤_, _<_};
 ghost use lib.ListN.{length};
 ghost use Rattle.model.specs.Sheets.{mostSegs, runOf, RunWithin};
 ghost use Rattle.model.specs.Costs.{unitCost};
-ghost use Rattle.heldbits.specs.inner.Held.{StartBits};
+ghost use Rattle.pricing.specs.inner.Held.{StartBits};
 ghost use Rattle.pricing.specs.Checking.{noPrice, priceAnswer};
 ghost use Rattle.pricing.specs.inner.StartCost.{startCost};
 
@@ -94,7 +98,7 @@ fn price_from(
     };
     let mut t = 0;
     while t < refs.len() {
-        let next = stepprice::step(kind, a, sizes, warm, refs, start, schedule, t, c);
+        let next = step_price::step(kind, a, sizes, warm, refs, start, schedule, t, c);
         match next {
             Stepped::Faulty(r) => return refused(r),
             Stepped::Priced(s) => c = s,
@@ -127,6 +131,6 @@ pub fn price(
 {
     let mask = schedule::starting::start_mask(warm);
     let n = Schedule::STEP_BYTES;
-    let start = heldbits::start_words(&mask[..n]);
+    let start = held_bits::start_words(&mask[..n]);
     price_from(kind, a, row, sizes, warm, refs, start, schedule)
 }

@@ -22,9 +22,9 @@ use Rattle.model.proofs.Tables.{length-tabulate, getD-tabulate}
 use Rattle.figures.specs.Rows.{figuresAt, allFigures}
 use Rattle.page.specs.Page.{pages, pagesOf, Fits}
 use Rattle.page.proofs.Fitting.{every-field-fits}
-use Rattle.report.specs.Listing.{listing, listingBytes, listingOf}
-use Rattle.report.proofs.ListingMost.{listing-within}
-use Rattle.report.proofs.ListingParts.{listing-same}
+use Rattle.listing.specs.Listing.{listing, listingBytes, listingOf}
+use Rattle.listing.proofs.ListingMost.{listing-within}
+use Rattle.listing.proofs.ListingParts.{listing-same}
 use Rattle.rows.proofs.RowFigures.{figures-at, figures-front}
 use Rattle.stores.specs.Rows.{rowModtotal}
 use Rattle.prints.specs.inner.Modtotals.{firstModtotals}

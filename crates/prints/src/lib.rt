@@ -1,5 +1,5 @@
 // The listing and the page of an accepted sheet, written into a lent place.
-// What the texts are is written in crates `report` and `page`; nothing is assumed.
+// What the texts are is written in crates `listing` and `page`; nothing is assumed.
 pub mod modtotals;
 
 use model::PlaceAnswer;
@@ -11,7 +11,7 @@ ghost use Rattle.model.specs.Standing.{Standing};
 ghost use Rattle.model.specs.Traces.{refsOf};
 ghost use Rattle.model.specs.Values.{valueOf};
 ghost use Rattle.page.specs.Page.{pagesOf};
-ghost use Rattle.report.specs.Listing.{listingOf};
+ghost use Rattle.listing.specs.Listing.{listingOf};
 
 // How many references an accepted sheet has: the steps whose entry is a segment.
 pub fn sheet_refs(s: Sheet) -> usize
@@ -40,10 +40,10 @@ pub fn sheet_listing(s: Sheet, out: &mut [u8]) -> PlaceAnswer
     let all = rows::all_figures(s);
     let refs = sheet_refs(s);
     let mut totals = modtotals::no_modtotals();
-    if rowtext::has_modtotal(s.form) {
+    if listing::row_text::has_modtotal(s.form) {
         totals = modtotals::all_modtotals(s, all);
     }
-    report::write(
+    listing::write(
         s.form,
         refs,
         s.steps,

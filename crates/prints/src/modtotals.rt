@@ -56,7 +56,7 @@ fn row_modtotal(
         (row .h) (row .d) ⌝ }
 {
     if any {
-        return total + modpass::stores(kind, a, row, sizes, warm, refs, marks);
+        return total + store_plan::mod_pass::stores(kind, a, row, sizes, warm, refs, marks);
     }
     total
 }

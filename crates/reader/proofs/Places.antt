@@ -7,7 +7,7 @@ use native.Mathlib.Numerals.{add-one}
 use native.Mathlib.Omega.{arith}
 use lib.ListN.{length, take, drop, length-append, length-drop, drop-of-length-le}
 use lib.Seq.{drop-drop}
-use Rattle.lines.specs.Keys.{lineFeed}
+use Rattle.text.specs.Keys.{lineFeed}
 use Rattle.sheet.specs.Lines.{Split, parts, none, splitAt}
 use Rattle.scan.specs.inner.AtPlace.{splitAtPlace}
 use Rattle.sheet.proofs.Parsing.{split-back}

@@ -13,7 +13,7 @@ use Rattle.model.specs.Sheets.{SheetValue}
 use Rattle.model.specs.declared.Kind.{Kind}
 use Rattle.model.specs.declared.Kind.the-variants.{Time, Space}
 use Rattle.model.specs.declared.PriceRow.{PriceRow}
-use Rattle.lines.specs.Keys.{lineFeed, slash, atSign, markLetter, formKey, sizeKey, rowKey, holdKey, refKey, kindWord}
+use Rattle.text.specs.Keys.{lineFeed, slash, atSign, markLetter, formKey, sizeKey, rowKey, holdKey, refKey, kindWord}
 use Rattle.sheet.specs.Lines.{splitAt}
 use Rattle.sheet.specs.Order.{sizesPart, pricesPart, warmPart, warmFor, tablesPart, headPart, refsPart, plainPart, stepsPart, entriesPart}
 use Rattle.sheet.specs.Order.{runPart, bodyPart, formLines, sheetPart, linesOf}

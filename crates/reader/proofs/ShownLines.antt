@@ -6,9 +6,9 @@ use mathlib.Core.List.{List, [], _∷_, _++_, map}
 use native.Mathlib.Nat.{le-of-suc-le-suc, not-suc-le-zero}
 use lib.Dec.{eqb}
 use lib.ListN.{length, getD}
-use Rattle.lines.specs.Keys.{lineFeed}
+use Rattle.text.specs.Keys.{lineFeed}
 use Rattle.sheet.specs.Lines.{read, Split, parts, none, andBefore, splitAt, ofLine, valueLine}
-use Rattle.lines.specs.Texts.{lineText, linesText}
+use Rattle.text.specs.Texts.{lineText, linesText}
 use Rattle.sheet.proofs.Parsing.{by-test, refused-read, lacks, after-back, value-forth}
 use Rattle.sheet.specs.Parts.{Line, textOf}
 use Rattle.reader.specs.Parts.{equals, partBefore, lineKey, lineValue, afterLine}

@@ -3,7 +3,7 @@
 use Prim.Native.Nat.{ℕ, _-_}
 use mathlib.Core.List.{List, []}
 use lib.ListN.{length, drop}
-use Rattle.lines.specs.Keys.{lineFeed}
+use Rattle.text.specs.Keys.{lineFeed}
 use Rattle.sheet.specs.Lines.{Split, parts, none, splitAt}
 
 -- "="

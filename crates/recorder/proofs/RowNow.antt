@@ -13,17 +13,17 @@ use Rattle.model.specs.Traces.{sizeOf, swapOf}
 use Rattle.model.proofs.FirstTouches.{started}
 use Rattle.buckets.specs.Buckets.{bucketCount, tallyOf}
 use Rattle.buckets.specs.inner.Pass.{EndedAt}
-use Rattle.search.specs.inner.Quotients.{unitsFor, Quoted}
+use Rattle.buckets.specs.inner.Quotients.{unitsFor, Quoted}
 use Rattle.figures.specs.Rows.{figuresAt}
 use Rattle.figures.specs.inner.Sweep.{summed, withStart, Tallied}
-use Rattle.rowsums.specs.inner.OneRow.{mostItems, Holds, RowFits, rowFrom}
+use Rattle.figures.specs.inner.OneRow.{mostItems, Holds, RowFits, rowFrom}
 use Rattle.buckets.specs.declared.Bucket.{Bucket}
 use Rattle.buckets.specs.declared.Tally.{Tally}
 use Rattle.figures.specs.declared.rows.StartSwaps.{StartSwaps}
 use Rattle.figures.proofs.Starts.{starts-are}
 use Rattle.figures.proofs.Sweeps.{holds-more}
 use Rattle.figures.proofs.Sweeping.{SweptTo, all-fits, tallied-buckets, tallied-ends, tallied-all, tallied-fits, tallied-row}
-use Rattle.rowguards.specs.inner.Heads.{headSwaps}
+use Rattle.recorder.specs.inner.Heads.{headSwaps}
 use Rattle.recorder.specs.Recorders.{recorderOf}
 use Rattle.recorder.specs.declared.Recorder.{Recorder}
 use Rattle.recorder.proofs.Standing.{front, padded-at, head-rows, few-warm}

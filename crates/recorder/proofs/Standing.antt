@@ -19,7 +19,7 @@ use Rattle.model.specs.declared.Verdict.the-variants.{Accepted, Refused}
 use Rattle.model.proofs.Lists.{getD-any}
 use Rattle.model.proofs.Warm.{warm-few}
 use Rattle.buckets.specs.inner.Pass.{Roomy, RowsOf, passedAfter, passedOf}
-use Rattle.search.specs.inner.Quotients.{unitsFor, Quoted}
+use Rattle.buckets.specs.inner.Quotients.{unitsFor, Quoted}
 use Rattle.buckets.specs.declared.Bucket.{Bucket}
 use Rattle.buckets.specs.declared.pass.Passed.{Passed}
 use Rattle.figures.proofs.Limits.{buckets-roomy}

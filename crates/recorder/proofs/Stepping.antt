@@ -16,10 +16,10 @@ use Rattle.model.specs.Values.{zeros, zeroRows, headOf}
 use Rattle.model.specs.declared.Head.{Head}
 use Rattle.model.proofs.Bounds.{unit-within}
 use Rattle.buckets.specs.inner.Pass.{touchOf, Limited, Within, withTouch, PassedOn, passedAfter, passedOf}
-use Rattle.search.specs.inner.Quotients.{timeSince, unitsFor, Quoted}
+use Rattle.buckets.specs.inner.Quotients.{timeSince, unitsFor, Quoted}
 use Rattle.buckets.specs.Buckets.{bucketCount, tallyOf, noBucket}
 use Rattle.figures.specs.inner.Sweep.{summed, Tallied}
-use Rattle.rowsums.specs.inner.OneRow.{byKind, Holds}
+use Rattle.figures.specs.inner.OneRow.{byKind, Holds}
 use Rattle.buckets.specs.declared.Tally.{Tally}
 use Rattle.figures.proofs.Sweeping.{tallied-buckets, tallied-cost, tallied-volume}
 use Rattle.buckets.specs.declared.Bucket.{Bucket}

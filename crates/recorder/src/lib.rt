@@ -1,6 +1,8 @@
 // The recorder: a sheet's head that takes references and idle steps one by one, and hands out the figures of a row at any moment.
 // What a recorder stands for is written in specs/Recorders.antt; nothing is assumed.
+mod guards;
 pub mod reading;
+mod row_guards;
 pub mod taking;
 
 use buckets::Bucket;

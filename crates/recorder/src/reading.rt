@@ -20,15 +20,15 @@ fn ends_now(recorder: Recorder) -> [Bucket; Tally::BUCKETS]
     let head = recorder.head;
     let kind = head.kind;
     let a = head.a;
-    let rows = guards::least(head.rows, Sheet::MAX_ROWS);
-    let segs = guards::least(head.segs, Sheet::MAX_SEGS);
-    let steps = guards::least(recorder.steps, Sheet::MAX_STEPS) as u16;
+    let rows = crate::guards::least(head.rows, Sheet::MAX_ROWS);
+    let segs = crate::guards::least(head.segs, Sheet::MAX_SEGS);
+    let steps = crate::guards::least(recorder.steps, Sheet::MAX_STEPS) as u16;
     let prices = head.prices;
     let all_sizes = head.sizes;
     let last = recorder.last;
     let sizes = &all_sizes[..segs];
-    let quotients = search::quotients(a, prices, rows);
-    let rates = search::rates(kind, a, sizes);
+    let quotients = buckets::search::quotients(a, prices, rows);
+    let rates = buckets::search::rates(kind, a, sizes);
     buckets::pass::ends(kind, a, rows, &quotients, &rates, sizes, &last, steps)
 }
 
@@ -42,11 +42,11 @@ pub fn row_now(recorder: Recorder, row: usize) -> RowFigures
     let kind = head.kind;
     let prices = head.prices;
     let buckets = recorder.buckets;
-    let touches = guards::sum_first(buckets, Tally::BUCKETS);
-    let all = guards::with_start(touches, rowguards::start_now(head));
-    let kept = guards::sum_first(buckets, row + 1);
-    let ends = guards::sum_first(ended, row + 1);
-    rowguards::row_of(
+    let touches = crate::guards::sum_first(buckets, Tally::BUCKETS);
+    let all = crate::guards::with_start(touches, crate::row_guards::start_now(head));
+    let kept = crate::guards::sum_first(buckets, row + 1);
+    let ends = crate::guards::sum_first(ended, row + 1);
+    crate::row_guards::row_of(
         kind,
         head.a,
         prices[row],

@@ -26,18 +26,18 @@ pub fn take_one(mut recorder: Recorder, segment: usize) -> Recorder
     let kind = head.kind;
     let sizes = head.sizes;
     let prices = head.prices;
-    let rows = guards::least(head.rows, Sheet::MAX_ROWS);
+    let rows = crate::guards::least(head.rows, Sheet::MAX_ROWS);
     let z = sizes[segment];
     let t = recorder.steps;
     let mut x = buckets::pass::touch_of(kind, head.a, z, recorder.last[segment], t as u16);
-    let k = search::bucket(prices, rows, x.reuse, x.retention, x.swap);
+    let k = buckets::search::bucket(prices, rows, x.reuse, x.retention, x.swap);
     x.bucket = k;
     let b = recorder.buckets[k];
-    recorder.buckets[k] = guards::file(b, x);
+    recorder.buckets[k] = crate::guards::file(b, x);
     recorder.last[segment] = (t + 1) as u16;
     recorder.steps = t + 1;
-    recorder.cost = guards::more(recorder.cost, model::unit_cost(kind, z));
-    recorder.volume = guards::more(recorder.volume, guards::wide(z));
+    recorder.cost = crate::guards::more(recorder.cost, model::unit_cost(kind, z));
+    recorder.volume = crate::guards::more(recorder.volume, crate::guards::wide(z));
     recorder
 }
 
@@ -75,13 +75,13 @@ fn pass_on(head: Head, from: Passed, count: usize, refs: &[u16]) -> Passed
 {
     let kind = head.kind;
     let a = head.a;
-    let rows = guards::least(head.rows, Sheet::MAX_ROWS);
-    let segs = guards::least(head.segs, Sheet::MAX_SEGS);
+    let rows = crate::guards::least(head.rows, Sheet::MAX_ROWS);
+    let segs = crate::guards::least(head.segs, Sheet::MAX_SEGS);
     let prices = head.prices;
     let all_sizes = head.sizes;
     let sizes = &all_sizes[..segs];
-    let quotients = search::quotients(a, prices, rows);
-    let rates = search::rates(kind, a, sizes);
+    let quotients = buckets::search::quotients(a, prices, rows);
+    let rates = buckets::search::rates(kind, a, sizes);
     buckets::pass::references(kind, a, rows, &quotients, &rates, sizes, from, count, refs)
 }
 
@@ -98,7 +98,7 @@ pub fn take_all(recorder: Recorder, refs: &[u16]) -> Recorder
     let kind = head.kind;
     let buckets = recorder.buckets;
     let last = recorder.last;
-    if !guards::roomy(buckets) {
+    if !crate::guards::roomy(buckets) {
         return recorder;
     }
     let from = Passed {
@@ -108,13 +108,13 @@ pub fn take_all(recorder: Recorder, refs: &[u16]) -> Recorder
     let passed = pass_on(head, from, recorder.steps, refs);
     let next = passed.buckets;
     let table = passed.last;
-    let all = guards::sum_first(next, Tally::BUCKETS);
+    let all = crate::guards::sum_first(next, Tally::BUCKETS);
     Recorder {
         head: head,
         steps: recorder.steps + refs.len(),
         last: table,
         buckets: next,
-        cost: rowsums::by_kind(kind, all.count, all.volume),
+        cost: figures::row_sums::by_kind(kind, all.count, all.volume),
         volume: all.volume,
     }
 }

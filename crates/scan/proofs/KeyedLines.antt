@@ -11,7 +11,7 @@ use lib.Dec.{eqb, leb}
 use lib.ListN.{length, take, drop, length-take, length-drop}
 use lib.Seq.{drop-drop}
 use Rattle.model.specs.declared.Refusal.the-variants.{LineMalformed}
-use Rattle.lines.specs.Keys.{lineFeed}
+use Rattle.text.specs.Keys.{lineFeed}
 use Rattle.sheet.specs.Lines.{Parsed, refused, andThen, Split, parts, none, andBefore, splitAt, sameBytes, afterKey, ofLine, valueLine}
 use Rattle.scan.specs.inner.AtPlace.{splitAtPlace, parsedValue, ValueWithin}
 use Rattle.scan.specs.declared.numbers.ValueAt.{ValueAt}

@@ -12,7 +12,7 @@ use Rattle.model.specs.declared.Refusal.{Refusal}
 use Rattle.decimal.specs.Decimal.{value, isNumber, readingOf}
 use Rattle.decimal.proofs.Digits.{digit-at, number-digits}
 use Rattle.decimal.proofs.Readings.{reading-within}
-use Rattle.lines.specs.Keys.{lineFeed}
+use Rattle.text.specs.Keys.{lineFeed}
 use Rattle.sheet.specs.Lines.{read, refused, andThen, none, splitAt, sameBytes, inRange, numberLine, numberLines}
 use Rattle.scan.specs.inner.AtPlace.{splitAtPlace, parsedLines}
 use Rattle.scan.specs.declared.numbers.LinesRead.{LinesRead}

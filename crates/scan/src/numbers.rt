@@ -8,7 +8,7 @@ ghost use mathlib.Core.List.{List, _++_};
 ghost use Prim.Native.Nat.{ℕ, _+_, _-_, _≤_, _<_, _^_};
 ghost use lib.ListN.{length, take, drop};
 ghost use Rattle.decimal.specs.Decimal.{readingOf};
-ghost use Rattle.lines.specs.Keys.{lineFeed};
+ghost use Rattle.text.specs.Keys.{lineFeed};
 ghost use Rattle.sheet.specs.Lines.{read as parsed, andThen, splitAt, none as unsplit, inRange, valueLine, numberLine, numberLines};
 ghost use Rattle.sheet.specs.Order.{numberPart, numbersPart};
 ghost use Rattle.sheet.specs.Parts.{counted};

@@ -19,7 +19,7 @@ use Rattle.sheet.specs.Values.{above, inPrices}
 use Rattle.sheet.specs.Warm.{aboveHold}
 use Rattle.sheet.specs.Reading.{sheetLines, namedForm, Outcome, accepted, rejected, atEnd, readForms}
 use Rattle.sheet.proofs.Parsing.{by-test}
-use Rattle.lines.proofs.Runs.{before, each-at, each-of}
+use Rattle.text.proofs.Runs.{before, each-at, each-of}
 use Rattle.model.proofs.Warm.{warm-few}
 use Rattle.sheet.proofs.Words.{RowFits, HoldFits}
 use Rattle.sheet.proofs.SheetLines.{From, EntriesFit, WarmFits, Readable, sheet-reads}

@@ -13,13 +13,13 @@ use Rattle.model.specs.declared.Kind.the-variants.{Time, Space}
 use Rattle.model.specs.declared.PriceRow.{PriceRow}
 use Rattle.decimal.specs.Decimal.{allDigits, valueFrom, isNumber, written, writtenIn}
 use Rattle.sheet.specs.Lines.{splitAt, afterKey, valueLine, numberLine, sameBytes, numberLines}
-use Rattle.lines.specs.Keys.{formKey, kindKey, aKey, segsKey, sizeKey, rowsKey, rowKey, warmKey, holdKey, stepsKey, refsKey, refKey}
-use Rattle.lines.specs.Keys.{kindWord}
+use Rattle.text.specs.Keys.{formKey, kindKey, aKey, segsKey, sizeKey, rowsKey, rowKey, warmKey, holdKey, stepsKey, refsKey, refKey}
+use Rattle.text.specs.Keys.{kindWord}
 use Rattle.sheet.specs.Reading.{Outcome, accepted, rejected, namedForm, readForms, readSheet}
 use Rattle.sheet.specs.Touches.{touchLine, touchLines, placedFrom, touchesFrom}
 use Rattle.sheet.specs.Values.{kindLine, rowLine, rowLines}
 use Rattle.sheet.specs.Warm.{holdLine, holdLines}
-use Rattle.lines.specs.Texts.{lineText, numberText, linesText}
+use Rattle.text.specs.Texts.{lineText, numberText, linesText}
 use Rattle.sheet.specs.Order.{sizesPart, pricesPart, warmPart, tablesPart, headPart}
 use Rattle.sheet.specs.Order.{refsPart, plainPart, stepsPart, runPart, bodyPart, sheetPart}
 use Rattle.sheet.specs.Writing.{sheetText}

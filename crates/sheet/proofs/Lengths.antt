@@ -18,10 +18,10 @@ use Rattle.model.specs.Sheets.{largestA, mostSegs, largestSize, mostRows, mostS
 use Rattle.model.specs.declared.Kind.{Kind}
 use Rattle.model.specs.declared.Kind.the-variants.{Time, Space}
 use Rattle.model.specs.declared.PriceRow.{PriceRow}
-use Rattle.lines.specs.Keys.{formKey, kindKey, aKey, segsKey, sizeKey, rowsKey, warmKey, holdKey, stepsKey, refsKey, refKey, kindWord}
-use Rattle.lines.specs.Texts.{lineText, numberText, linesText}
-use Rattle.lines.proofs.Lengths.{number-within}
-use Rattle.lines.proofs.Runs.{Each, each-map, lines-length}
+use Rattle.text.specs.Keys.{formKey, kindKey, aKey, segsKey, sizeKey, rowsKey, warmKey, holdKey, stepsKey, refsKey, refKey, kindWord}
+use Rattle.text.specs.Texts.{lineText, numberText, linesText}
+use Rattle.text.proofs.Lengths.{number-within}
+use Rattle.text.proofs.Runs.{Each, each-map, lines-length}
 use Rattle.sheet.specs.Order.{warmFor, headPart, formLines}
 use Rattle.sheet.specs.Parts.{textOf}
 use Rattle.sheet.specs.Touches.{Touch, Entries, touchText, touchesText, touchesFrom, touchesOf}

@@ -10,9 +10,9 @@ use lib.Dec.{eqb}
 use Rattle.decimal.specs.Decimal.{isDigit, allDigits}
 use Rattle.decimal.proofs.Digits.{both}
 use Rattle.model.specs.declared.Refusal.{Refusal}
-use Rattle.lines.specs.Keys.{lineFeed}
+use Rattle.text.specs.Keys.{lineFeed}
 use Rattle.sheet.specs.Lines.{Parsed, read, refused, andThen, Split, parts, none, andBefore, splitAt, afterKey, ofLine, valueLine}
-use Rattle.lines.specs.Texts.{lineText}
+use Rattle.text.specs.Texts.{lineText}
 
 -- what a test picks is the one or the other
 pub by-test : {A P : Type 0} (t : Bool) (x y z : A) → cond t x y ≡ z → (t ≡ true → x ≡ z → P) → (t ≡ false → y ≡ z → P) → P

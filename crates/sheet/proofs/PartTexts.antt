@@ -6,9 +6,9 @@ use mathlib.Core.List.{List, [], _∷_, _++_, append-nil, map}
 use lib.Dec.{leb}
 use lib.ListN.{length}
 use Rattle.decimal.specs.Decimal.{written}
-use Rattle.lines.specs.Keys.{kindKey, aKey, segsKey, sizeKey, rowsKey, rowKey, warmKey, holdKey, stepsKey, refsKey, refKey, kindWord}
-use Rattle.lines.specs.Texts.{lineText, numberText, linesText}
-use Rattle.lines.proofs.Runs.{lines-append, lines-map}
+use Rattle.text.specs.Keys.{kindKey, aKey, segsKey, sizeKey, rowsKey, rowKey, warmKey, holdKey, stepsKey, refsKey, refKey, kindWord}
+use Rattle.text.specs.Texts.{lineText, numberText, linesText}
+use Rattle.text.proofs.Runs.{lines-append, lines-map}
 use Rattle.model.specs.Sheets.{HeadValue, SheetValue}
 use Rattle.model.specs.declared.PriceRow.{PriceRow}
 use Rattle.sheet.specs.Order.{sizesPart, pricesPart, warmPart, warmFor, tablesPart, headPart}

@@ -2,8 +2,8 @@
 use Prim.Native.Nat.{ℕ}
 use mathlib.Core.Path.{_≡_, sym, ap}
 use mathlib.Core.List.{List, [], _∷_, _++_, append-assoc, append-nil, map}
-use Rattle.lines.specs.Texts.{lineText, linesText}
-use Rattle.lines.proofs.Runs.{lines-append, lines-map}
+use Rattle.text.specs.Texts.{lineText, linesText}
+use Rattle.text.proofs.Runs.{lines-append, lines-map}
 use Rattle.sheet.specs.Lines.{Parsed, read}
 use Rattle.sheet.specs.Parts.{Line, Part, textOf, whole, then}
 use Rattle.sheet.proofs.Parsing.{then-read, Reads}

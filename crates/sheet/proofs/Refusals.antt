@@ -13,8 +13,8 @@ use lib.ListN.{length, take}
 use Rattle.decimal.specs.Decimal.{isNumber, value, readingOf}
 use Rattle.decimal.specs.declared.Reading.{Reading}
 use Rattle.decimal.specs.declared.Reading.the-variants.{NotNumber, OutOfRange as Beyond, Number}
-use Rattle.lines.specs.Keys.{lineFeed, slash, atSign, formKey, kindKey, aKey, segsKey, sizeKey, rowsKey, rowKey, warmKey, holdKey}
-use Rattle.lines.specs.Keys.{stepsKey, refsKey, refKey, kindWord}
+use Rattle.text.specs.Keys.{lineFeed, slash, atSign, formKey, kindKey, aKey, segsKey, sizeKey, rowsKey, rowKey, warmKey, holdKey}
+use Rattle.text.specs.Keys.{stepsKey, refsKey, refKey, kindWord}
 use Rattle.model.specs.Refusals.{numberOf}
 use Rattle.model.specs.Sheets.{SheetValue, Valid, formBytes, newestForm, largestA, mostSegs, largestSize, mostRows, mostSteps}
 use Rattle.model.specs.declared.Kind.the-variants.{Time, Space}

@@ -10,8 +10,8 @@ use Rattle.sheet.specs.Lines.{Parsed, read, andThen, numberLine, numberL
 use Rattle.sheet.specs.Values.{rowLine, rowLines}
 use Rattle.sheet.specs.Warm.{holdLine, holdLines}
 use Rattle.sheet.proofs.Parsing.{then-read, Reads}
-use Rattle.lines.specs.Texts.{linesText}
-use Rattle.lines.proofs.Runs.{Each}
+use Rattle.text.specs.Texts.{linesText}
+use Rattle.text.proofs.Runs.{Each}
 
 -- n lines, each read after the value of the one before
 unfoldable pub lines : {A : Type 0} → (Option A → List ℕ → Parsed A) → ℕ → Option A → List ℕ → Parsed (List A)

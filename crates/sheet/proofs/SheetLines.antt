@@ -11,10 +11,10 @@ use borrow.Author.Tests.{le-leb, leb-true, leb-false}
 use lib.Dec.{eqb, leb}
 use lib.ListN.{length, take}
 use Rattle.decimal.specs.Decimal.{written}
-use Rattle.lines.specs.Keys.{lineFeed, formKey, kindKey, aKey, segsKey, sizeKey, rowsKey, rowKey, warmKey, holdKey, stepsKey, refsKey}
-use Rattle.lines.specs.Keys.{refKey, kindWord}
-use Rattle.lines.specs.Texts.{lineText, numberText, linesText}
-use Rattle.lines.proofs.Runs.{Each, lines-map}
+use Rattle.text.specs.Keys.{lineFeed, formKey, kindKey, aKey, segsKey, sizeKey, rowsKey, rowKey, warmKey, holdKey, stepsKey, refsKey}
+use Rattle.text.specs.Keys.{refKey, kindWord}
+use Rattle.text.specs.Texts.{lineText, numberText, linesText}
+use Rattle.text.proofs.Runs.{Each, lines-map}
 use Rattle.model.specs.Sheets.{HeadValue, SheetValue, idle, marksOf, newestForm, largestA, mostSegs, largestSize, mostRows, mostSteps}
 use Rattle.model.specs.declared.Kind.{Kind}
 use Rattle.model.specs.declared.Kind.the-variants.{Time, Space}

@@ -13,10 +13,10 @@ use lib.Dec.{ltb}
 use lib.ListN.{length, length-append}
 use Rattle.decimal.specs.Decimal.{written}
 use Rattle.decimal.proofs.Written.{written-some, written-length, written-longer}
-use Rattle.lines.specs.Keys.{markLetter, holdKey}
-use Rattle.lines.specs.Texts.{numberText, linesText}
-use Rattle.lines.proofs.Lengths.{line-length}
-use Rattle.lines.proofs.Runs.{Each}
+use Rattle.text.specs.Keys.{markLetter, holdKey}
+use Rattle.text.specs.Texts.{numberText, linesText}
+use Rattle.text.proofs.Lengths.{line-length}
+use Rattle.text.proofs.Runs.{Each}
 use Rattle.sheet.specs.Touches.{Touch, stepWord, touchText, touchesText}
 use Rattle.sheet.specs.Warm.{aboveHold}
 use Rattle.sheet.proofs.Touches.{stepOf, TouchFits}

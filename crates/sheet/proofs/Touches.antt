@@ -15,8 +15,8 @@ use lib.Seq.{set-append-seam, getD-at}
 use Rattle.decimal.specs.Decimal.{isNumber, value, written}
 use Rattle.decimal.proofs.Digits.{both}
 use Rattle.decimal.proofs.Written.{written-number, written-value, written-of}
-use Rattle.lines.specs.Keys.{lineFeed, atSign, markLetter, refKey}
-use Rattle.lines.proofs.Runs.{Each, each-map}
+use Rattle.text.specs.Keys.{lineFeed, atSign, markLetter, refKey}
+use Rattle.text.proofs.Runs.{Each, each-map}
 use Rattle.model.specs.Sheets.{idle, marksOf}
 use Rattle.sheet.specs.Lines.{read, Split, parts, none as unsplit, splitAt}
 use Rattle.sheet.specs.Touches.{Touch, Entries, beforeLetter, stepPart, touchOf, touchParts, touchLine, touchLines}

@@ -15,11 +15,11 @@ use Rattle.decimal.proofs.Readings.{reading-written, reading-number}
 use Rattle.model.specs.declared.Kind.{Kind}
 use Rattle.model.specs.declared.Kind.the-variants.{Time, Space}
 use Rattle.model.specs.declared.PriceRow.{PriceRow}
-use Rattle.lines.specs.Keys.{lineFeed, slash, kindKey, rowKey, holdKey, kindWord}
+use Rattle.text.specs.Keys.{lineFeed, slash, kindKey, rowKey, holdKey, kindWord}
 use Rattle.sheet.specs.Lines.{read, Split, parts, none as unsplit, splitAt, sameBytes, inRange, numberLine}
 use Rattle.sheet.specs.Values.{kindOf, kindLine, above, inPrices, rowOf, rowParts, rowLine, rowWord, rowText}
 use Rattle.sheet.specs.Warm.{aboveHold, holdAfter, holdLine}
-use Rattle.lines.specs.Texts.{lineText, numberText}
+use Rattle.text.specs.Texts.{lineText, numberText}
 use Rattle.sheet.proofs.Parsing.{by-test, refused-read, passed, then-read, lacks, lacks-append, lacks-digits, split-forth}
 use Rattle.sheet.proofs.Parsing.{split-back, Reads, Words, line-reads}
 

@@ -9,7 +9,7 @@ use Rattle.model.specs.declared.Refusal.the-variants.{LineMalformed, ValueMalfo
 use Rattle.decimal.specs.Decimal.{readingOf}
 use Rattle.decimal.specs.declared.Reading.{Reading}
 use Rattle.decimal.specs.declared.Reading.the-variants.{NotNumber, OutOfRange as Beyond, Number}
-use Rattle.lines.specs.Keys.{lineFeed}
+use Rattle.text.specs.Keys.{lineFeed}
 
 -- what reading gives: a value and the bytes that follow it, or the refusal
 pub data Parsed (A : Type 0) : Type 0 where

@@ -7,8 +7,8 @@ use mathlib.Core.Option.{none}
 use lib.Dec.{leb}
 use lib.ListN.{length, take}
 use Rattle.decimal.specs.Decimal.{written}
-use Rattle.lines.specs.Keys.{formKey, kindKey, aKey, segsKey, sizeKey, rowsKey, rowKey, warmKey, holdKey}
-use Rattle.lines.specs.Keys.{stepsKey, refsKey, refKey, kindWord}
+use Rattle.text.specs.Keys.{formKey, kindKey, aKey, segsKey, sizeKey, rowsKey, rowKey, warmKey, holdKey}
+use Rattle.text.specs.Keys.{stepsKey, refsKey, refKey, kindWord}
 use Rattle.model.specs.Sheets.{HeadValue, SheetValue, largestA, mostSegs, largestSize, mostRows, mostSteps, newestForm}
 use Rattle.model.specs.declared.Kind.{Kind}
 use Rattle.model.specs.declared.PriceRow.{PriceRow}

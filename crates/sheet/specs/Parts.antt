@@ -3,7 +3,7 @@
 use Prim.Native.Nat.{ℕ}
 use mathlib.Core.List.{List, [], _++_}
 use lib.ListN.{length}
-use Rattle.lines.specs.Texts.{lineText, linesText}
+use Rattle.text.specs.Texts.{lineText, linesText}
 use Rattle.sheet.specs.Lines.{Parsed, read, andThen}
 
 -- a line: its key and its value

@@ -8,7 +8,7 @@ use lib.Dec.{ltb}
 use Rattle.model.specs.Sheets.{SheetValue, formBytes, newestForm}
 use Rattle.model.specs.declared.Refusal.{Refusal}
 use Rattle.model.specs.declared.Refusal.the-variants.{SheetTooLong, BytesAfterEnd}
-use Rattle.lines.specs.Keys.{formKey}
+use Rattle.text.specs.Keys.{formKey}
 use Rattle.sheet.specs.Lines.{Parsed, read, refused, numberLine}
 use Rattle.sheet.specs.Order.{sheetPart}
 

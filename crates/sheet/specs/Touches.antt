@@ -7,8 +7,8 @@ use lib.ListN.{replicate}
 use lib.Dec.{eqb, leb, ltb}
 use Rattle.model.specs.declared.Refusal.the-variants.{ValueMalformed, OutOfRange, StepNotAbove}
 use Rattle.decimal.specs.Decimal.{isNumber, value, written}
-use Rattle.lines.specs.Keys.{atSign, markLetter, refKey}
-use Rattle.lines.specs.Texts.{lineText, linesText}
+use Rattle.text.specs.Keys.{atSign, markLetter, refKey}
+use Rattle.text.specs.Texts.{lineText, linesText}
 use Rattle.model.specs.Sheets.{idle, marksOf}
 use Rattle.sheet.specs.Lines.{Parsed, read, refused, andThen, Split, parts, none as unsplit, splitAt, valueLine}
 

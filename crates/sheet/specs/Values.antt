@@ -10,8 +10,8 @@ use Rattle.model.specs.declared.Kind.the-variants.{Time, Space}
 use Rattle.model.specs.declared.PriceRow.{PriceRow}
 use Rattle.model.specs.declared.Refusal.the-variants.{ValueMalformed, OutOfRange, ThresholdNotAbove}
 use Rattle.decimal.specs.Decimal.{isNumber, value, written}
-use Rattle.lines.specs.Keys.{slash, kindKey, rowKey, kindWord}
-use Rattle.lines.specs.Texts.{lineText}
+use Rattle.text.specs.Keys.{slash, kindKey, rowKey, kindWord}
+use Rattle.text.specs.Texts.{lineText}
 use Rattle.sheet.specs.Lines.{Parsed, read, refused, andThen, Split, parts, none as unsplit, splitAt, valueLine, sameBytes}
 
 -- the kind that a value names: refusal 3 where it is neither word

@@ -5,7 +5,7 @@ use mathlib.Core.List.{List, [], _∷_}
 use mathlib.Core.Option.{Option, none, some}
 use lib.Dec.{ltb}
 use Rattle.model.specs.declared.Refusal.the-variants.{HoldNotAbove}
-use Rattle.lines.specs.Keys.{holdKey}
+use Rattle.text.specs.Keys.{holdKey}
 use Rattle.sheet.specs.Lines.{Parsed, read, refused, andThen, numberLine}
 
 -- a segment is above the one before; the first has none before it

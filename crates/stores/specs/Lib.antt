@@ -1,4 +1,4 @@
 pub mod Demand
-pub mod inner
 pub mod Rows
 pub mod Stores
+pub mod inner

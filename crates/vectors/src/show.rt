@@ -49,7 +49,7 @@ pub fn optimal(sheet: &[u8], row: usize, place: &mut [u8]) {
 
 // What writing the schedule of the least total with stores counted answers.
 pub fn best(sheet: &[u8], row: usize, place: &mut [u8]) {
-    let answer = storecalls::modified_schedule(sheet, row, place);
+    let answer = analyser::modifying::modified_schedule(sheet, row, place);
     written(answer, place);
 }
 

@@ -23,13 +23,13 @@ pub fn listing(sheet: &[u8]) {
 // Two sheets as one.
 pub fn join(first: &[u8], second: &[u8]) {
     let mut place = io::large_buffer();
-    let answer = joincalls::join(first, second, &mut place);
+    let answer = analyser::pairing::join(first, second, &mut place);
     text(answer, &place);
 }
 
 // A din trace as a sheet with the rows of another.
 pub fn import(trace: &[u8], k: u64, sheet: &[u8]) {
     let mut place = io::large_buffer();
-    let answer = sheetcalls::importing::import_din(trace, k, sheet, &mut place);
+    let answer = analyser::importing::import_din(trace, k, sheet, &mut place);
     text(answer, &place);
 }

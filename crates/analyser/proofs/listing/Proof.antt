@@ -1,6 +1,6 @@
 -- `analyser::listing` meets its contract: what the sheet reads as decides. Assumes nothing.
 use borrow.Author.Needs.{needs}
-use Rattle.report.specs.Listing.{listingOf}
+use Rattle.listing.specs.Listing.{listingOf}
 use Rattle.model.specs.Places.{gives}
 use Rattle.analyser.specs.Answers.{listingResult}
 use Rattle.sheet.specs.Reading.{readSheet}

@@ -1,7 +1,7 @@
 -- `analyser::optimal_schedule` meets its contract: what the sheet reads as decides. Assumes nothing.
 use native.Mathlib.Omega.{arith}
 use borrow.Author.Needs.{needs}
-use Rattle.plans.specs.Plans.{scheduleFor}
+use Rattle.sheet_schedules.specs.Plans.{scheduleFor}
 use Rattle.analyser.specs.Answers.{scheduleResult}
 use Rattle.sheet.specs.Reading.{readForms}
 use Rattle.sheet.proofs.Accepting.{result-refused, result-accepted, forms-stand}

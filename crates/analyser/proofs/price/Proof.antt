@@ -2,7 +2,7 @@
 use mathlib.Core.Path.{sym, _∙_}
 use borrow.Author.Needs.{needs}
 use Rattle.pricing.specs.Checking.{noPrice}
-use Rattle.plans.specs.Plans.{priceFor}
+use Rattle.sheet_schedules.specs.Plans.{priceFor}
 use Rattle.analyser.specs.Answers.{pricing}
 use Rattle.sheet.proofs.Accepting.{on-refused, on-accepted, stands}
 use Rattle.analyser.proofs.price.Statement.{statement}

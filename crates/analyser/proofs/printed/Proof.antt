@@ -1,6 +1,6 @@
 -- `analyser::printed` meets its contract: what the sheet reads as decides. Assumes nothing.
 use borrow.Author.Needs.{needs}
-use Rattle.report.specs.Listing.{listingOf, refusedText}
+use Rattle.listing.specs.Listing.{listingOf, refusedText}
 use Rattle.analyser.specs.Answers.{printedText}
 use Rattle.sheet.specs.Reading.{readSheet}
 use Rattle.sheet.proofs.Accepting.{text-refused, on-accepted, stands}

@@ -15,8 +15,8 @@ use Rattle.model.specs.declared.Kind.{Kind}
 use Rattle.model.specs.declared.PriceRow.{PriceRow}
 use Rattle.model.specs.LastTouches.{lastTable}
 use Rattle.buckets.specs.Buckets.{bucketCount, bucketAfter, tallyOf, noBucket}
-use Rattle.search.specs.FirstRow.{lastBucket, firstRow}
-use Rattle.search.specs.inner.Quotients.{unitsFor, Quoted}
+use Rattle.buckets.specs.FirstRow.{lastBucket, firstRow}
+use Rattle.buckets.specs.inner.Quotients.{unitsFor, Quoted}
 use Rattle.buckets.specs.declared.Bucket.{Bucket}
 use Rattle.buckets.specs.declared.pass.Touch.{Touch}
 use Rattle.buckets.specs.declared.pass.Passed.{Passed}

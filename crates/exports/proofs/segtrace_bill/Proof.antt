@@ -1,7 +1,7 @@
 -- `exports::segtrace_bill` meets its contract: the verdict of the bill decides. Assumes nothing.
 use borrow.Author.Needs.{needs}
 use mathlib.Core.Path.{refl}
-use Rattle.lentcalls.proofs.Told.{accepted-tells, refused-tells}
+use Rattle.exports.proofs.Told.{accepted-tells, refused-tells}
 use Rattle.exports.proofs.segtrace_bill.Statement.{statement}
 use Rattle.exports.proofs.segtrace_bill.Tie as tie
 

@@ -1,7 +1,7 @@
 -- `exports::segtrace_figures` meets its contract: the verdict of the figures decides. Assumes nothing.
 use borrow.Author.Needs.{needs}
-use Rattle.numbers.specs.Figures.{figureList}
-use Rattle.lentcalls.proofs.Told.{accepted-tells, refused-tells}
+use Rattle.c_lists.specs.Figures.{figureList}
+use Rattle.exports.proofs.Told.{accepted-tells, refused-tells}
 use Rattle.exports.proofs.segtrace_figures.Statement.{statement}
 use Rattle.exports.proofs.segtrace_figures.Tie as tie
 

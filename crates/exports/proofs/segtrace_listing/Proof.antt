@@ -1,6 +1,6 @@
 -- `exports::segtrace_listing` meets its contract: what was told of the listing's answer. Assumes nothing.
 use borrow.Author.Needs.{needs}
-use Rattle.lentcalls.proofs.Told.{place-call}
+use Rattle.exports.proofs.Told.{place-call}
 use Rattle.exports.proofs.segtrace_listing.Statement.{statement}
 use Rattle.exports.proofs.segtrace_listing.Tie as tie
 

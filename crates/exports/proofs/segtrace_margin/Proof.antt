@@ -2,7 +2,7 @@
 use borrow.Author.Needs.{needs}
 use mir.Syntax.{w64}
 use mir.ValLaws.{toZ-ofZ}
-use Rattle.lentcalls.proofs.Told.{accepted-tells, refused-tells}
+use Rattle.exports.proofs.Told.{accepted-tells, refused-tells}
 use Rattle.exports.proofs.segtrace_margin.Statement.{statement}
 use Rattle.exports.proofs.segtrace_margin.Tie as tie
 

@@ -1,6 +1,6 @@
 -- `exports::segtrace_optimal_schedule` meets its contract: what was told of the schedule's answer. Assumes nothing.
 use borrow.Author.Needs.{needs}
-use Rattle.lentcalls.proofs.Told.{place-call}
+use Rattle.exports.proofs.Told.{place-call}
 use Rattle.exports.proofs.segtrace_optimal_schedule.Statement.{statement}
 use Rattle.exports.proofs.segtrace_optimal_schedule.Tie as tie
 

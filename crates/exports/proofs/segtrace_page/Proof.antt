@@ -1,6 +1,6 @@
 -- `exports::segtrace_page` meets its contract: what was told of the page's answer. Assumes nothing.
 use borrow.Author.Needs.{needs}
-use Rattle.lentcalls.proofs.Told.{place-call}
+use Rattle.exports.proofs.Told.{place-call}
 use Rattle.exports.proofs.segtrace_page.Statement.{statement}
 use Rattle.exports.proofs.segtrace_page.Tie as tie
 

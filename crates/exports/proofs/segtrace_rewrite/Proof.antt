@@ -3,9 +3,9 @@ use borrow.Author.Needs.{needs}
 use Rattle.sheet.specs.Writing.{sheetText}
 use Rattle.model.specs.Places.{gives, refuses}
 use Rattle.sheet.proofs.Accepting.{on-refused, on-accepted}
-use Rattle.lentcalls.specs.Exported.{rewriteResult}
-use Rattle.lentcalls.proofs.Rewriting.{as-long}
-use Rattle.lentcalls.proofs.Told.{place-call, place-refused}
+use Rattle.exports.specs.Exported.{rewriteResult}
+use Rattle.exports.proofs.Rewriting.{as-long}
+use Rattle.exports.proofs.Told.{place-call, place-refused}
 use Rattle.exports.proofs.segtrace_rewrite.Statement.{statement}
 use Rattle.exports.proofs.segtrace_rewrite.Tie as tie
 

@@ -1,6 +1,6 @@
 -- `exports::segtrace_to_form_1` meets its contract: what was told of the converter's answer. Assumes nothing.
 use borrow.Author.Needs.{needs}
-use Rattle.lentcalls.proofs.Told.{place-call}
+use Rattle.exports.proofs.Told.{place-call}
 use Rattle.exports.proofs.segtrace_to_form_1.Statement.{statement}
 use Rattle.exports.proofs.segtrace_to_form_1.Tie as tie
 

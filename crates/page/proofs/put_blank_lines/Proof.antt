@@ -3,8 +3,8 @@ use mathlib.Core.Path.{_≡_, refl, sym}
 use Prim.Native.Nat.{_+_, _*_, _-_, _≤_}
 use native.Mathlib.Omega.{arith}
 use lib.ListN.{length, replicate}
-use Rattle.lines.specs.inner.Puts.{Put}
-use Rattle.lines.proofs.Putting.{put-nothing, put-then, put-same}
+use Rattle.text.specs.inner.Puts.{Put}
+use Rattle.text.proofs.Putting.{put-nothing, put-then, put-same}
 use Rattle.page.specs.Page.{blankLine, joined}
 use Rattle.page.proofs.Parts.{blank-lines-next}
 use borrow.Author.Needs.{needs}

@@ -4,8 +4,8 @@ use Prim.Native.Nat.{_+_, _-_, _≤_}
 use native.Mathlib.Nat.{add-zero}
 use native.Mathlib.Omega.{arith}
 use lib.ListN.{length, length-set}
-use Rattle.lines.specs.inner.Puts.{Put}
-use Rattle.lines.proofs.Putting.{put-nothing, put-same}
+use Rattle.text.specs.inner.Puts.{Put}
+use Rattle.text.proofs.Putting.{put-nothing, put-same}
 use Rattle.page.specs.Page.{blanks}
 use Rattle.page.proofs.Blanks.{blanks-next}
 use borrow.Author.Needs.{needs}

@@ -1,6 +1,6 @@
 -- `page::put_end` meets its contract: the blanks are put, and then the line feed. Assumes nothing.
 use native.Mathlib.Omega.{arith}
-use Rattle.lines.proofs.Putting.{put-then, put-byte}
+use Rattle.text.proofs.Putting.{put-then, put-byte}
 use borrow.Author.Needs.{needs}
 use Rattle.page.proofs.put_end.Statement.{statement}
 use Rattle.page.proofs.put_end.Tie as tie

@@ -1,7 +1,7 @@
 -- `page::put_field` meets its contract: the blanks are put, and then the digits. Assumes nothing.
 use native.Mathlib.Omega.{arith}
 use Rattle.decimal.specs.Decimal.{written}
-use Rattle.lines.proofs.Putting.{put-then, put-same, put-of}
+use Rattle.text.proofs.Putting.{put-then, put-same, put-of}
 use Rattle.page.proofs.Blanks.{aligned}
 use borrow.Author.Needs.{needs}
 use Rattle.page.proofs.put_field.Statement.{statement}

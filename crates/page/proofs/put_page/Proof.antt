@@ -1,6 +1,6 @@
 -- `page::put_page` meets its contract: its parts are put one after another. Assumes nothing.
 use native.Mathlib.Omega.{arith}
-use Rattle.lines.proofs.Putting.{put-then, put-same}
+use Rattle.text.proofs.Putting.{put-then, put-same}
 use Rattle.page.proofs.Parts.{page-parts}
 use borrow.Author.Needs.{needs}
 use Rattle.page.proofs.put_page.Statement.{statement}

@@ -1,6 +1,6 @@
 -- `page::put_pages` meets its contract: one page, or one after the other. Assumes nothing.
 use native.Mathlib.Omega.{arith}
-use Rattle.lines.proofs.Putting.{put-then, put-same}
+use Rattle.text.proofs.Putting.{put-then, put-same}
 use Rattle.page.proofs.Parts.{one-page, two-pages}
 use borrow.Author.Needs.{needs}
 use Rattle.page.proofs.put_pages.Statement.{statement}

@@ -1,6 +1,6 @@
 -- `page::put_row` meets its contract: the six fields are put one after another, and the end of the line. Assumes nothing.
 use native.Mathlib.Omega.{arith}
-use Rattle.lines.proofs.Putting.{put-then, put-same}
+use Rattle.text.proofs.Putting.{put-then, put-same}
 use Rattle.page.proofs.Parts.{row-parts}
 use borrow.Author.Needs.{needs}
 use Rattle.page.proofs.put_row.Statement.{statement}

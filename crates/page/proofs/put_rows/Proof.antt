@@ -5,8 +5,8 @@ use Prim.Native.Nat.{_+_, _*_, _-_, _≤_}
 use native.Mathlib.Omega.{arith}
 use lib.ListN.{length, take, drop}
 use Rattle.model.specs.Rows.{zeroFigures}
-use Rattle.lines.specs.inner.Puts.{Put}
-use Rattle.lines.proofs.Putting.{put-nothing, put-then, put-same}
+use Rattle.text.specs.inner.Puts.{Put}
+use Rattle.text.proofs.Putting.{put-nothing, put-then, put-same}
 use Rattle.page.specs.Page.{rowLine, joined}
 use Rattle.page.proofs.Parts.{rows-none, rows-next}
 use borrow.Author.Needs.{needs}

@@ -2,7 +2,7 @@
 use native.Mathlib.Omega.{arith}
 use Rattle.decimal.specs.Decimal.{written}
 use Rattle.decimal.proofs.Written.{written-length}
-use Rattle.lines.proofs.Putting.{put-then, put-same, put-of}
+use Rattle.text.proofs.Putting.{put-then, put-same, put-of}
 use Rattle.page.proofs.Parts.{title-parts}
 use borrow.Author.Needs.{needs}
 use Rattle.page.proofs.put_title.Statement.{statement}

@@ -4,7 +4,7 @@ use Prim.Native.Nat.{_≤_}
 use native.Mathlib.Omega.{arith}
 use lib.ListN.{length}
 use Rattle.model.proofs.Places.{text-short}
-use Rattle.lines.proofs.Placing.{text-put}
+use Rattle.text.proofs.Placing.{text-put}
 use Rattle.page.proofs.Lines.{pages-least, pages-two, taken-length}
 use borrow.Author.Needs.{needs}
 use Rattle.page.proofs.write.Statement.{statement}

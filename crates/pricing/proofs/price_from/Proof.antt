@@ -8,8 +8,8 @@ use denote.Ref.{now}
 use borrow.Author.Needs.{needs}
 use borrow.Author.Tests.{ne-eqb}
 use Rattle.model.specs.Sheets.{runOf}
-use Rattle.stepprice.specs.inner.Steps.{Through}
-use Rattle.stepprice.proofs.StepCosts.{through-within}
+use Rattle.pricing.specs.inner.Steps.{Through}
+use Rattle.pricing.proofs.StepCosts.{through-within}
 use Rattle.pricing.proofs.Costing.{through-none, through-all}
 use Rattle.pricing.proofs.Verdicts.{first-fault, whole-verdict, other-length, refused-answer}
 use Rattle.pricing.proofs.price_from.Statement.{statement}

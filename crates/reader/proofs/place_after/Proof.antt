@@ -4,7 +4,7 @@ use mathlib.Core.Path.{ap, _∙_}
 use native.Mathlib.Omega.{arith}
 use borrow.Author.Needs.{needs}
 use lib.ListN.{length, drop, length-drop}
-use Rattle.lines.specs.Keys.{lineFeed}
+use Rattle.text.specs.Keys.{lineFeed}
 use Rattle.reader.specs.Parts.{afterLine}
 use Rattle.reader.proofs.Places.{after-length}
 use Rattle.reader.proofs.place_after.Statement.{statement}

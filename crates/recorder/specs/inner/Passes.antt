@@ -10,7 +10,7 @@ use Rattle.model.specs.declared.Head.{Head}
 use Rattle.buckets.specs.Buckets.{allEmpty}
 use Rattle.buckets.specs.inner.Pass.{passedOf}
 use Rattle.buckets.specs.declared.pass.Passed.{Passed}
-use Rattle.rowguards.specs.inner.Heads.{headWarm}
+use Rattle.recorder.specs.inner.Heads.{headWarm}
 use Rattle.recorder.specs.Recorders.{appended}
 use Rattle.recorder.specs.declared.Recorder.{Recorder}
 

@@ -1,6 +1,6 @@
 -- `exports::curving::segtrace_lru_plain` meets its contract: what was told of the answer of the misses. Assumes nothing.
 use borrow.Author.Needs.{needs}
-use Rattle.lentcalls.proofs.Told.{place-call}
+use Rattle.exports.proofs.Told.{place-call}
 use Rattle.exports.proofs.curving.segtrace_lru_plain.Statement.{statement}
 use Rattle.exports.proofs.curving.segtrace_lru_plain.Tie as tie
 

@@ -1,6 +1,6 @@
 -- `exports::importing::segtrace_import_din` meets its contract: what was told of the answer. Assumes nothing.
 use borrow.Author.Needs.{needs}
-use Rattle.lentcalls.proofs.Told.{place-call}
+use Rattle.exports.proofs.Told.{place-call}
 use Rattle.exports.proofs.importing.segtrace_import_din.Statement.{statement}
 use Rattle.exports.proofs.importing.segtrace_import_din.Tie as tie
 

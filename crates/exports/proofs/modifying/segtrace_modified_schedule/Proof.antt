@@ -1,6 +1,6 @@
 -- `exports::modifying::segtrace_modified_schedule` meets its contract: what was told of the schedule's answer. Assumes nothing.
 use borrow.Author.Needs.{needs}
-use Rattle.lentcalls.proofs.Told.{place-call}
+use Rattle.exports.proofs.Told.{place-call}
 use Rattle.exports.proofs.modifying.segtrace_modified_schedule.Statement.{statement}
 use Rattle.exports.proofs.modifying.segtrace_modified_schedule.Tie as tie
 

@@ -1,6 +1,6 @@
 -- `exports::operating::segtrace_points` meets its contract: what was told of the answer of the points. Assumes nothing.
 use borrow.Author.Needs.{needs}
-use Rattle.lentcalls.proofs.Told.{place-call}
+use Rattle.exports.proofs.Told.{place-call}
 use Rattle.exports.proofs.operating.segtrace_points.Statement.{statement}
 use Rattle.exports.proofs.operating.segtrace_points.Tie as tie
 

@@ -1,6 +1,6 @@
 -- `exports::pairing::segtrace_join` meets its contract: what was told of the answer. Assumes nothing.
 use borrow.Author.Needs.{needs}
-use Rattle.lentcalls.proofs.Told.{place-call}
+use Rattle.exports.proofs.Told.{place-call}
 use Rattle.exports.proofs.pairing.segtrace_join.Statement.{statement}
 use Rattle.exports.proofs.pairing.segtrace_join.Tie as tie
 

@@ -1,6 +1,6 @@
 -- `exports::windowing::segtrace_windows` meets its contract: what was told of the answer of the windows. Assumes nothing.
 use borrow.Author.Needs.{needs}
-use Rattle.lentcalls.proofs.Told.{place-call}
+use Rattle.exports.proofs.Told.{place-call}
 use Rattle.exports.proofs.windowing.segtrace_windows.Statement.{statement}
 use Rattle.exports.proofs.windowing.segtrace_windows.Tie as tie
 

@@ -9,7 +9,7 @@ use Rattle.model.specs.Sheets.{mostSegs, mostSteps}
 use Rattle.recorder.proofs.Bulk.{none-appended, takable, takable-few, all-run}
 use Rattle.recorder.proofs.Standing.{stands-roomy}
 use Rattle.recorder.proofs.Stepping.{taken-stands}
-use Rattle.guards.proofs.Telling.{failed, passed}
+use Rattle.recorder.proofs.Telling.{failed, passed}
 use Rattle.recorder.proofs.taking.take_all.Statement.{statement}
 use Rattle.recorder.proofs.taking.take_all.Tie as tie
 

@@ -1,0 +1,62 @@
+-- What the calls for the misses of least-recently-used replacement answer for a run of bytes, and what holds of the misses (request F-9)
+-- and of the entries looked at (request F-10). Assumes nothing.
+use Prim.Native.Nat.{ℕ, _-_, _*_, _≤_}
+use mathlib.Core.Path.{_≡_}
+use mathlib.Core.List.{List}
+use lib.ListN.{length, getD}
+use Rattle.model.specs.Places.{Result, gives, refuses, answerFor, PlaceLeft}
+use Rattle.model.specs.Sheets.{SheetValue, traceOf}
+use Rattle.model.specs.Traces.{segs, steps, refsOf}
+use Rattle.model.specs.declared.Refusal.{Refusal}
+use Rattle.model.specs.declared.Verdict.the-variants.{Accepted, Refused}
+use Rattle.sheet.specs.Accepting.{onSheet}
+use Rattle.sheet.specs.Reading.{accepted, readSheet}
+use Rattle.lru.specs.Recency.{lruMisses, entriesLooked, distinct}
+use Rattle.lru.specs.Memory.{lruSimulated}
+use Rattle.lru_curve.specs.Frames.{onesVerdict}
+use Rattle.lru_curve.specs.Answers.{curveFor, plainFor, lookedFor}
+use Rattle.lru_curve.specs.declared.CurveAnswer.{CurveAnswer}
+
+-- the misses with 1, 2, .., segs frames of the sheet that the bytes stand for: the sheet's refusals, 26, 27, then 11 by the place
+unfoldable pub lruResult : List ℕ → Result
+lruResult s = onSheet (readSheet s) refuses curveFor
+
+-- the entries of the recency list that are looked at for the list in this place: none where the call is refused
+unfoldable pub lruLooked : List ℕ → List ℕ → ℕ
+lruLooked s place = onSheet (readSheet s) (λ why. 0) (λ v. lookedFor v (answerFor (curveFor v) place .verdict))
+
+-- what the call by distances answers, and what the place is before and after it
+pub record LruLeft (s place place' : List ℕ) (answer : CurveAnswer) : Type 0 where
+  pub left : PlaceLeft (lruResult s) place place' (answer .placed)
+  pub looked-is : answer .looked ≡ lruLooked s place
+
+-- the same misses, each number of frames simulated in turn
+unfoldable pub lruPlainResult : List ℕ → Result
+lruPlainResult s = onSheet (readSheet s) refuses plainFor
+
+-- what holds of the misses that are given for a sheet v
+pub record Misses (v : SheetValue) (list : List ℕ) : Type 0 where
+  -- every size is 1 and no segment is warm
+  pub verdict : onesVerdict (v .head .sizes) (length (v .head .warm)) ≡ Accepted
+  -- a number for each number of frames from 1 to segs: the misses with k frames, by distances and by simulation
+  pub counted : length list ≡ segs (traceOf v)
+  pub by-distances : (k : ℕ) → 1 ≤ k → k ≤ segs (traceOf v) → getD list (k - 1) 0 ≡ lruMisses (traceOf v) k
+  pub by-simulation : (k : ℕ) → 1 ≤ k → k ≤ segs (traceOf v) → getD list (k - 1) 0 ≡ lruSimulated (traceOf v) k
+  -- more frames never miss more often
+  pub falls : (k m : ℕ) → 1 ≤ k → k ≤ m → m ≤ segs (traceOf v) → getD list (m - 1) 0 ≤ getD list (k - 1) 0
+  -- from as many frames as segments are touched on, each of these misses once
+  pub least : (k : ℕ) → 1 ≤ k → distinct (traceOf v) (steps (traceOf v)) ≤ k → k ≤ segs (traceOf v)
+      → getD list (k - 1) 0 ≡ distinct (traceOf v) (steps (traceOf v))
+
+-- what holds of the calls on every run of bytes s
+pub record LruFromBytes (s : List ℕ) : Type 0 where
+  -- both engines give the same list, or the same refusal
+  pub same : lruResult s ≡ lruPlainResult s
+  pub misses : (v : SheetValue) → readSheet s ≡ accepted v → (list : List ℕ) → lruResult s ≡ gives list → Misses v list
+  -- the entries looked at are those of the definition where the list is written, and none where it is not
+  pub looked : (v : SheetValue) → readSheet s ≡ accepted v → (place : List ℕ) → answerFor (lruResult s) place .verdict ≡ Accepted
+      → lruLooked s place ≡ entriesLooked (traceOf v)
+  pub none-looked : (why : Refusal) (place : List ℕ) → answerFor (lruResult s) place .verdict ≡ Refused why → lruLooked s place ≡ 0
+  -- they never exceed refs × the distinct segments
+  pub bounded : (v : SheetValue) → readSheet s ≡ accepted v → (place : List ℕ)
+      → lruLooked s place ≤ refsOf (traceOf v) * distinct (traceOf v) (steps (traceOf v))

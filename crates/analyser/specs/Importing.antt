@@ -1,0 +1,51 @@
+-- Traces in the din text form as sheets, on bytes (request F-8): what the call has for a lent place, and what holds of the text that it
+-- gives. Assumes nothing.
+use Prim.Native.Nat.{ℕ, _≤_, _<_}
+use mathlib.Core.Path.{_≡_}
+use mathlib.Core.List.{List}
+use mathlib.Core.Logic.{_↔_}
+use lib.ListN.{length, getD}
+use Rattle.model.specs.Places.{Result, gives, refuses}
+use Rattle.model.specs.Sheets.{SheetValue, Valid, formBytes}
+use Rattle.model.specs.declared.PriceRow.{PriceRow}
+use Rattle.sheet.specs.Accepting.{onSheet}
+use Rattle.sheet.specs.Reading.{accepted, readSheet}
+use Rattle.sheet.specs.Writing.{sheetText}
+use Rattle.din.specs.Import.{sheetOfPages, imported}
+use Rattle.din.specs.Lines.{linesOf}
+use Rattle.din.specs.Pages.{placeIn, firsts}
+use Rattle.din.specs.Traced.{lineCount, pagesIn, pageAt, pagesBefore}
+
+-- the sheet of a trace with the rows: 23, 24 and 25 line by line, then 11 by the place
+abbrev pub importedResult : List ℕ → ℕ → List PriceRow → Result
+importedResult trace k rows = onSheet (imported k trace rows) refuses (λ u. gives (sheetText u))
+
+-- the same with the rows of the sheet that the bytes stand for: its refusals come before
+unfoldable pub importResult : List ℕ → ℕ → List ℕ → Result
+importResult trace k s = onSheet (readSheet s) refuses (λ v. importedResult trace k (v .head .rows))
+
+-- the imported sheet with the rows of the sheet v
+abbrev pub importedValue : List ℕ → ℕ → SheetValue → SheetValue
+importedValue trace k v = sheetOfPages (pagesIn k trace) (v .head .rows)
+
+-- the segment that the line at place t touches
+abbrev pub importedSegment : List ℕ → ℕ → SheetValue → ℕ → ℕ
+importedSegment trace k v t = getD (importedValue trace k v .refs) t 0
+
+-- what holds of the text that the call gives for a trace, with the rows of a run of bytes that reads as v
+pub record ImportedFromBytes (trace : List ℕ) (k : ℕ) (v : SheetValue) (text : List ℕ) : Type 0 where
+  -- it is that of the imported sheet; it is read as that sheet, a valid one of form 1, and has at most 20,012 bytes
+  pub text-is : text ≡ sheetText (importedValue trace k v)
+  pub read-again : readSheet text ≡ accepted (importedValue trace k v)
+  pub valid : Valid (importedValue trace k v)
+  pub within : length text ≤ formBytes 1
+  -- there is one reference for each line
+  pub refs-counted : length (importedValue trace k v .refs) ≡ lineCount (linesOf trace)
+  -- two lines touch the same segment exactly where their addresses lie in one page
+  pub same-segment : (t u : ℕ) → t < lineCount (linesOf trace) → u < lineCount (linesOf trace)
+      → (importedSegment trace k v t ≡ importedSegment trace k v u) ↔ (pageAt k trace t ≡ pageAt k trace u)
+  -- numbered by first appearance: the segment is the place of the page among those of the lines before, and the next number for a new page
+  pub numbered : (t : ℕ) → t < lineCount (linesOf trace)
+      → importedSegment trace k v t ≡ placeIn (firsts (pagesBefore k trace t)) (pageAt k trace t)
+  pub new-page : (t : ℕ) → t < lineCount (linesOf trace) → ((u : ℕ) → u < t → pageAt k trace u ≡ pageAt k trace t → ⊥)
+      → importedSegment trace k v t ≡ length (firsts (pagesBefore k trace t))

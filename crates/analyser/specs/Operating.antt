@@ -1,0 +1,38 @@
+-- What the call for the operating points answers for a run of bytes, and what holds of the points (request F-11). Assumes nothing.
+use Prim.Native.Nat.{ℕ, _*_, _≤_, _<_}
+use mathlib.Core.Path.{_≡_}
+use mathlib.Core.List.{List}
+use lib.ListN.{length}
+use Rattle.model.specs.Places.{Result, gives, refuses, answerFor}
+use Rattle.model.specs.Sheets.{SheetValue, traceOf, rowAt, mostSteps}
+use Rattle.model.specs.declared.Verdict.the-variants.{Accepted}
+use Rattle.sheet.specs.Accepting.{onSheet}
+use Rattle.sheet.specs.Reading.{readSheet}
+use Rattle.points.specs.Points.{thresholds, pointMemory, pointLoad, operatingPoints}
+use Rattle.points.specs.Curve.{FromThreshold, Curve}
+use Rattle.point_list.specs.Answers.{pointsFor}
+use Rattle.analyser.specs.Answers.{figuresAnswer}
+
+-- every operating point of the sheet that the bytes stand for: the sheet's refusals, then 11 by the place
+unfoldable pub pointsResult : List ℕ → Result
+pointsResult s = onSheet (readSheet s) refuses pointsFor
+
+-- the point of row r: that of the greatest threshold not above the row's. Its memory and its load are those that the figures call reports
+pub record RowPoint (s : List ℕ) (v : SheetValue) (r : ℕ) : Type 0 where
+  pub point : ℕ
+  pub from : FromThreshold (traceOf v) point (rowAt v r .h) (rowAt v r .d)
+  pub reported-memory : figuresAnswer s r .figures .optmem .0 ≡ pointMemory (traceOf v) point
+  pub reported-load : figuresAnswer s r .figures .load .0 ≡ pointLoad (traceOf v) point
+
+-- what holds of the points of the bytes s, which read as the sheet v
+pub record PointsFromBytes (s : List ℕ) (v : SheetValue) : Type 0 where
+  -- they are given, four numbers each
+  pub given : pointsResult s ≡ gives (operatingPoints (traceOf v))
+  pub counted : length (operatingPoints (traceOf v)) ≡ 4 * length (thresholds (traceOf v))
+  -- there are at most 2,048 of them, so a place for as many suffices
+  pub few : length (thresholds (traceOf v)) ≤ mostSteps
+  pub fits : (place : List ℕ) → 4 * mostSteps ≤ length place → answerFor (pointsResult s) place .verdict ≡ Accepted
+  -- they are all there is, and no permitted schedule lies below a line through neighbours
+  pub curve : Curve (traceOf v)
+  -- and each row has its point
+  pub row : (r : ℕ) → r < length (v .head .rows) → RowPoint s v r

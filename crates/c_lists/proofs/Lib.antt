@@ -1,0 +1,4 @@
+pub mod BucketSums
+pub mod PriceRows
+pub mod RecorderLists
+pub mod RowNumbers

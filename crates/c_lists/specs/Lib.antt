@@ -1,0 +1,4 @@
+pub mod Figures
+pub mod Recorders
+pub mod Tables
+pub mod inner

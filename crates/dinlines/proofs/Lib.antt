@@ -1,3 +1,0 @@
-pub mod DigitValues
-pub mod Digits
-pub mod FirstLines

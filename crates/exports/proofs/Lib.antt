@@ -1,0 +1,4 @@
+pub mod Found
+pub mod RecorderCalls
+pub mod Rewriting
+pub mod Told

@@ -1,0 +1,3 @@
+pub mod Curving
+pub mod Exported
+pub mod Recording

@@ -1,3 +1,0 @@
-pub mod Engines
-pub mod Ones
-pub mod Writing

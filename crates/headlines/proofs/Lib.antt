@@ -1,3 +1,0 @@
-pub mod HeadParts
-pub mod HeadStages
-pub mod WarmTables

@@ -1,2 +1,0 @@
-pub mod Curving
-pub mod Exported

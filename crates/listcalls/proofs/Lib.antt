@@ -1,5 +1,0 @@
-pub mod GivenLists
-pub mod LookedAt
-pub mod LruFromBytes
-pub mod PointsFromBytes
-pub mod WindowsFromBytes

@@ -1,3 +1,0 @@
-pub mod Curving
-pub mod Operating
-pub mod Windowing

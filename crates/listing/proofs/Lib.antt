@@ -1,0 +1,4 @@
+pub mod ListingMost
+pub mod ListingParts
+pub mod RowLines
+pub mod RowParts

@@ -1,0 +1,128 @@
+-- The place of a segment in a list: found by looking at one entry after the other, and what it says of the list. Assumes nothing.
+use Prim.Native.Nat.{ℕ, zero, suc, _+_, _-_, _≤_, _<_}
+use mathlib.Core.Path.{_≡_, refl, sym, ap, _∙_}
+use mathlib.Core.Bool.{Bool, true, false, cond, _||_, true≢false}
+use mathlib.Core.List.{List, [], _∷_, _++_}
+use mathlib.Core.Option.{none, some}
+use native.Mathlib.Omega.{arith}
+use lib.Dec.{eqb, ltb}
+use lib.ListN.{length, getD, take, drop, length-drop, drop-of-length-le}
+use lib.Seq.{drop-cons, drop-drop}
+use borrow.Author.Tests.{lt-ltb, le-ltb, ltb-true, ltb-false, eqb-true, eq-eqb, ne-eqb}
+use Rattle.model.specs.Traces.{later}
+use Rattle.lru.specs.Orders.{has, placeOf, without}
+use Rattle.lru_curve.specs.inner.Entries.{indexIn, PassedBy}
+
+-- one entry more that is not x, the entry that is, and the end of the list
+pub index-next : (x : ℕ) (l : List ℕ) (i : ℕ) → PassedBy x l i → i < length l → (getD l i 0 ≡ x → ⊥) → PassedBy x l (suc i)
+unfolding indexIn
+index-next x l i e lt other =
+    e ∙ (ap (λ (r : List ℕ). i + indexIn x r) (drop-cons l i 0 lt) ∙ rw (ne-eqb (getD l i 0) x other) (omega arith))
+
+pub index-here : (x : ℕ) (l : List ℕ) (i : ℕ) → PassedBy x l i → i < length l → getD l i 0 ≡ x → i ≡ indexIn x l
+unfolding indexIn
+index-here x l i e lt same =
+    sym (e ∙ (ap (λ (r : List ℕ). i + indexIn x r) (drop-cons l i 0 lt) ∙ rw (eq-eqb (getD l i 0) x same) (omega arith)))
+
+pub index-none : (x : ℕ) (l : List ℕ) (i : ℕ) → PassedBy x l i → length l ≤ i → i ≡ indexIn x l
+unfolding indexIn
+index-none x l i e le = sym (e ∙ (ap (λ (r : List ℕ). i + indexIn x r) (drop-of-length-le l le) ∙ omega arith))
+
+-- several entries more, none of which is x
+skipped : (x k : ℕ) (l : List ℕ) → k ≤ length l → has x (take k l) ≡ false → PassedBy x l k
+unfolding has indexIn
+skipped x zero l le e = omega arith
+skipped x (suc k) [] le e = absurd (omega arith)
+skipped x (suc k) (y ∷ ys) le e = go (eqb y x) refl e (skipped x k ys (omega arith))
+  where
+    go : (b : Bool) → eqb y x ≡ b → eqb y x || has x (take k ys) ≡ false → (has x (take k ys) ≡ false → PassedBy x ys k)
+        → cond (eqb y x) 0 (suc (indexIn x ys)) ≡ suc k + indexIn x (drop k ys)
+    go true t e ih = absurd (true≢false (rw t at e))
+    go false t e ih = rw t (omega (arith, ih (rw t at e)))
+
+pub index-skip : (x : ℕ) (l : List ℕ) (i end : ℕ) → PassedBy x l i → i ≤ end → end ≤ length l
+    → has x (take (end - i) (drop i l)) ≡ false → PassedBy x l end
+index-skip x l i end e le within others =
+    let at : i + (end - i) ≡ end = omega arith in
+    omega (
+      arith,
+      e,
+      skipped x (end - i) (drop i l) (omega (arith, length-drop i l)) others,
+      ap (λ (r : List ℕ). indexIn x r) (drop-drop (end - i) i l),
+      ap (λ (k : ℕ). indexIn x (drop k l)) at,
+    )
+
+-- whether the list has x, found by looking at all entries: one entry more, and the end of the list
+pub has-next : (x : ℕ) (l : List ℕ) (i : ℕ) (found : Bool) → found || has x (drop i l) ≡ has x l → i < length l
+    → (found || eqb (getD l i 0) x) || has x (drop (suc i) l) ≡ has x l
+unfolding has
+has-next x l i true e lt = e
+has-next x l i false e lt = ap (λ (r : List ℕ). has x r) (sym (drop-cons l i 0 lt)) ∙ e
+
+pub has-end : (x : ℕ) (l : List ℕ) (i : ℕ) (found : Bool) → found || has x (drop i l) ≡ has x l → length l ≤ i → found ≡ has x l
+unfolding has
+has-end x l i true e le = e
+has-end x l i false e le = ap (λ (r : List ℕ). has x r) (sym (drop-of-length-le l le)) ∙ e
+
+ltb-suc : (a b : ℕ) → ltb (suc a) (suc b) ≡ ltb a b
+ltb-suc a b = go (ltb a b) refl
+  where
+    go : (c : Bool) → ltb a b ≡ c → ltb (suc a) (suc b) ≡ ltb a b
+    go true e = rw (e, lt-ltb (suc a) (suc b) (omega (arith, ltb-true a b e)))
+    go false e = rw (e, le-ltb (suc a) (suc b) (omega (arith, ltb-false a b e)))
+
+pub index-within : (x : ℕ) (l : List ℕ) → indexIn x l ≤ length l
+unfolding indexIn
+index-within x [] = omega arith
+index-within x (y ∷ ys) = go (eqb y x) refl (index-within x ys)
+  where
+    go : (b : Bool) → eqb y x ≡ b → indexIn x ys ≤ length ys → cond (eqb y x) 0 (suc (indexIn x ys)) ≤ suc (length ys)
+    go true e ih = rw e (omega arith)
+    go false e ih = rw e (omega arith)
+
+-- the list has x where its index is within it
+pub has-index : (x : ℕ) (l : List ℕ) → has x l ≡ ltb (indexIn x l) (length l)
+unfolding has indexIn
+has-index x [] = refl
+has-index x (y ∷ ys) = go (eqb y x) refl (has-index x ys)
+  where
+    go : (b : Bool) → eqb y x ≡ b → has x ys ≡ ltb (indexIn x ys) (length ys)
+        → eqb y x || has x ys ≡ ltb (cond (eqb y x) 0 (suc (indexIn x ys))) (suc (length ys))
+    go true e ih = rw (e, lt-ltb 0 (suc (length ys)) (omega arith))
+    go false e ih = rw (e, ltb-suc (indexIn x ys) (length ys)) ih
+
+-- and its place there is one more
+pub place-index : (x : ℕ) (l : List ℕ) → placeOf x l ≡ cond (ltb (indexIn x l) (length l)) (some (suc (indexIn x l))) none
+unfolding placeOf indexIn later
+place-index x [] = refl
+place-index x (y ∷ ys) = go (eqb y x) refl (ltb (indexIn x ys) (length ys)) refl (place-index x ys)
+  where
+    go : (b : Bool) → eqb y x ≡ b → (c : Bool) → ltb (indexIn x ys) (length ys) ≡ c
+        → placeOf x ys ≡ cond (ltb (indexIn x ys) (length ys)) (some (suc (indexIn x ys))) none
+        → cond (eqb y x) (some 1) (later (placeOf x ys))
+        ≡ cond (ltb (cond (eqb y x) 0 (suc (indexIn x ys))) (suc (length ys))) (some (suc (cond (eqb y x) 0 (suc (indexIn x ys))))) none
+    go true e c l ih = rw (e, lt-ltb 0 (suc (length ys)) (omega arith))
+    go false e true l ih = rw (e, ih, ltb-suc (indexIn x ys) (length ys), l)
+    go false e false l ih = rw (e, ih, ltb-suc (indexIn x ys) (length ys), l)
+
+-- the entry at the index is x, and without it the list has the entries before and behind; where there is none the list is as it was
+pub entry-index : (x : ℕ) (l : List ℕ) → indexIn x l < length l → getD l (indexIn x l) 0 ≡ x
+unfolding indexIn
+entry-index x [] lt = absurd (omega arith)
+entry-index x (y ∷ ys) lt = go (eqb y x) refl lt (entry-index x ys)
+  where
+    go : (b : Bool) → eqb y x ≡ b → cond (eqb y x) 0 (suc (indexIn x ys)) < suc (length ys)
+        → (indexIn x ys < length ys → getD ys (indexIn x ys) 0 ≡ x) → getD (y ∷ ys) (cond (eqb y x) 0 (suc (indexIn x ys))) 0 ≡ x
+    go true e lt ih = rw e (eqb-true y x e)
+    go false e lt ih = rw e (ih (omega (arith, rw e at lt)))
+
+pub without-index : (x : ℕ) (l : List ℕ) → without x l ≡ take (indexIn x l) l ++ drop (suc (indexIn x l)) l
+unfolding without indexIn
+without-index x [] = refl
+without-index x (y ∷ ys) = go (eqb y x) refl (without-index x ys)
+  where
+    go : (b : Bool) → eqb y x ≡ b → without x ys ≡ take (indexIn x ys) ys ++ drop (suc (indexIn x ys)) ys
+        → cond (eqb y x) ys (y ∷ without x ys)
+        ≡ take (cond (eqb y x) 0 (suc (indexIn x ys))) (y ∷ ys) ++ drop (suc (cond (eqb y x) 0 (suc (indexIn x ys)))) (y ∷ ys)
+    go true e ih = rw e
+    go false e ih = rw (e, ih)

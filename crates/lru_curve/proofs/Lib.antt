@@ -1,0 +1,12 @@
+pub mod Answers
+pub mod Engines
+pub mod Filling
+pub mod Fronts
+pub mod Indexes
+pub mod Ones
+pub mod Passes
+pub mod Shifts
+pub mod Simulations
+pub mod Sums
+pub mod Walks
+pub mod Writing

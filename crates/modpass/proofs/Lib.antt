@@ -1,4 +1,0 @@
-pub mod Adding
-pub mod Bounds
-pub mod Tables
-pub mod Touches

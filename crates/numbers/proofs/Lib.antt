@@ -1,3 +1,0 @@
-pub mod BucketSums
-pub mod PriceRows
-pub mod RowNumbers

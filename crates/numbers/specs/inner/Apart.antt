@@ -1,8 +1,0 @@
--- The prices of rows, apart, by value. Assumes nothing.
-use mathlib.Core.List.{List, map}
-use Rattle.model.specs.declared.PriceRow.{PriceRow}
-use Rattle.numbers.specs.declared.tables.Prices.{Prices}
-
--- the prices of rows, apart
-abbrev pub pricesOf : List PriceRow → Prices
-pricesOf rows = record { h = map (λ q. q .h) rows; d = map (λ q. q .d) rows }

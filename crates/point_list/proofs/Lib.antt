@@ -1,0 +1,10 @@
+pub mod Along
+pub mod Fine
+pub mod Fitting
+pub mod Keys
+pub mod Ordered
+pub mod Passing
+pub mod Quotients
+pub mod Running
+pub mod Steps
+pub mod Writing

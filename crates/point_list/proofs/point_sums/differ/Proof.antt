@@ -1,0 +1,13 @@
+-- `point_list::point_sums::differ` meets its contract: its test is that of the definition. Assumes nothing.
+use borrow.Author.Tests.{eq-eqb, ne-eqb}
+use Rattle.point_list.proofs.point_sums.differ.Statement.{statement}
+use Rattle.point_list.proofs.point_sums.differ.Tie as tie
+
+returns : tie.Need-returns
+returns c = simp (eq-eqb _ _ (c .if1 .taken))
+
+returns-2 : tie.Need-returns-2
+returns-2 c = simp (ne-eqb _ _ (c .if1 .left))
+
+pub differ-spec : {M : Type 1} → statement M
+differ-spec = tie.close (tie.spec returns returns-2)

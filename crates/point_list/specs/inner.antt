@@ -1,0 +1,4 @@
+pub mod Held
+pub mod Keys
+pub mod Noting
+pub mod Walk

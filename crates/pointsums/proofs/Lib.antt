@@ -1,4 +1,0 @@
-pub mod Along
-pub mod Ordered
-pub mod Running
-pub mod Writing

@@ -1,0 +1,9 @@
+pub mod Answered
+pub mod EntriesRead
+pub mod FormLines
+pub mod HeadParts
+pub mod HeadStages
+pub mod ReadRows
+pub mod ReadStages
+pub mod ReadWarm
+pub mod WarmTables

@@ -1,0 +1,43 @@
+-- `read_sheet::row_lines::row_value` meets its contract: the two sides of the first "/" are read as the two prices. Assumes nothing.
+use mathlib.Core.Path.{sym, _∙_}
+use native.Mathlib.Omega.{arith}
+use borrow.Author.Needs.{needs}
+use lib.Seq.{length-take-le}
+use Rattle.read_sheet.proofs.ReadRows.{reading-bound, row-value, row-none}
+use Rattle.read_sheet.proofs.row_lines.row_value.Statement.{statement}
+use Rattle.read_sheet.proofs.row_lines.row_value.Tie as tie
+
+slice-aggregate-read : tie.Need-slice-aggregate-read
+slice-aggregate-read c = sym (length-take-le _ _ (omega arith))
+
+row-of-requires : tie.Need-row-of-requires
+row-of-requires c κs = (reading-bound _ _ _ _ (c .before .before .read .ensures), reading-bound _ _ _ _ (c .read2 .ensures))
+
+returns : tie.Need-returns
+returns c =
+    let y = c .before in
+    let x = y .before .before in
+    let k = x .before .before in (
+      λ s. c .row-of .ensures .0 s
+          ∙ row-value _ _ _ _ _ _ (k .before .find .ensures .1) (k .if1 .taken) (x .read .ensures) (y .read2 .ensures),
+      c .row-of .ensures .1,
+    )
+
+returns-2 : tie.Need-returns-2
+returns-2 c = (λ s. row-none _ _ _ _ (c .before .find .ensures .1) (c .if1 .left), omega arith)
+
+pub row-value-spec : {M : Type 1} → statement M
+row-value-spec =
+    tie.close
+    (tie.spec
+    (λ c κs. search needs)
+    (λ c. search needs)
+    slice-aggregate-read
+    (λ c κs. search needs)
+    (λ c. search needs)
+    (λ c. search needs)
+    (λ c. search needs)
+    (λ c κs. search needs)
+    row-of-requires
+    returns
+    returns-2)

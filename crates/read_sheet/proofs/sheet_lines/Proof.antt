@@ -1,0 +1,77 @@
+-- `read_sheet::sheet_lines` meets its contract: the head, and the answer to the rest. Assumes nothing.
+use mathlib.Core.Path.{refl}
+use Prim.Native.Nat.{_≤_}
+use native.Mathlib.Omega.{arith}
+use borrow.Author.Needs.{needs}
+use lib.ListN.{length}
+use Rattle.model.specs.Sheets.{mostSegs}
+use Rattle.model.proofs.Values.{zeros-length}
+use Rattle.sheet.specs.Answers.{answerOf}
+use Rattle.sheet.specs.Reading.{atEnd}
+use Rattle.scan.proofs.Stages.{stage-read, stage-refused}
+use Rattle.read_sheet.specs.inner.HeadsAtPlace.{headWith}
+use Rattle.read_sheet.proofs.HeadParts.{some-segs}
+use Rattle.read_sheet.proofs.HeadStages.{head-parsed, head-unread, head-place}
+use Rattle.read_sheet.proofs.Answered.{none-answered}
+use Rattle.read_sheet.proofs.sheet_lines.Statement.{statement}
+use Rattle.read_sheet.proofs.sheet_lines.Tie as tie
+
+-- the lines of the head end within the bytes
+place : (c : tie.After-lines2) → c .lines2 .given .0 .0
+    ≤ length (c .before .before .before .before .before .before .before .before .before .before .before .before .before .before .args .s
+    .now)
+place c = head-place _ _ _ _ _ _ (c .before .before .before .before .before .before .head-lines .ensures) (c .lines2 .given .1)
+
+sub-run-lines : tie.Need-sub-run-lines
+sub-run-lines c = omega (arith, place (c .before))
+
+part-run-lines-start : tie.Need-part-run-lines-start
+part-run-lines-start c = omega (arith, place (c .before))
+
+run-lines-requires : tie.Need-run-lines-requires
+run-lines-requires c κs =
+    let w = c .before .before .before .before in
+    let h = w .before .before .before .before .before .before in
+    let f = h .head-lines .ensures in (
+      (
+        some-segs _ _ _ _ _ (f .filled) (head-parsed _ _ _ _ _ _ f (w .lines2 .given .1)),
+        omega (arith, zeros-length mostSegs, f .filled .sizes .within),
+      ),
+      h .before .before .before .before .before .before .before .before .pre .1,
+    )
+
+returns : tie.Need-returns
+returns c =
+    let w = c .before .before in
+    stage-refused (λ q. answerOf (atEnd q)) _ _ _ _ (none-answered (c .no-sheet .result) _ _ _ _ _ (c .no-sheet .ensures))
+    (head-unread _ _ _ _ _ _ (w .before .before .before .before .before .before .head-lines .ensures) (w .lines .given .1))
+
+returns-2 : tie.Need-returns-2
+returns-2 c =
+    let r = c .before .before .before .before .run-lines in
+    let w = c .before .before .before .before .before .before .before .before .before in
+    let h = w .before .before .before .before .before .before .head-lines in
+    let head = headWith (h .result) (h .last .1 .1 .1 .0) (h .last .1 .1 .1 .1 .0) in
+    stage-read (λ q. answerOf (atEnd q)) _ _ _ _ (w .lines2 .given .0 .0) _ (r .ensures head (h .ensures .filled) refl)
+    (head-parsed _ _ _ _ _ _ (h .ensures) (w .lines2 .given .1))
+
+pub sheet-lines-spec : {M : Type 1} → statement M
+sheet-lines-spec =
+    tie.close
+    (tie.spec
+    (λ c κs. search needs)
+    (λ c. search needs)
+    (λ c κs. search needs)
+    (λ c. search needs)
+    sub-run-lines
+    part-run-lines-start
+    (λ c. search needs)
+    run-lines-requires
+    (λ c. search needs)
+    (λ c. search needs)
+    returns
+    (λ c. search needs)
+    (λ c. search needs)
+    (λ c. search needs)
+    (λ c. search needs)
+    returns-2)

@@ -1,0 +1,3 @@
+pub mod ReadTouches
+pub mod ShortTouches
+pub mod TouchValues

@@ -1,7 +1,0 @@
--- `recordnumbers::kind_number` meets its contract. Assumes nothing.
-use borrow.Author.Needs.{needs}
-use Rattle.recordnumbers.proofs.kind_number.Statement.{statement}
-use Rattle.recordnumbers.proofs.kind_number.Tie as tie
-
-pub kind-number-spec : {M : Type 1} → statement M
-kind-number-spec = tie.close (tie.spec (λ c. search needs) (λ c. search needs) (λ c. search needs) (λ c. search needs))

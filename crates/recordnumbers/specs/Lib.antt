@@ -1,2 +1,0 @@
-pub mod Recorders
-pub mod inner

@@ -1,2 +1,0 @@
-pub mod ListingMost
-pub mod ListingParts

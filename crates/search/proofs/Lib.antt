@@ -1,5 +1,0 @@
-pub mod FirstRow
-pub mod Halving
-pub mod Looks
-pub mod QuotedRows
-pub mod RatedSegments

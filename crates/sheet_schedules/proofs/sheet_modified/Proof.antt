@@ -1,0 +1,128 @@
+-- `sheet_schedules::sheet_modified` meets its contract: the row and the room are tested, and the schedule of the least total with stores
+-- counted is written. Assumes nothing.
+use Prim.Native.Nat.{_*_, _≤_, _<_}
+use mathlib.Core.Path.{sym, _∙_}
+use native.Mathlib.Omega.{arith}
+use borrow.Author.Needs.{needs}
+use borrow.Author.Tests.{ltb-true, ltb-false}
+use lib.ListN.{length}
+use lib.Seq.{length-take-le}
+use Rattle.model.specs.Values.{headValueOf, valueOf}
+use Rattle.sheet_schedules.proofs.PlanResults.{modified-no-row, modified-short, modified-placed}
+use Rattle.model.proofs.Standing.{rows-counted, steps-counted, row-of, marks-counted, marks-steps}
+use Rattle.sheet_schedules.proofs.sheet_modified.Statement.{statement}
+use Rattle.sheet_schedules.proofs.sheet_modified.Tie as tie
+
+returns : tie.Need-returns
+returns c =
+    let s = c .before .before .before .before in
+    let n = rows-counted (s .args .s) (s .pre .0) in
+    rw (c .refused .ensures)
+    (modified-no-row (valueOf (s .args .s)) (s .args .row) (s .args .out .now) (omega (arith, c .before .if1 .taken)))
+
+returns-2 : tie.Need-returns-2
+returns-2 c =
+    let t = c .before .before in
+    let s = t .before .before .before .before .before in
+    let n = rows-counted (s .args .s) (s .pre .0) in
+    let m = steps-counted (s .args .s) (s .pre .0) in
+    let less = ltb-true (length (s .args .out .now)) _ (sym (t .too-short .ensures) ∙ c .before .if2 .taken) in
+    rw (c .refused2 .ensures)
+    (modified-short (valueOf (s .args .s)) (s .args .row) (s .args .out .now) (omega (arith, t .before .before .if1 .left))
+    (omega (arith, less)))
+
+-- where the row and the room were tested, and where the function begins
+abbrev Fits : tie.After-write-modified-arg → tie.Else2
+Fits c = c .before .before .before .before .before .before
+
+abbrev Entry : tie.After-write-modified-arg → tie.Start
+Entry c = Fits c .before .before .before .before .before .before
+
+-- the place is long enough
+room : (c : tie.After-write-modified-arg) → 32 * Entry c .args .s .steps ≤ length (Entry c .args .out .now)
+room c =
+    let e = Fits c in
+    ltb-false (length (Entry c .args .out .now)) _ (sym (e .before .too-short .ensures) ∙ e .if2 .left)
+
+array-share-prefix-sizes : tie.Need-array-share-prefix-sizes
+array-share-prefix-sizes c = omega (arith, Entry c .pre .0)
+
+slice-aggregate-write-modified : tie.Need-slice-aggregate-write-modified
+slice-aggregate-write-modified c = sym (length-take-le _ _ (omega (arith, Entry (c .before) .pre .0)))
+
+array-share-prefix-holds : tie.Need-array-share-prefix-holds
+array-share-prefix-holds c = omega (arith, Entry (c .before) .pre .0)
+
+slice-aggregate-write-modified-2 : tie.Need-slice-aggregate-write-modified-2
+slice-aggregate-write-modified-2 c = sym (length-take-le _ _ (omega (arith, Entry (c .before .before) .pre .0)))
+
+array-share-prefix-touches : tie.Need-array-share-prefix-touches
+array-share-prefix-touches c = omega (arith, Entry (c .before .before) .pre .0)
+
+slice-aggregate-write-modified-3 : tie.Need-slice-aggregate-write-modified-3
+slice-aggregate-write-modified-3 c = sym (length-take-le _ _ (omega (arith, Entry (c .before .before .before) .pre .0)))
+
+array-share-prefix-marks : tie.Need-array-share-prefix-marks
+array-share-prefix-marks c = omega (arith, Entry (c .before .before .before) .pre .0)
+
+slice-aggregate-write-modified-4 : tie.Need-slice-aggregate-write-modified-4
+slice-aggregate-write-modified-4 c = sym (length-take-le _ _ (omega (arith, Entry (c .before .before .before .before) .pre .0)))
+
+write-modified-requires : tie.Need-write-modified-requires
+unfolding valueOf headValueOf
+write-modified-requires c κs =
+    let b = c .before .before .before .before .before in
+    let s = Entry b in
+    let x = s .args .s in
+    let ok = s .pre .0 in
+    let m = steps-counted (s .args .s) (s .pre .0) in
+    ((ok .valid .run, marks-counted x ok ∙ marks-steps x ok (s .pre .1) ∙ sym m), omega (arith, m, room b))
+
+of-steps-requires : tie.Need-of-steps-requires
+of-steps-requires c κs = omega (arith, Entry (c .before .before .before .before .before .before .before .before) .pre .0)
+
+length-requires : tie.Need-length-requires
+length-requires c κs =
+    omega (arith, c .of-steps .ensures, Entry (c .before .before .before .before .before .before .before .before .before) .pre .0)
+
+returns-3 : tie.Need-returns-3
+unfolding valueOf headValueOf
+returns-3 c =
+    let b = c .before .before .before .before .before .before .before .before .before .before in
+    let s = Entry b in
+    let v = valueOf (s .args .s) in
+    let n = rows-counted (s .args .s) (s .pre .0) in
+    let m = steps-counted (s .args .s) (s .pre .0) in
+    let l : s .args .row < s .args .s .head .rows = omega (arith, Fits b .before .before .before .if1 .left) in
+    let p = modified-placed v (s .args .row) (s .args .out .now) (omega arith) (omega (arith, room b)) in
+    record {
+      answer-is = rw (c .length .ensures .0, c .before .of-steps .ensures) (rw m at (p .answer-is));
+      place-is =
+          c .before .before .before .before .write-modified .ensures
+          ∙ rw (row-of (s .args .s) (s .pre .0) (s .args .row) l) at (p .place-is);
+    }
+
+pub sheet-modified-spec : {M : Type 1} → statement M
+sheet-modified-spec =
+    tie.close
+    (tie.spec
+    (λ c κs. search needs)
+    returns
+    (λ c κs. search needs)
+    (λ c κs. search needs)
+    returns-2
+    (λ c. search needs)
+    (λ c. search needs)
+    array-share-prefix-sizes
+    slice-aggregate-write-modified
+    array-share-prefix-holds
+    slice-aggregate-write-modified-2
+    array-share-prefix-touches
+    slice-aggregate-write-modified-3
+    array-share-prefix-marks
+    slice-aggregate-write-modified-4
+    write-modified-requires
+    of-steps-requires
+    length-requires
+    (λ c. search needs)
+    returns-3)

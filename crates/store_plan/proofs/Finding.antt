@@ -1,0 +1,104 @@
+-- The loop that finds the kept reuses and the modifying touches that belong to the stay of the one before: its start, a step more and its
+-- end. Assumes nothing.
+use Prim.Native.Nat.{ℕ, _+_, _≤_, _<_}
+use mathlib.Core.Path.{_≡_, sym, _∙_}
+use mathlib.Core.Bool.{Bool, false}
+use mathlib.Core.List.{List}
+use native.Mathlib.Omega.{arith}
+use lib.ListN.{length, getD, set, length-set, length-replicate}
+use lib.Seq.{getD-set-same, getD-set-other}
+use borrow.Author.Count.{below-more}
+use Rattle.model.specs.Figures.{kept}
+use Rattle.model.specs.LastTouches.{lastTable}
+use Rattle.model.specs.Sheets.{RunWithin}
+use Rattle.model.specs.Traces.{Trace, segs, steps, entry, sizeOf}
+use Rattle.model.specs.declared.PriceRow.{PriceRow}
+use Rattle.model.proofs.Touches.{entry-ref}
+use Rattle.stores.specs.Stores.{joined}
+use Rattle.store_plan.specs.declared.mod_pass.touching.Touched.{Touched}
+use Rattle.store_plan.specs.inner.Decisions.{noDecisions, FoundBy}
+use Rattle.store_plan.specs.inner.Touches.{noneSince, touchBy}
+use Rattle.store_plan.proofs.Tables.{Tables, tables-start, tables-told, tables-touch, tables-idle}
+
+-- what is told of each of the first t touches, with that of the step at place t put in
+told-more : (T : Trace) (f : ℕ → ℕ → Bool) (l : List Bool) (t i : ℕ) (x : Bool) → t < length l → entry T t ≡ i → x ≡ f t i
+    → ((k : ℕ) → k < t → entry T k < segs T → getD l k false ≡ f k (entry T k))
+    → (k : ℕ) → k < t + 1 → entry T k < segs T → getD (set l t x) k false ≡ f k (entry T k)
+told-more T f l t i x room e ex told =
+    below-more
+    (λ k. entry T k < segs T → getD (set l t x) k false ≡ f k (entry T k))
+    t
+    (λ k lt touch. getD-set-other l t k x false (λ s. omega arith) ∙ told k lt touch)
+    (λ touch. getD-set-same l t x false room ∙ (ex ∙ rw e))
+
+-- and where that step touches nothing
+told-idle : (T : Trace) (f : ℕ → ℕ → Bool) (l : List Bool) (t : ℕ) → segs T ≤ entry T t
+    → ((k : ℕ) → k < t → entry T k < segs T → getD l k false ≡ f k (entry T k))
+    → (k : ℕ) → k < t + 1 → entry T k < segs T → getD l k false ≡ f k (entry T k)
+told-idle T f l t idle told =
+    below-more (λ k. entry T k < segs T → getD l k false ≡ f k (entry T k)) t told (λ touch. absurd (omega arith))
+
+-- after t steps: the tables are those of t steps, and the touches of these steps are found
+pub record Finding (T : Trace) (marks : ℕ → Bool) (row : PriceRow) (keeps joins : List Bool) (last since : List ℕ) (t : ℕ) : Type 0 where
+  pub tables : Tables T marks row last since t
+  pub keeps-whole : length keeps ≡ 2048
+  pub joins-whole : length joins ≡ 2048
+  pub found : FoundBy T marks row keeps joins t
+
+module _ (T : Trace) (marks : ℕ → Bool) (row : PriceRow) (ok : RunWithin T) where
+  pub finding-start : (keeps joins : List Bool) (last since : List ℕ) → keeps ≡ noDecisions → joins ≡ noDecisions
+      → last ≡ lastTable T 0 → since ≡ noneSince → Finding T marks row keeps joins last since 0
+  unfolding noDecisions
+  finding-start keeps joins last since ek ej el es =
+      record {
+        tables = tables-start T marks row ok last since el es;
+        keeps-whole = rw ek (length-replicate 2048 false);
+        joins-whole = rw ej (length-replicate 2048 false);
+        found = record { kept-are = λ t lt touch. absurd (omega arith); joined-are = λ t lt touch. absurd (omega arith) };
+      }
+
+  module _ (keeps joins : List Bool) (last since : List ℕ) (t : ℕ) (v : Finding T marks row keeps joins last since t)
+      (lt : t < steps T) where
+    -- a touch of segment i
+    pub finding-touch : (i : ℕ) (x : Touched) → i ≡ getD (T .refs) t 0 → i < segs T
+        → x ≡ touchBy (T .kind) (T .a) row (sizeOf T i) (getD last i 0) (getD since i 0) t (marks t)
+        → Finding T marks row (set keeps t (x .kept)) (set joins t (x .joined)) (set last i (t + 1)) (set since i (x .since)) (t + 1)
+    finding-touch i x ei li ex =
+        let told = tables-told T marks row ok last since t (v .tables) lt i x li ex in
+        let e : entry T t ≡ i = entry-ref T t lt ∙ sym ei in
+        record {
+          tables = tables-touch T marks row ok last since t (v .tables) lt i x ei li told;
+          keeps-whole = length-set keeps t (x .kept) ∙ v .keeps-whole;
+          joins-whole = length-set joins t (x .joined) ∙ v .joins-whole;
+          found =
+              record {
+                kept-are =
+                    told-more T (kept T (row .h) (row .d)) keeps t i (x .kept) (omega (arith, v .keeps-whole, ok .steps-within)) e
+                    (told .kept-is) (v .found .kept-are);
+                joined-are =
+                    told-more T (joined T marks (row .h) (row .d)) joins t i (x .joined)
+                    (omega (arith, v .joins-whole, ok .steps-within)) e (told .joined-is) (v .found .joined-are);
+              };
+        }
+
+    -- a step without a touch
+    pub finding-idle : segs T ≤ getD (T .refs) t 0 → Finding T marks row keeps joins last since (t + 1)
+    finding-idle idle =
+        let e : entry T t ≡ getD (T .refs) t 0 = entry-ref T t lt in
+        let none : segs T ≤ entry T t = omega (arith, e) in
+        record {
+          tables = tables-idle T marks row ok last since t (v .tables) lt idle;
+          keeps-whole = v .keeps-whole;
+          joins-whole = v .joins-whole;
+          found =
+              record {
+                kept-are = told-idle T (kept T (row .h) (row .d)) keeps t none (v .found .kept-are);
+                joined-are = told-idle T (joined T marks (row .h) (row .d)) joins t none (v .found .joined-are);
+              };
+        }
+
+  pub finding-end : (keeps joins : List Bool) (last since : List ℕ) (t : ℕ) → Finding T marks row keeps joins last since t → steps T ≤ t
+      → FoundBy T marks row keeps joins (steps T)
+  finding-end keeps joins last since t v le =
+      let done : t ≡ steps T = omega (arith, v .tables .within) in
+      rw done at (v .found)

@@ -1,0 +1,7 @@
+pub mod Adding
+pub mod Bounds
+pub mod Finding
+pub mod Folding
+pub mod Passing
+pub mod Tables
+pub mod Touches

@@ -1,0 +1,12 @@
+-- `no_flags` meets its contract. Assumes nothing.
+use mathlib.Core.Path.{refl}
+use Rattle.store_plan.specs.inner.Decisions.{noFlags}
+use Rattle.store_plan.proofs.no_flags.Statement.{statement}
+use Rattle.store_plan.proofs.no_flags.Tie as tie
+
+returns : tie.Need-returns
+unfolding noFlags
+returns c = refl
+
+pub no-flags-spec : {M : Type 1} → statement M
+no-flags-spec = tie.close (tie.spec returns)

@@ -1,0 +1,45 @@
+-- What the two passes that decide the touches give: the kept reuses and the modifying touches that belong to the stay of the one before,
+-- and then for each touch whether it finds its segment held. Assumes nothing.
+use Prim.Native.Nat.{ℕ, _-_, _≤_, _<_}
+use mathlib.Core.Path.{_≡_}
+use mathlib.Core.Bool.{Bool, false, _||_}
+use mathlib.Core.List.{List}
+use lib.ListN.{getD, replicate}
+use Rattle.model.specs.Decisions.{decisionsOf}
+use Rattle.model.specs.Figures.{kept}
+use Rattle.model.specs.Sheets.{mostSegs, mostSteps}
+use Rattle.model.specs.Traces.{Trace, segs, steps, entry}
+use Rattle.model.specs.declared.PriceRow.{PriceRow}
+use Rattle.stores.specs.Stores.{joined, nextMarked}
+use Rattle.stores.specs.inner.Decisions.{modKept}
+use Rattle.store_plan.specs.declared.Found.{Found}
+
+-- no step is decided, and no segment has a flag
+unfoldable pub noDecisions : List Bool
+noDecisions = replicate mostSteps false
+
+unfoldable pub noFlags : List Bool
+noFlags = replicate mostSegs false
+
+-- of each of the first n steps that touches a segment: whether that is a kept reuse, and whether, modifying, it belongs to the stay of the
+-- one before
+pub record FoundBy (T : Trace) (marks : ℕ → Bool) (row : PriceRow) (keeps joins : List Bool) (n : ℕ) : Type 0 where
+  pub kept-are : (t : ℕ) → t < n → entry T t < segs T → getD keeps t false ≡ kept T (row .h) (row .d) t (entry T t)
+  pub joined-are : (t : ℕ) → t < n → entry T t < segs T → getD joins t false ≡ joined T marks (row .h) (row .d) t (entry T t)
+
+abbrev pub FoundIn : Trace → (ℕ → Bool) → PriceRow → Found → Type 0
+FoundIn T marks row found = FoundBy T marks row (found .kept) (found .joined) (steps T)
+
+-- of each step from place n on that touches a segment: kept, or the next modifying touch from there on is joined
+abbrev pub FoldedFrom : Trace → (ℕ → Bool) → Found → List Bool → ℕ → Type 0
+FoldedFrom T marks found on n =
+    (t : ℕ) → n ≤ t → t < steps T → entry T t < segs T
+    → getD on t false ≡ getD (found .kept) t false || nextMarked T marks (decisionsOf (found .joined)) (steps T - t) t (entry T t)
+
+abbrev pub Folded : Trace → (ℕ → Bool) → Found → List Bool → Type 0
+Folded T marks found on = FoldedFrom T marks found on 0
+
+-- of each step that touches a segment: whether that finds it held in the schedule of the least total
+abbrev pub Decides : Trace → (ℕ → Bool) → PriceRow → List Bool → Type 0
+Decides T marks row on =
+    (t : ℕ) → t < steps T → entry T t < segs T → getD on t false ≡ modKept T marks (row .h) (row .d) t (entry T t)

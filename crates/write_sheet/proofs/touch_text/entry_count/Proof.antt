@@ -1,0 +1,17 @@
+-- `write_sheet::touch_text::entry_count` meets its contract: an idle entry has no touch, any other has one. Assumes nothing.
+use mathlib.Core.Path.{sym, ap, _∙_}
+use native.Mathlib.Omega.{arith}
+use borrow.Author.Needs.{needs}
+use lib.ListN.{length}
+use Rattle.write_sheet.proofs.TouchLines.{entry-idle, entry-touch}
+use Rattle.write_sheet.proofs.touch_text.entry_count.Statement.{statement}
+use Rattle.write_sheet.proofs.touch_text.entry_count.Tie as tie
+
+returns : tie.Need-returns
+returns c = (λ m b. sym (ap length (entry-idle m b _ (sym (c .before .is-idle .ensures) ∙ c .if1 .taken))), omega arith)
+
+returns-2 : tie.Need-returns-2
+returns-2 c = (λ m b. sym (ap length (entry-touch m b _ (sym (c .before .is-idle .ensures) ∙ c .if1 .left))), omega arith)
+
+pub entry-count-spec : {M : Type 1} → statement M
+entry-count-spec = tie.close (tie.spec (λ c κs. search needs) returns returns-2)

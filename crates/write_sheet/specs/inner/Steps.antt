@@ -1,0 +1,18 @@
+-- The lines in which the entries of form 2 on are written. Assumes nothing.
+use Prim.Native.Nat.{ℕ}
+use mathlib.Core.Bool.{Bool}
+use mathlib.Core.List.{List, _++_}
+use lib.ListN.{length}
+use Rattle.text.specs.Keys.{stepsKey, refsKey}
+use Rattle.text.specs.Texts.{numberText}
+use Rattle.sheet.specs.Touches.{Touch, touchesOf, touchesText}
+
+-- the touches of entries and of their marks
+abbrev pub touchesWith : List ℕ → List Bool → List Touch
+touchesWith entries marks = touchesOf (record { refs = entries; marks = marks })
+
+-- the entries of form 2 on: the line that counts the steps, the line that counts the touches, and the line of each touch
+unfoldable pub stepsText : List ℕ → List Bool → List ℕ
+stepsText entries marks =
+    numberText stepsKey (length entries)
+    ++ (numberText refsKey (length (touchesWith entries marks)) ++ touchesText (touchesWith entries marks))
