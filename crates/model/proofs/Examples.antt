@@ -139,6 +139,10 @@ bothWarm = runOf Space 1 (1 ∷ 3 ∷ []) (0 ∷ 1 ∷ []) (0 ∷ 1 ∷ 0 ∷ 1 
 lingering : Trace
 lingering = runOf Space 0 (1 ∷ 1 ∷ []) (1 ∷ []) (0 ∷ 0 ∷ [])
 
+-- P10 with idle steps: three of them and no warm segment
+quiet : Trace
+quiet = runOf Time 3 (7 ∷ 2 ∷ []) [] (idle ∷ idle ∷ idle ∷ [])
+
 -- a warm segment and no references: nothing after 0 steps, R = 2 after two idle ones, and w is 22
 resting : List ℕ → Trace
 resting refs = runOf Time 3 (7 ∷ 2 ∷ []) (0 ∷ []) refs
@@ -159,6 +163,8 @@ table =
     ∷ at (paper Time) 2 1 (Misses is 9 ∷ Volume is 28 ∷ Optocc is 63 ∷ Wsocc is 115 ∷ [])
     ∷ at (paper Time) 5 1 (Misses is 5 ∷ Volume is 15 ∷ Optocc is 120 ∷ Wsocc is 171 ∷ [])
     ∷ at (runOf Time 3 (7 ∷ 2 ∷ []) [] []) 5 2
+    (Misses is 0 ∷ Volume is 0 ∷ Load is 0 ∷ Optmem is 0 ∷ Opttotal is 0 ∷ Optocc is 0 ∷ Wsmem is 0 ∷ Wsocc is 0 ∷ Mean is 0 ∷ [])
+    ∷ at quiet 5 2
     (Misses is 0 ∷ Volume is 0 ∷ Load is 0 ∷ Optmem is 0 ∷ Opttotal is 0 ∷ Optocc is 0 ∷ Wsmem is 0 ∷ Wsocc is 0 ∷ Mean is 0 ∷ [])
     ∷ at untouched 5 1 (Misses is 1 ∷ Volume is 1 ∷ Load is 1 ∷ Optmem is 2 ∷ Opttotal is 7 ∷ Optocc is 2 ∷ Wsmem is 2 ∷ Wsocc is 2 ∷
     Mean is 1000 ∷ [])
@@ -212,7 +218,7 @@ table =
 
 pub table-holds : allHold table ≡ true
 unfolding allHold claims valueOf bytesOf above below _is_ table listing paper untouched weighted rounded between timed distant idling
-    warmed bothWarm lingering resting held scheduleMemory scheduleLoad scheduleTotal misses volume load optmem opttotal optocc wsmem
+    warmed bothWarm lingering quiet resting held scheduleMemory scheduleLoad scheduleTotal misses volume load optmem opttotal optocc wsmem
     wsocc mean optimalSchedule sum tabulate touching refsBy refPlace later unreferenced kept refCost refVolume smaller wsspace
     nextKept optimalHeld optimalByte listed
 table-holds = refl
