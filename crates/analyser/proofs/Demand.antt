@@ -53,7 +53,7 @@ module _ (s : List ℕ) (v : SheetValue) (reads : readForms 1 3 s ≡ accepted v
   load-is p =
       unmarked-load (traceOf v) (marksOf (v .marks)) (λ t lt. rw (valid .unmarked (accepted-form 1 3 (omega arith) s v reads .1)) refl) p
 
-  total-is : (p : List ℕ) → sheetTotal v r p ≡ rowTotal v r p
+  pub total-is : (p : List ℕ) → sheetTotal v r p ≡ rowTotal v r p
   unfolding markedTotal scheduleTotal
   total-is p = ap (λ l. totalCost (rowAt v r .h) (rowAt v r .d) (scheduleMemory (traceOf v) p) l) (load-is p)
 

@@ -1,4 +1,5 @@
 pub mod Demand
+pub mod DemandThree
 pub mod Given
 pub mod GivenLists
 pub mod Handed

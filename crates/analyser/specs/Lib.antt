@@ -2,6 +2,7 @@ pub mod Answers
 pub mod Converting
 pub mod Curving
 pub mod Demand
+pub mod DemandThree
 pub mod Importing
 pub mod Joining
 pub mod Modified

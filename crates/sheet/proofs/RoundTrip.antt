@@ -44,6 +44,13 @@ every-form lo hi new s v e =
     let c = accepted-valid lo hi new s v e in
     ap readSheet (sym (read-then-written lo hi s v e)) ∙ written-then-read 1 newestForm v (c .some-form) (c .form-within) c
 
+-- and back: what a call that takes every form accepts, one that takes its form does, with the same value
+pub taken-form : (lo hi : ℕ) (s : List ℕ) (v : SheetValue) → readSheet s ≡ accepted v → lo ≤ v .form → v .form ≤ hi
+    → readForms lo hi s ≡ accepted v
+taken-form lo hi s v e l h =
+    ap (readForms lo hi) (sym (read-then-written 1 newestForm s v e))
+    ∙ written-then-read lo hi v l h (accepted-valid 1 newestForm (omega arith) s v e)
+
 -- ---- both sides of the byte limit
 
 -- the largest sheet of each form is read
