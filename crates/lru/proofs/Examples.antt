@@ -4,15 +4,17 @@ use Prim.Native.Nat.{ℕ}
 use mathlib.Core.Path.{_≡_, refl}
 use mathlib.Core.Bool.{Bool, true, false, _&&_}
 use mathlib.Core.List.{List, [], _∷_}
+use mathlib.Core.Option.{Option, none, some}
 use lib.Dec.{eqb}
 use lib.ListN.{replicate}
 use Rattle.model.specs.Sheets.{listed, runOf}
 use Rattle.model.specs.Sums.{sum, tabulate}
-use Rattle.model.specs.Traces.{Trace, steps, touching, refsBy, refsOf, later, unreferenced}
+use Rattle.model.specs.Traces.{Trace, steps, entry, touching, refsBy, refsOf, later, unreferenced}
 use Rattle.model.specs.declared.Kind.the-variants.{Time}
+use Rattle.lru.specs.ByTime.{sooner, newerThan, timeDistance}
 use Rattle.lru.specs.Orders.{has, placeOf, without}
 use Rattle.lru.specs.Recency.{recency, distance, lruMisses, lruCurve, entriesLooked, distinct}
-use Rattle.lru.specs.Memory.{reloaded, memory, lruSimulated, simulatedCurve}
+use Rattle.lru.specs.Memory.{leastRecent, replaced, swapped, reloaded, memory, lruSimulated, simulatedCurve}
 
 -- a run, its misses with 1, 2, .., segs frames, the entries looked at, its distinct segments and its touches
 pub record Example : Type 0 where
@@ -61,5 +63,29 @@ table =
 
 pub table-holds : allHold table ≡ true
 unfolding allHold same table listed tabulate sum touching later unreferenced has placeOf without recency distance lruMisses entriesLooked
-    distinct refsBy reloaded memory lruSimulated
+    distinct refsBy reloaded memory lruSimulated sooner leastRecent replaced swapped
 table-holds = refl
+
+-- ---- by time
+
+-- a distance as a number, 0 for none
+pub numberOf : Option ℕ → ℕ
+numberOf none = 0
+numberOf (some p) = p
+
+-- the distances by time of the classic string
+pub classic : Trace
+classic = runOf Time 0 (replicate 5 1) [] (0 ∷ 1 ∷ 2 ∷ 3 ∷ 0 ∷ 1 ∷ 4 ∷ 0 ∷ 1 ∷ 2 ∷ 3 ∷ 4 ∷ [])
+
+pub times-hold : tabulate 12 (λ t. numberOf (timeDistance classic t (entry classic t)))
+    ≡ 0 ∷ 0 ∷ 0 ∷ 0 ∷ 4 ∷ 4 ∷ 0 ∷ 3 ∷ 3 ∷ 5 ∷ 5 ∷ 5 ∷ []
+unfolding numberOf classic listed tabulate sum later unreferenced sooner newerThan timeDistance
+times-hold = refl
+
+-- a warm segment has a time before step 1 and no place in the list: there the two differ
+pub warmed : Trace
+warmed = runOf Time 0 (replicate 1 1) (0 ∷ []) (0 ∷ [])
+
+pub warm-differs : (distance warmed 0 0 ≡ none) × (timeDistance warmed 0 0 ≡ some 1)
+unfolding warmed listed sum unreferenced sooner newerThan timeDistance placeOf recency distance
+warm-differs = (refl, refl)

@@ -1,7 +1,12 @@
 pub mod Agree
 pub mod Bounds
+pub mod ByTime
 pub mod Demand
 pub mod Examples
+pub mod Frames
+pub mod Once
+pub mod Ordered
 pub mod Orders
+pub mod Replacing
 pub mod Same
 pub mod Touches

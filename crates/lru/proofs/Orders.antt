@@ -8,12 +8,10 @@ use mathlib.Core.Option.{Option, none, some}
 use native.Mathlib.Omega.{arith}
 use lib.Dec.{eqb, ltb}
 use lib.ListN.{length, take}
-use lib.Seq.{take-take}
 use borrow.Author.Tests.{lt-ltb, le-ltb, ltb-true, ltb-false, eqb-true}
 use Rattle.model.specs.Traces.{later}
 use Rattle.lru.specs.Orders.{has, placeOf, without, toFront}
 use Rattle.lru.specs.Recency.{missBeyond, lookedIn}
-use Rattle.lru.specs.Memory.{reloaded}
 
 -- a place one further, and a memory one larger
 miss-later : (k : ℕ) (o : Option ℕ) → missBeyond (suc k) (later o) ≡ missBeyond k o
@@ -48,7 +46,7 @@ miss-has (suc k) x (y ∷ ys) = go (eqb y x) refl (miss-has k x ys)
     go false e ih = rw e (miss-later k (placeOf x ys) ∙ ih)
 
 -- what is among the first k + 1 is removed from them: the first k of what is left
-hit-take : (k x : ℕ) (l : List ℕ) → has x (take (suc k) l) ≡ true → without x (take (suc k) l) ≡ take k (without x l)
+pub hit-take : (k x : ℕ) (l : List ℕ) → has x (take (suc k) l) ≡ true → without x (take (suc k) l) ≡ take k (without x l)
 unfolding has without
 hit-take k x [] h = absurd (false≢true h)
 hit-take zero x (y ∷ ys) h = go (eqb y x) refl h
@@ -65,7 +63,7 @@ hit-take (suc k) x (y ∷ ys) h = go (eqb y x) refl h (hit-take k x ys)
     go false e h ih = rw (e, ih (rw e at h))
 
 -- what is not among the first k + 1 leaves the first k as they are
-miss-take : (k x : ℕ) (l : List ℕ) → has x (take (suc k) l) ≡ false → take k (without x l) ≡ take k l
+pub miss-take : (k x : ℕ) (l : List ℕ) → has x (take (suc k) l) ≡ false → take k (without x l) ≡ take k l
 unfolding has without
 miss-take k x [] h = refl
 miss-take zero x (y ∷ ys) h = refl
@@ -77,19 +75,8 @@ miss-take (suc k) x (y ∷ ys) h = go (eqb y x) refl h (miss-take k x ys)
     go true e h ih = absurd (false≢true (sym (rw e at h)))
     go false e h ih = rw (e, ih (rw e at h))
 
--- one touch: a memory that has the first k of a list has the first k of the list with x brought to the front
-pub reloaded-take : (k x : ℕ) (l : List ℕ) → reloaded k x (take k l) ≡ take k (toFront x l)
-unfolding reloaded has
-reloaded-take zero x l = refl
-reloaded-take (suc k) x l = go (has x (take (suc k) l)) refl
-  where
-    go : (b : Bool) → has x (take (suc k) l) ≡ b
-        → cond (has x (take (suc k) l)) (toFront x (take (suc k) l)) (x ∷ take k (take (suc k) l)) ≡ x ∷ take k (without x l)
-    go true e = rw (e, hit-take k x l e)
-    go false e = rw (e, miss-take k x l e, take-take k (suc k) l (omega arith))
-
 -- another than x stays
-has-without : (i x : ℕ) (l : List ℕ) → eqb x i ≡ false → has i (without x l) ≡ has i l
+pub has-without : (i x : ℕ) (l : List ℕ) → eqb x i ≡ false → has i (without x l) ≡ has i l
 unfolding has without
 has-without i x [] e = refl
 has-without i x (y ∷ ys) e = go (eqb y x) refl (has-without i x ys e)

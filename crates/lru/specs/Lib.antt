@@ -1,4 +1,6 @@
+pub mod ByTime
 pub mod Demand
 pub mod Memory
 pub mod Orders
 pub mod Recency
+pub mod Replacing

@@ -15,7 +15,9 @@ use Rattle.model.specs.Traces.{Trace, segs, steps, entry, touching}
 use Rattle.model.specs.Values.{zeros}
 use Rattle.model.proofs.Lists.{getD-any}
 use Rattle.lru.specs.Orders.{has}
-use Rattle.lru.specs.Memory.{reloaded, memory, lruSimulated}
+use Rattle.lru.specs.Memory.{lruSimulated}
+use Rattle.lru.proofs.Frames.{simulated-ordered}
+use Rattle.lru.proofs.Ordered.{reordered, ordered}
 use Rattle.lru.proofs.Touches.{cond-within, adds-on, adds-off, touches-within}
 use Rattle.lru_curve.specs.Frames.{touchesOf}
 use Rattle.lru_curve.specs.inner.Entries.{indexIn, moved}
@@ -25,16 +27,16 @@ use Rattle.lru_curve.proofs.Indexes.{has-index, entry-index}
 
 -- the misses of the first n steps with k frames
 abbrev missedBy : Trace → ℕ → ℕ → ℕ
-missedBy T k n = sum n (touching T (λ t i. cond (has i (memory T k t)) 0 1))
+missedBy T k n = sum n (touching T (λ t i. cond (has i (ordered T k t)) 0 1))
 
--- the memory after a touch, and after an idle step
-memory-on : (T : Trace) (k t : ℕ) → entry T t < segs T → memory T k (suc t) ≡ reloaded k (entry T t) (memory T k t)
-unfolding memory
-memory-on T k t on = rw (lt-ltb (entry T t) (segs T) on)
+-- the memory, in the order of last touches, after a touch, and after an idle step
+ordered-on : (T : Trace) (k t : ℕ) → entry T t < segs T → ordered T k (suc t) ≡ reordered k (entry T t) (ordered T k t)
+unfolding ordered
+ordered-on T k t on = rw (lt-ltb (entry T t) (segs T) on)
 
-memory-off : (T : Trace) (k t : ℕ) → segs T ≤ entry T t → memory T k (suc t) ≡ memory T k t
-unfolding memory
-memory-off T k t off = rw (le-ltb (entry T t) (segs T) off)
+ordered-off : (T : Trace) (k t : ℕ) → segs T ≤ entry T t → ordered T k (suc t) ≡ ordered T k t
+unfolding ordered
+ordered-off T k t off = rw (le-ltb (entry T t) (segs T) off)
 
 pub used-within : (n k : ℕ) → 1 ≤ k → n ≤ k → (1 ≤ usedAfter n k) × (usedAfter n k ≤ k)
 used-within n k some-frames le = go (ltb n k) refl
@@ -66,7 +68,7 @@ pub record Simulated (sizes refs : List ℕ) (k : ℕ) (list : List ℕ) (n miss
   pub within : t ≤ length refs
   pub list-whole : length list ≡ mostSegs
   pub few : n ≤ k
-  pub list-is : take n list ≡ memory (touchesOf sizes refs) k t
+  pub list-is : take n list ≡ ordered (touchesOf sizes refs) k t
   pub misses-is : misses ≡ missedBy (touchesOf sizes refs) k t
 
 module _ (sizes refs : List ℕ) (k : ℕ) (some-frames : 1 ≤ k) (frames-within : k ≤ mostSegs) where
@@ -74,7 +76,7 @@ module _ (sizes refs : List ℕ) (k : ℕ) (some-frames : 1 ≤ k) (frames-withi
   T = touchesOf sizes refs
 
   pub simulated-start : Simulated sizes refs k (zeros mostSegs) 0 0 0
-  unfolding zeros memory sum
+  unfolding zeros ordered sum
   simulated-start =
       record { within = omega arith; list-whole = length-replicate {A = ℕ} mostSegs 0; few = omega arith; list-is = refl; misses-is = refl }
 
@@ -84,15 +86,14 @@ module _ (sizes refs : List ℕ) (k : ℕ) (some-frames : 1 ≤ k) (frames-withi
         omega (
           arith,
           v .misses-is,
-          touches-within T (λ t i. cond (has i (memory T k t)) 0 1) 1 t
-              (λ t i. cond-within (has i (memory T k t)) 0 1 1 (omega arith) (omega arith)),
+          touches-within T (λ t i. cond (has i (ordered T k t)) 0 1) 1 t
+              (λ t i. cond-within (has i (ordered T k t)) 0 1 1 (omega arith) (omega arith)),
         )
 
     pub simulated-end : length refs ≤ t → misses ≡ lruSimulated T k
-    unfolding lruSimulated
     simulated-end done =
         let all : t ≡ steps T = omega (arith, v .within) in
-        v .misses-is ∙ rw all
+        v .misses-is ∙ (ap (λ (n : ℕ). missedBy T k n) all ∙ sym (simulated-ordered T k))
 
     module _ (more : t < length refs) where
       is-entry : entry T t ≡ getD refs t 0
@@ -107,8 +108,8 @@ module _ (sizes refs : List ℕ) (k : ℕ) (some-frames : 1 ≤ k) (frames-withi
             within = more;
             list-whole = v .list-whole;
             few = v .few;
-            list-is = v .list-is ∙ sym (memory-off T k t off);
-            misses-is = v .misses-is ∙ sym (adds-off T (λ t i. cond (has i (memory T k t)) 0 1) t off);
+            list-is = v .list-is ∙ sym (ordered-off T k t off);
+            misses-is = v .misses-is ∙ sym (adds-off T (λ t i. cond (has i (ordered T k t)) 0 1) t off);
           }
 
       -- a touch of segment x, which frame p has
@@ -119,21 +120,21 @@ module _ (sizes refs : List ℕ) (k : ℕ) (some-frames : 1 ≤ k) (frames-withi
         size : length (take n list) ≡ n
         size = length-take-le n list (omega (arith, v .list-whole, v .few))
 
-        is-in : has (entry T t) (memory T k t) ≡ ltb p n
+        is-in : has (entry T t) (ordered T k t) ≡ ltb p n
         is-in = rw (is-entry, is-x, ← v .list-is, has-index x (take n list), ← index, size)
 
-        next : memory T k (suc t) ≡ reloaded k x (take n list)
-        next = memory-on T k t on ∙ rw (is-entry, is-x, v .list-is)
+        next : ordered T k (suc t) ≡ reordered k x (take n list)
+        next = ordered-on T k t on ∙ rw (is-entry, is-x, v .list-is)
 
         missed-next : missedBy T k (suc t) ≡ misses + cond (ltb p n) 0 1
-        missed-next = adds-on T (λ t i. cond (has i (memory T k t)) 0 1) t on ∙ rw (is-in, v .misses-is)
+        missed-next = adds-on T (λ t i. cond (has i (ordered T k t)) 0 1) t on ∙ rw (is-in, v .misses-is)
 
         has-x : has x (take n list) ≡ ltb p n
         has-x = rw (has-index x (take n list), ← index, size)
 
         -- a hit
         pub simulated-hit : (list' : List ℕ) → p < n → list' ≡ moved p (getD list p 0) list → Simulated sizes refs k list' n misses (t + 1)
-        unfolding reloaded
+        unfolding reordered
         simulated-hit list' lt list-moved =
             rw (add-one t, list-moved, here)
             record {
@@ -153,7 +154,7 @@ module _ (sizes refs : List ℕ) (k : ℕ) (some-frames : 1 ≤ k) (frames-withi
         pub simulated-miss : (m : ℕ) (list' : List ℕ) → n ≤ p → m ≡ usedAfter n k
             → list' ≡ moved (m - 1) (getD (set list (m - 1) x) (m - 1) 0) (set list (m - 1) x)
             → Simulated sizes refs k list' m (misses + 1) (t + 1)
-        unfolding reloaded
+        unfolding reordered
         simulated-miss m list' le used list-moved = go m refl
           where
             go : (j : ℕ) → m ≡ j → Simulated sizes refs k list' m (misses + 1) (t + 1)
