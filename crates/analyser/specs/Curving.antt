@@ -25,10 +25,15 @@ lruResult s = onSheet (readSheet s) refuses curveFor
 unfoldable pub lruLooked : List ℕ → List ℕ → ℕ
 lruLooked s place = onSheet (readSheet s) (λ why. 0) (λ v. lookedFor v (answerFor (curveFor v) place .verdict))
 
+-- the most entries that may be looked at: refs × the distinct segments; none where the sheet is refused
+unfoldable pub lruMost : List ℕ → ℕ
+lruMost s = onSheet (readSheet s) (λ why. 0) (λ v. refsOf (traceOf v) * distinct (traceOf v) (steps (traceOf v)))
+
 -- what the call by distances answers, and what the place is before and after it
 pub record LruLeft (s place place' : List ℕ) (answer : CurveAnswer) : Type 0 where
   pub left : PlaceLeft (lruResult s) place place' (answer .placed)
   pub looked-is : answer .looked ≡ lruLooked s place
+  pub bounded : answer .looked ≤ lruMost s
 
 -- the same misses, each number of frames simulated in turn
 unfoldable pub lruPlainResult : List ℕ → Result

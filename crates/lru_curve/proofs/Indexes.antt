@@ -1,17 +1,23 @@
 -- The place of a segment in a list: found by looking at one entry after the other, and what it says of the list. Assumes nothing.
-use Prim.Native.Nat.{ℕ, zero, suc, _+_, _-_, _≤_, _<_}
+use Prim.Native.Nat.{ℕ, suc, _+_, _-_, _≤_, _<_}
 use mathlib.Core.Path.{_≡_, refl, sym, ap, _∙_}
-use mathlib.Core.Bool.{Bool, true, false, cond, _||_, true≢false}
+use mathlib.Core.Bool.{Bool, true, false, cond, _||_}
 use mathlib.Core.List.{List, [], _∷_, _++_}
 use mathlib.Core.Option.{none, some}
 use native.Mathlib.Omega.{arith}
 use lib.Dec.{eqb, ltb}
-use lib.ListN.{length, getD, take, drop, length-drop, drop-of-length-le}
-use lib.Seq.{drop-cons, drop-drop}
+use lib.ListN.{length, getD, take, drop, drop-of-length-le}
+use lib.Seq.{drop-cons}
 use borrow.Author.Tests.{lt-ltb, le-ltb, ltb-true, ltb-false, eqb-true, eq-eqb, ne-eqb}
 use Rattle.model.specs.Traces.{later}
 use Rattle.lru.specs.Orders.{has, placeOf, without}
-use Rattle.lru_curve.specs.inner.Entries.{indexIn, PassedBy}
+use Rattle.lru.proofs.Orders.{looked-within}
+use Rattle.lru_curve.specs.declared.recency_list.Walk.{Walk}
+use Rattle.lru_curve.specs.inner.Entries.{indexIn, beforeIn, walkOf}
+
+-- x is not among the first i entries
+abbrev pub PassedBy : ℕ → List ℕ → ℕ → Type 0
+PassedBy x l i = indexIn x l ≡ i + indexIn x (drop i l)
 
 -- one entry more that is not x, the entry that is, and the end of the list
 pub index-next : (x : ℕ) (l : List ℕ) (i : ℕ) → PassedBy x l i → i < length l → (getD l i 0 ≡ x → ⊥) → PassedBy x l (suc i)
@@ -27,42 +33,6 @@ index-here x l i e lt same =
 pub index-none : (x : ℕ) (l : List ℕ) (i : ℕ) → PassedBy x l i → length l ≤ i → i ≡ indexIn x l
 unfolding indexIn
 index-none x l i e le = sym (e ∙ (ap (λ (r : List ℕ). i + indexIn x r) (drop-of-length-le l le) ∙ omega arith))
-
--- several entries more, none of which is x
-skipped : (x k : ℕ) (l : List ℕ) → k ≤ length l → has x (take k l) ≡ false → PassedBy x l k
-unfolding has indexIn
-skipped x zero l le e = omega arith
-skipped x (suc k) [] le e = absurd (omega arith)
-skipped x (suc k) (y ∷ ys) le e = go (eqb y x) refl e (skipped x k ys (omega arith))
-  where
-    go : (b : Bool) → eqb y x ≡ b → eqb y x || has x (take k ys) ≡ false → (has x (take k ys) ≡ false → PassedBy x ys k)
-        → cond (eqb y x) 0 (suc (indexIn x ys)) ≡ suc k + indexIn x (drop k ys)
-    go true t e ih = absurd (true≢false (rw t at e))
-    go false t e ih = rw t (omega (arith, ih (rw t at e)))
-
-pub index-skip : (x : ℕ) (l : List ℕ) (i end : ℕ) → PassedBy x l i → i ≤ end → end ≤ length l
-    → has x (take (end - i) (drop i l)) ≡ false → PassedBy x l end
-index-skip x l i end e le within others =
-    let at : i + (end - i) ≡ end = omega arith in
-    omega (
-      arith,
-      e,
-      skipped x (end - i) (drop i l) (omega (arith, length-drop i l)) others,
-      ap (λ (r : List ℕ). indexIn x r) (drop-drop (end - i) i l),
-      ap (λ (k : ℕ). indexIn x (drop k l)) at,
-    )
-
--- whether the list has x, found by looking at all entries: one entry more, and the end of the list
-pub has-next : (x : ℕ) (l : List ℕ) (i : ℕ) (found : Bool) → found || has x (drop i l) ≡ has x l → i < length l
-    → (found || eqb (getD l i 0) x) || has x (drop (suc i) l) ≡ has x l
-unfolding has
-has-next x l i true e lt = e
-has-next x l i false e lt = ap (λ (r : List ℕ). has x r) (sym (drop-cons l i 0 lt)) ∙ e
-
-pub has-end : (x : ℕ) (l : List ℕ) (i : ℕ) (found : Bool) → found || has x (drop i l) ≡ has x l → length l ≤ i → found ≡ has x l
-unfolding has
-has-end x l i true e le = e
-has-end x l i false e le = ap (λ (r : List ℕ). has x r) (sym (drop-of-length-le l le)) ∙ e
 
 ltb-suc : (a b : ℕ) → ltb (suc a) (suc b) ≡ ltb a b
 ltb-suc a b = go (ltb a b) refl
@@ -104,6 +74,44 @@ place-index x (y ∷ ys) = go (eqb y x) refl (ltb (indexIn x ys) (length ys)) re
     go true e c l ih = rw (e, lt-ltb 0 (suc (length ys)) (omega arith))
     go false e true l ih = rw (e, ih, ltb-suc (indexIn x ys) (length ys), l)
     go false e false l ih = rw (e, ih, ltb-suc (indexIn x ys) (length ys), l)
+
+-- the entries before its place are the index
+pub before-index : (x : ℕ) (l : List ℕ) → beforeIn l (placeOf x l) ≡ indexIn x l
+before-index x l = go (ltb (indexIn x l) (length l)) refl
+  where
+    go : (b : Bool) → ltb (indexIn x l) (length l) ≡ b → beforeIn l (placeOf x l) ≡ indexIn x l
+    go true e = rw (place-index x l, e) (omega arith)
+    go false e = rw (place-index x l, e) (omega (arith, ltb-false (indexIn x l) (length l) e, index-within x l))
+
+-- a walk with p entries before the segment and k looked at
+abbrev pub walked : ℕ → ℕ → Walk
+walked p k = record { before = p; looked = k }
+
+-- the walk up to x, which is in the list, or is not
+pub walk-found : (x : ℕ) (l : List ℕ) (p : ℕ) → p ≡ indexIn x l → p < length l → walked p (suc p) ≡ walkOf x l
+walk-found x l p e lt =
+    let less : p ≡ suc p - 1 = omega arith in
+    rw (place-index x l, ← e, lt-ltb p (length l) lt) (ap (λ (q : ℕ). walked q (suc p)) less)
+
+pub walk-none : (x : ℕ) (l : List ℕ) (p : ℕ) → p ≡ indexIn x l → p ≡ length l → walked p p ≡ walkOf x l
+walk-none x l p e all = rw (place-index x l, ← e, le-ltb p (length l) (omega arith), all)
+
+-- what a walk gives
+module _ (x : ℕ) (l : List ℕ) {w : Walk} (e : w ≡ walkOf x l) where
+  pub before-is : w .before ≡ indexIn x l
+  before-is = ap (λ (v : Walk). v .before) e ∙ before-index x l
+
+  pub before-within : w .before ≤ length l
+  before-within = omega (arith, before-is, index-within x l)
+
+  pub looked-at-most : w .looked ≤ length l
+  looked-at-most = omega (arith, ap (λ (v : Walk). v .looked) e, looked-within x l)
+
+  pub looked-found : w .before < length l → w .looked ≡ suc (w .before)
+  looked-found lt = ap (λ (v : Walk). v .looked) e ∙ rw (place-index x l, ← before-is, lt-ltb (w .before) (length l) lt)
+
+  pub looked-all : length l ≤ w .before → w .looked ≡ length l
+  looked-all le = ap (λ (v : Walk). v .looked) e ∙ rw (place-index x l, ← before-is, le-ltb (w .before) (length l) le)
 
 -- the entry at the index is x, and without it the list has the entries before and behind; where there is none the list is as it was
 pub entry-index : (x : ℕ) (l : List ℕ) → indexIn x l < length l → getD l (indexIn x l) 0 ≡ x

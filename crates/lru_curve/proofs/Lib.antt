@@ -8,5 +8,6 @@ pub mod Passes
 pub mod Shifts
 pub mod Simulations
 pub mod Sums
+pub mod Turns
 pub mod Walks
 pub mod Writing

@@ -1,6 +1,6 @@
 -- The pass by stack distances: its start, a touch that is a reuse, a first touch, an idle step, and its end. Assumes nothing.
 use Prim.Native.Nat.{ℕ, suc, _+_, _*_, _≤_, _<_}
-use mathlib.Core.Path.{_≡_, refl, sym, _∙_}
+use mathlib.Core.Path.{_≡_, refl, sym, ap, _∙_}
 use mathlib.Core.Bool.{Bool, true, false, cond}
 use mathlib.Core.List.{List}
 use mathlib.Core.Option.{Option, none, some}
@@ -23,10 +23,11 @@ use Rattle.lru.proofs.Bounds.{recency-on, recency-off, length-recency, recency-
 use Rattle.lru.proofs.Orders.{looked-within}
 use Rattle.lru.proofs.Touches.{cond-within, adds-on, adds-off, touches-within}
 use Rattle.lru_curve.specs.Frames.{touchesOf}
-use Rattle.lru_curve.specs.inner.Entries.{indexIn, moved}
+use Rattle.lru_curve.specs.declared.recency_list.Walk.{Walk}
+use Rattle.lru_curve.specs.inner.Entries.{indexIn, walkOf, moved}
 use Rattle.lru_curve.specs.inner.Passes.{mostEntries, isAt, touchesAt, Counted}
 use Rattle.lru_curve.proofs.Fronts.{length-moved, front-found, front-first}
-use Rattle.lru_curve.proofs.Indexes.{index-within, place-index}
+use Rattle.lru_curve.proofs.Indexes.{index-within, place-index, before-is}
 
 -- the entries looked at in the first n steps
 abbrev pub lookedBy : Trace → ℕ → ℕ
@@ -118,9 +119,15 @@ module _ (sizes refs : List ℕ) where
             looked-is = v .looked-is ∙ sym (adds-off T (λ t i. lookedIn (recency T t) (distance T t i)) t off);
           }
 
-      -- a touch of segment x, before which p entries stood
-      module _ (x : ℕ) (is-x : getD refs t 0 ≡ x) (segment : x < length sizes) (p : ℕ) (list' : List ℕ)
-          (index : p ≡ indexIn x (take n list)) (list-moved : list' ≡ moved p x list) where
+      -- a touch of segment x, up to which the list was walked
+      module _ (x : ℕ) (is-x : getD refs t 0 ≡ x) (segment : x < length sizes) (w : Walk) (list' : List ℕ)
+          (walk-is : w ≡ walkOf x (take n list)) (list-moved : list' ≡ moved (w .before) x list) where
+        abbrev p : ℕ
+        p = w .before
+
+        index : p ≡ indexIn x (take n list)
+        index = before-is x (take n list) walk-is
+
         on : entry T t < segs T
         on = rw (is-entry, is-x) segment
 
@@ -141,10 +148,14 @@ module _ (sizes refs : List ℕ) where
         unfolding touchesAt
         at-next q = adds-on T (λ t i. isAt q (distance T t i)) t on ∙ rw place
 
-        looked-next : lookedBy T (suc t) ≡ looked + lookedIn (recency T t) (cond (ltb p n) (some (suc p)) none)
-        looked-next = adds-on T (λ t i. lookedIn (recency T t) (distance T t i)) t on ∙ rw (place, v .looked-is)
+        -- what the walk looked at
+        looked-next : looked + w .looked ≡ lookedBy T (suc t)
+        unfolding distance
+        looked-next =
+            let walked = ap (λ (u : Walk). u .looked) walk-is in
+            sym (adds-on T (λ t i. lookedIn (recency T t) (distance T t i)) t on ∙ rw (walked, v .list-is, is-entry, is-x, v .looked-is))
 
-        pub passed-reuse : p < n → Passed sizes refs list' n (set at p (getD at p 0 + 1)) (looked + (p + 1)) (t + 1)
+        pub passed-reuse : p < n → Passed sizes refs list' n (set at p (getD at p 0 + 1)) (looked + w .looked) (t + 1)
         passed-reuse lt =
             rw (add-one t)
             record {
@@ -154,7 +165,7 @@ module _ (sizes refs : List ℕ) where
               list-is = rw (list-moved) (front-found list n x (omega (arith, v .list-whole, v .few)) p index lt ∙ sym next);
               few = v .few;
               at-are = λ q lq. go q lq (eqb p q) refl;
-              looked-is = sym (looked-next ∙ rw (lt-ltb p n lt, add-one p));
+              looked-is = looked-next;
             }
           where
             go : (q : ℕ) → q < mostSegs → (b : Bool) → eqb p q ≡ b → getD (set at p (getD at p 0 + 1)) q 0 ≡ touchesAt T (suc t) (suc q)
@@ -166,7 +177,7 @@ module _ (sizes refs : List ℕ) where
                 rw (at-next (suc q), lt-ltb p n lt, ne-eqb (suc p) (suc q) (λ z. other (omega arith)), ← v .at-are q lq)
                 (getD-set-other at p q (getD at p 0 + 1) 0 (λ z. other (sym z)) ∙ omega arith)
 
-        pub passed-first : n ≤ p → Passed sizes refs list' (n + 1) at (looked + n) (t + 1)
+        pub passed-first : n ≤ p → Passed sizes refs list' (n + 1) at (looked + w .looked) (t + 1)
         passed-first le =
             rw (add-one t, add-one n)
             record {
@@ -181,7 +192,7 @@ module _ (sizes refs : List ℕ) where
                     length-take-le (suc n) list' (omega (arith, whole, v .few)),
                   );
               at-are = λ q lq. v .at-are q lq ∙ sym (at-next (suc q) ∙ rw (le-ltb p n le) (omega arith));
-              looked-is = sym (looked-next ∙ rw (le-ltb p n le, size));
+              looked-is = looked-next;
             }
           where
             front : take (suc n) list' ≡ recency T (suc t)

@@ -1,5 +1,6 @@
 // The misses with every number of frames in one pass: a recency list, and how many touches there are at each stack distance.
 // What they are is written in crate `lru`; nothing is assumed.
+use crate::recency_list::Walk;
 use model::Sheet;
 ghost use mathlib.Core.Path.{_≡_};
 ghost use Prim.Native.Nat.{_≤_};
@@ -7,7 +8,7 @@ ghost use lib.ListN.{length, take};
 ghost use Rattle.model.specs.Sheets.{mostSegs, mostSteps};
 ghost use Rattle.model.specs.Values.{zeros};
 ghost use Rattle.lru_curve.specs.Frames.{EveryRun, touchesOf, ByDistances};
-ghost use Rattle.lru_curve.specs.inner.Entries.{indexIn, moved};
+ghost use Rattle.lru_curve.specs.inner.Entries.{walkOf, moved};
 ghost use Rattle.lru_curve.specs.inner.Passes.{mostEntries, Counted};
 
 // One entry more than there are segments, so that a first touch always has room in the list.
@@ -34,16 +35,15 @@ fn no_touches() -> [u64; Sheet::MAX_SEGS]
     [0u64; Sheet::MAX_SEGS]
 }
 
-// Brings x to the front of the first n entries. The result says how many stood before x; n where it was not among them, and then the list
-// is one longer.
-fn bring(list: &mut [u16; ENTRIES], n: usize, x: u16) -> usize
+// Brings x to the front of the first n entries, and gives the walk up to it. Where x was not among them the list is one longer.
+fn bring(list: &mut [u16; ENTRIES], n: usize, x: u16) -> Walk
     requires { ⌜ (n ≤ mostSegs) × (length (now list) ≡ mostEntries) ⌝ }
-    ensures { λ r. ⌜ r ≡ indexIn x (take n (now (list .entry))) ⌝ }
-    ensures { λ r. ⌜ now (list .exit) ≡ moved r x (now (list .entry)) ⌝ }
+    ensures { λ r. ⌜ r ≡ walkOf x (take n (now (list .entry))) ⌝ }
+    ensures { λ r. ⌜ now (list .exit) ≡ moved (r .before) x (now (list .entry)) ⌝ }
 {
-    let p = crate::recency_list::index_of(list, n, x);
-    crate::recency_list::put_first(list, p, x);
-    p
+    let w = crate::recency_list::walk_to(list, n, x);
+    crate::recency_list::put_first(list, w.before, x);
+    w
 }
 
 // One pass over the touches with a recency list, the first n entries of `list`.
@@ -60,12 +60,12 @@ fn distances(sizes: &[u16], refs: &[u16]) -> Counts
         let x = refs[t];
         t += 1;
         if (x as usize) < sizes.len() {
-            let p = bring(&mut list, n, x);
+            let w = bring(&mut list, n, x);
+            let p = w.before;
+            looked += w.looked;
             if p < n {
                 at[p] += 1;
-                looked += p as u64 + 1;
             } else {
-                looked += n as u64;
                 n += 1;
             }
         }

@@ -1,65 +1,76 @@
-// A recency list, the segments touched so far with the most recent first: where a segment stands in it, and a segment put first.
+// A recency list, the segments touched so far with the most recent first: the walk up to a segment, and a segment put first.
 // What the list is, is written in crate `lru`; nothing is assumed.
 ghost use mathlib.Core.Path.{_≡_};
 ghost use Prim.Native.Nat.{_≤_, _<_};
 ghost use lib.ListN.{length, take};
-ghost use Rattle.lru.specs.Orders.{has};
-ghost use Rattle.lru_curve.specs.inner.Entries.{indexIn, PassedBy, moved};
+ghost use Rattle.lru_curve.specs.inner.Entries.{walkOf, moved};
 
-// How many entries are compared together.
-const BLOCK: usize = 8;
-
-// Whether the list has x. The loop goes on where x is found, so that one instruction can compare several entries.
-fn contains(list: &[u16], x: u16) -> bool
-    ensures { λ r. ⌜ r ≡ has x (now (list .entry)) ⌝ }
-{
-    let mut found = false;
-    let mut i: usize = 0;
-    while i < list.len() {
-        found = found | (list[i] == x);
-        i += 1;
-    }
-    found
+// What a walk up to a segment gives: how many entries stand before it, all of them where the list does not have it, and how many entries
+// were looked at.
+pub struct Walk {
+    pub before: usize,
+    pub looked: u64,
 }
 
-// How many entries stand in the blocks before the first that has x; what is left over behind the last block is not looked at.
-fn blocks_before(list: &[u16], x: u16) -> usize
-    ensures { λ r. ⌜ (r ≤ length (now (list .entry))) × PassedBy x (now (list .entry)) r ⌝ }
+// How many entries are looked at in one turn, one after the other: fewer turns, the same entries.
+const TURN: usize = 4;
+
+// Looks at the entries one after the other, from the most recent up to x, or at all of them where x is not among them, and counts each as
+// it looks at it.
+fn walk_along(list: &[u16], x: u16) -> Walk
+    ensures { λ r. ⌜ r ≡ walkOf x (now (list .entry)) ⌝ }
 {
+    let mut looked: u64 = 0;
+    let mut place: usize = 0;
+    while place < list.len() {
+        let entry = list[place];
+        looked += 1;
+        if entry == x {
+            return Walk {
+                before: place,
+                looked: looked,
+            };
+        }
+        place += 1;
+    }
+    Walk {
+        before: place,
+        looked: looked,
+    }
+}
+
+// The walk along the list up to x, a turn's entries and then the next turn's.
+fn walk_turns(list: &[u16], x: u16) -> Walk
+    ensures { λ r. ⌜ r ≡ walkOf x (now (list .entry)) ⌝ }
+{
+    let mut total: u64 = 0;
     let mut i: usize = 0;
-    while BLOCK <= list.len() - i {
-        let end = i + BLOCK;
-        if contains(&list[i..end], x) {
-            return i;
+    while TURN <= list.len() - i {
+        let end = i + TURN;
+        let w = walk_along(&list[i..end], x);
+        total += w.looked;
+        if w.before < TURN {
+            return Walk {
+                before: i + w.before,
+                looked: total,
+            };
         }
         i = end;
     }
-    i
-}
-
-// How many entries stand before x, which is not among the first `from`; all of them where the list does not have it.
-fn entries_before(list: &[u16], from: usize, x: u16) -> usize
-    requires { ⌜ (from ≤ length (now list)) × PassedBy x (now list) from ⌝ }
-    ensures { λ r. ⌜ r ≡ indexIn x (now (list .entry)) ⌝ }
-{
-    let mut i = from;
-    while i < list.len() {
-        if list[i] == x {
-            return i;
-        }
-        i += 1;
+    let w = walk_along(&list[i..], x);
+    Walk {
+        before: i + w.before,
+        looked: total + w.looked,
     }
-    i
 }
 
-// How many of the first n entries stand before x; n where it is not among them.
-pub fn index_of(list: &[u16], n: usize, x: u16) -> usize
+// The walk along the first n entries up to x.
+pub fn walk_to(list: &[u16], n: usize, x: u16) -> Walk
     requires { ⌜ n ≤ length (now list) ⌝ }
-    ensures { λ r. ⌜ r ≡ indexIn x (take n (now (list .entry))) ⌝ }
+    ensures { λ r. ⌜ r ≡ walkOf x (take n (now (list .entry))) ⌝ }
 {
     let first = &list[..n];
-    let from = blocks_before(first, x);
-    entries_before(first, from, x)
+    walk_turns(first, x)
 }
 
 // Puts x first and moves the first p entries one further, in one walk from the front; entry p is given up.

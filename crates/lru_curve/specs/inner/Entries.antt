@@ -1,19 +1,27 @@
--- A list of segments: the place of a segment in it, and the list with a segment at its front. Assumes nothing.
-use Prim.Native.Nat.{ℕ, suc, _+_}
-use mathlib.Core.Path.{_≡_}
+-- A list of segments: the place of a segment in it, the walk up to it, and the list with a segment at its front. Assumes nothing.
+use Prim.Native.Nat.{ℕ, suc, _-_}
 use mathlib.Core.Bool.{cond}
 use mathlib.Core.List.{List, [], _∷_, _++_}
+use mathlib.Core.Option.{Option, none, some}
 use lib.Dec.{eqb}
-use lib.ListN.{take, drop}
+use lib.ListN.{length, take, drop}
+use Rattle.lru.specs.Orders.{placeOf}
+use Rattle.lru.specs.Recency.{lookedIn}
+use Rattle.lru_curve.specs.declared.recency_list.Walk.{Walk}
 
 -- how many entries stand before x; all of them where the list does not have it
 unfoldable pub indexIn : ℕ → List ℕ → ℕ
 indexIn x [] = 0
 indexIn x (y ∷ ys) = cond (eqb y x) 0 (suc (indexIn x ys))
 
--- x is not among the first i entries
-abbrev pub PassedBy : ℕ → List ℕ → ℕ → Type 0
-PassedBy x l i = indexIn x l ≡ i + indexIn x (drop i l)
+-- how many entries stand before a place; all of them where there is none
+abbrev pub beforeIn : List ℕ → Option ℕ → ℕ
+beforeIn l none = length l
+beforeIn l (some p) = p - 1
+
+-- the walk up to x: the entries before its place, and those looked at
+abbrev pub walkOf : ℕ → List ℕ → Walk
+walkOf x l = record { before = beforeIn l (placeOf x l); looked = lookedIn l (placeOf x l) }
 
 -- the list with x at its front, the first p entries one further, and entry p given up
 abbrev pub moved : ℕ → ℕ → List ℕ → List ℕ

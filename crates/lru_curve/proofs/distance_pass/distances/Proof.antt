@@ -1,11 +1,13 @@
 -- `lru_curve::distance_pass::distances` meets its contract: after each step the list is the recency list, and the counts are those of the
 -- steps so far. Assumes nothing.
-use Prim.Native.Nat.{_-_, _*_, _≤_, _<_}
+use Prim.Native.Nat.{_-_, _<_}
 use mathlib.Core.Path.{refl}
 use native.Mathlib.Omega.{arith}
 use borrow.Author.Needs.{needs}
 use denote.Ref.{now}
 use lib.ListN.{length}
+use lib.Seq.{length-take-le}
+use Rattle.lru_curve.proofs.Indexes.{looked-at-most}
 use Rattle.lru_curve.proofs.Passes.{Passed, passed-start, passed-reuse, passed-first, passed-idle, passed-end}
 use Rattle.lru_curve.proofs.Passes.{at-room, looked-most}
 use Rattle.lru_curve.proofs.distance_pass.distances.Statement.{statement}
@@ -32,34 +34,41 @@ Loop b = b .before .before .before .before .before
 abbrev Begin : tie.At-loop Inv-loop μ-loop → tie.Start Inv-loop μ-loop
 Begin l = l .before .before .before .before .before
 
+add-looked : tie.Need-add-looked Inv-loop μ-loop
+add-looked c =
+    let b = c .before in
+    let l = Loop b in
+    let s = Begin l in
+    let front = length-take-le (l .loop .n) (l .loop .list) (omega (arith, l .loop .inv .list-whole, l .loop .inv .few, s .pre)) in
+    omega (
+      arith,
+      looked-most _ _ _ _ _ _ _ (l .loop .inv) (s .pre .0) (s .pre .1),
+      looked-at-most _ _ (b .bring .ensures .0),
+      front,
+      l .loop .inv .few,
+      s .pre,
+    )
+
 add-at : tie.Need-add-at Inv-loop μ-loop
 add-at c =
-    let l = Loop (c .before) in
+    let b = c .before .before in
+    let l = Loop b in
     let s = Begin l in
-    let small : c .before .bring .result < 256 = omega (arith, c .if2 .taken, l .loop .inv .few, s .pre) in
-    omega (arith, at-room _ _ _ _ _ _ _ (l .loop .inv) (s .pre .0) (s .pre .1) (c .before .bring .result) small)
-
-looked-room : (l : tie.At-loop Inv-loop μ-loop) → l .loop .looked ≤ 2048 * 256
-looked-room l = let s = Begin l in looked-most _ _ _ _ _ _ _ (l .loop .inv) (s .pre .0) (s .pre .1)
-
-add-looked-2 : tie.Need-add-looked-2 Inv-loop μ-loop
-add-looked-2 c = let l = Loop (c .before) in omega (arith, looked-room l, c .if2 .taken, l .loop .inv .few, Begin l .pre)
+    let small : b .bring .result .before < 256 = omega (arith, c .if2 .taken, l .loop .inv .few, s .pre) in
+    omega (arith, at-room _ _ _ _ _ _ _ (l .loop .inv) (s .pre .0) (s .pre .1) (b .bring .result .before) small)
 
 loop-again : tie.Need-loop-again Inv-loop μ-loop
 loop-again c =
-    let b = c .before in
+    let b = c .before .before in
     let l = Loop b in
     let s = Begin l in
     let h = b .before .before in
     passed-reuse _ _ _ _ _ _ _ (l .loop .inv) (s .pre .0) (s .pre .1) (h .before .before .loop-test .taken) _ refl (h .if1 .taken)
     (b .bring .result) _ (b .bring .ensures .0) (b .bring .ensures .1) (c .if2 .taken)
 
-add-looked-3 : tie.Need-add-looked-3 Inv-loop μ-loop
-add-looked-3 c = let l = Loop (c .before) in omega (arith, looked-room l, l .loop .inv .few, Begin l .pre)
-
 loop-again-2 : tie.Need-loop-again-2 Inv-loop μ-loop
 loop-again-2 c =
-    let b = c .before in
+    let b = c .before .before in
     let l = Loop b in
     let s = Begin l in
     let h = b .before .before in
@@ -91,15 +100,13 @@ distances-spec =
     (λ c. search needs)
     cast-if1
     (λ c κs. search needs)
+    add-looked
     (λ c. search needs)
     (λ c. search needs)
     add-at
     (λ c. search needs)
     (λ c. search needs)
-    add-looked-2
-    (λ c. search needs)
     loop-again
-    add-looked-3
     (λ c. search needs)
     (λ c. search needs)
     loop-again-2

@@ -4,8 +4,7 @@ use native.Mathlib.Numerals.{add-one}
 use native.Mathlib.Omega.{arith}
 use borrow.Author.Needs.{needs}
 use lib.ListN.{length}
-use Rattle.lru_curve.specs.inner.Entries.{PassedBy}
-use Rattle.lru_curve.proofs.Indexes.{index-next, index-here, index-none}
+use Rattle.lru_curve.proofs.Indexes.{PassedBy, index-next, index-here, index-none}
 use Rattle.lru_curve.proofs.plain_frames.frame_of.Statement.{statement}
 use Rattle.lru_curve.proofs.plain_frames.frame_of.Tie as tie
 
