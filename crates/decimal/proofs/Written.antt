@@ -161,18 +161,11 @@ written-exact (suc k) n p h l = omega (arith, written-length k n l)
 pub written-width : (k n : ℕ) → 10 ^ k ≤ n → n < 10 ^ suc k → suc k ≡ length (written n)
 written-width k n l h = written-exact (suc k) n (omega arith) (written-longer k n l) h
 
--- a number from 10,000 on has four digits more than its ten-thousands
-pub written-fours : (n : ℕ) → 10000 ≤ n → length (written n) ≡ 4 + length (written (n / 10000))
-written-fours n h =
-    let rest : n / 10 / 10 / 10 / 10 ≡ n / 10000 = omega arith in
-    omega (
-      arith,
-      one-more n (omega arith),
-      one-more (n / 10) (omega arith),
-      one-more (n / 10 / 10) (omega arith),
-      one-more (n / 10 / 10 / 10) (omega arith),
-      ap (λ m. length (written m)) rest,
-    )
+-- a number from 100 on has two digits more than its hundreds
+pub written-twos : (n : ℕ) → 100 ≤ n → length (written n) ≡ 2 + length (written (n / 100))
+written-twos n h =
+    let rest : n / 10 / 10 ≡ n / 100 = omega arith in
+    omega (arith, one-more n (omega arith), one-more (n / 10) (omega arith), ap (λ m. length (written m)) rest)
   where
     one-more : (n : ℕ) → 10 ≤ n → length (written n) ≡ 1 + length (written (n / 10))
     one-more n h = rw (written-high n h, length-append) (omega arith)

@@ -140,62 +140,34 @@ pub fn width(n: u64) -> usize
     w
 }
 
-// Writes the two digits of `pair` into `out` at the places `at` and `at + 1`. Both are bytes of one number, so that one store writes them:
-// 256 times the pair less 2,559 times its tens is its tens and 256 times its ones.
-fn put_pair(pair: u32, out: &mut [u8], at: usize)
+// Writes the two digits of `pair` into `out` at the places `at` and `at + 1`.
+fn put_pair(pair: u8, out: &mut [u8], at: usize)
     requires { ⌜ (pair < 100) × (at + 2 ≤ length (now out)) ⌝ }
     ensures { λ r. ⌜ now (out .exit) ≡ set (set (now (out .entry)) (at + 1) (48 + pair % 10)) at (48 + pair / 10) ⌝ }
 {
-    let both = 12336 + 256 * pair - 2559 * (pair / 10);
-    out[at + 1] = (both / 256) as u8;
-    out[at] = (both % 256) as u8;
+    out[at + 1] = 48 + pair % 10;
+    out[at] = 48 + pair / 10;
 }
 
-// Writes the digits of `n`, at most four, into `out` from the place `at` on, and gives the place after them.
-fn write_short(n: u32, out: &mut [u8], at: usize) -> usize
-    requires { ⌜ (n < 10000) × (at + length (written n) ≤ length (now out)) ⌝ }
-    ensures { λ r. ⌜ (r ≡ at + length (written n))
-        × (now (out .exit) ≡ take at (now (out .entry)) ++ (written n ++ drop (at + length (written n)) (now (out .entry)))) ⌝ }
-{
-    let high = n / 100;
-    let low = n % 100;
-    if 10 <= high {
-        put_pair(low, out, at + 2);
-        put_pair(high, out, at);
-        return at + 4;
-    }
-    if 0 < high {
-        put_pair(low, out, at + 1);
-        out[at] = 48 + high as u8;
-        return at + 3;
-    }
-    if 10 <= low {
-        put_pair(low, out, at);
-        return at + 2;
-    }
-    out[at] = 48 + low as u8;
-    at + 1
-}
-
-// Writes the digits of `n` into `out` from the place `at` on, and gives the place after them. The other bytes of `out` stay.
+// Writes the digits of `n` into `out` from the place `at` on, the last two first, and gives the place after them. The other bytes of `out`
+// stay.
 pub fn write(n: u64, out: &mut [u8], at: usize) -> usize
     requires { ⌜ at + length (written n) ≤ length (now out) ⌝ }
     ensures { λ r. ⌜ (r ≡ at + length (written n))
         × (now (out .exit) ≡ take at (now (out .entry)) ++ (written n ++ drop (at + length (written n)) (now (out .entry)))) ⌝ }
 {
-    if n < 10000 {
-        return write_short(n as u32, out, at);
-    }
     let w = width(n);
     let mut rest = n;
     let mut left = w;
-    while 10000 <= rest {
-        left -= 4;
-        let four = (rest % 10000) as u32;
-        put_pair(four % 100, out, at + left + 2);
-        put_pair(four / 100, out, at + left);
-        rest = rest / 10000;
+    while 100 <= rest {
+        left -= 2;
+        put_pair((rest % 100) as u8, out, at + left);
+        rest = rest / 100;
     }
-    write_short(rest as u32, out, at);
+    if rest < 10 {
+        out[at] = 48 + rest as u8;
+        return at + w;
+    }
+    put_pair(rest as u8, out, at);
     at + w
 }

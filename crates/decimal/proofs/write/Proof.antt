@@ -7,8 +7,8 @@ use native.Mathlib.Omega.{arith}
 use borrow.Author.Needs.{needs}
 use lib.ListN.{length, take, drop}
 use Rattle.decimal.specs.Decimal.{written}
-use Rattle.decimal.proofs.Padded.{Filling, fill-start, fill-four, fill-whole}
-use Rattle.decimal.proofs.Written.{written-fours}
+use Rattle.decimal.proofs.Padded.{Filling, fill-start, fill-two, fill-last, fill-last-two}
+use Rattle.decimal.proofs.Written.{written-some, written-exact, written-width, written-twos}
 use Rattle.decimal.proofs.write.Statement.{statement}
 use Rattle.decimal.proofs.write.Tie as tie
 
@@ -21,49 +21,60 @@ abbrev μ-loop : tie.MeasureT-loop
 μ-loop n out₀ at w rest₀ left₀ out rest left = rest
 
 loop-holds : tie.Need-loop-holds Inv-loop μ-loop
-loop-holds c =
-    let e = c .width .ensures in (refl, rw e (fill-start _ _ _ (c .before .before .before .pre)), e)
+loop-holds c = let e = c .width .ensures in (refl, rw e (fill-start _ _ _ (c .before .before .pre)), e)
 
 sub-left : tie.Need-sub-left Inv-loop μ-loop
 sub-left c =
     let l = c .before .loop in
-    omega (arith, l .inv .2, written-fours (l .rest) (c .loop-test .taken))
+    omega (arith, l .inv .2, written-twos (l .rest) (omega (arith, c .loop-test .taken)))
 
 put-pair-requires : tie.Need-put-pair-requires Inv-loop μ-loop
 put-pair-requires c κs =
     let t = c .before in
     let l = t .before .loop in
-    (omega arith, omega (arith, l .inv .1 .room, l .inv .2, written-fours (l .rest) (t .loop-test .taken)))
-
-put-pair-requires-2 : tie.Need-put-pair-requires-2 Inv-loop μ-loop
-put-pair-requires-2 c κs =
-    let t = c .before .before .before .before .before in
-    let l = t .before .loop in
-    (omega arith, omega (arith, l .inv .1 .room, l .inv .2, written-fours (l .rest) (t .loop-test .taken)))
+    (omega arith, omega (arith, l .inv .1 .room, l .inv .2, written-twos (l .rest) (omega (arith, t .loop-test .taken))))
 
 loop-again : tie.Need-loop-again Inv-loop μ-loop
 loop-again c =
     let two = c .before .before in
-    let four = two .before .before .before .before in
-    let t = four .before .before in
+    let t = two .before .before in
     let l = t .before .loop in
-    let e = written-fours (l .rest) (t .loop-test .taken) in (
+    let e = written-twos (l .rest) (omega (arith, t .loop-test .taken)) in (
       search needs,
-      fill-four _ _ _ _ _ _ (l .inv .1) (omega (arith, l .inv .2, e)) (four .put-pair .ensures) (two .put-pair2 .ensures),
+      fill-two _ _ _ _ _ _ (l .inv .1) (omega (arith, l .inv .2, e)) (two .put-pair .ensures),
       omega (arith, l .inv .2, e),
     )
 
-write-short-requires-2 : tie.Need-write-short-requires-2 Inv-loop μ-loop
-write-short-requires-2 c κs =
-    let t = c .before in
-    let l = t .before .loop in
-    (omega arith, omega (arith, l .inv .1 .room, l .inv .2))
+slice-write-out : tie.Need-slice-write-out Inv-loop μ-loop
+slice-write-out c =
+    let l = c .before .before .loop in
+    omega (arith, l .inv .1 .room, l .inv .2, written-some (l .rest))
+
+returns : tie.Need-returns Inv-loop μ-loop
+returns c =
+    let l = c .before .before .loop in
+    let one = written-exact 1 (l .rest) (omega arith) (written-some (l .rest)) (omega (arith, c .if1 .taken)) in (
+      omega (arith, c .before .before .before .width .ensures),
+      fill-last _ _ _ (l .rest) (l .left) (l .inv .1) (omega (arith, l .inv .2, one)) (omega (arith, c .if1 .taken)),
+    )
+
+put-pair-requires-2 : tie.Need-put-pair-requires-2 Inv-loop μ-loop
+put-pair-requires-2 c κs =
+    let e = c .before in
+    let l = e .before .before .loop in
+    let two = written-width 1 (l .rest) (omega (arith, e .if1 .left)) (omega (arith, e .before .loop-test .left)) in
+    (omega (arith, e .before .loop-test .left), omega (arith, l .inv .1 .room, l .inv .2, two))
 
 returns-2 : tie.Need-returns-2 Inv-loop μ-loop
 returns-2 c =
-    let s = c .before .before in
-    let l = s .before .before .before .loop in
-    (omega arith, fill-whole _ _ _ _ _ (l .inv .1) (l .inv .2) (s .write-short2 .ensures .1))
+    let p = c .before .before in
+    let e = p .before .before in
+    let l = e .before .before .loop in
+    let two = written-width 1 (l .rest) (omega (arith, e .if1 .left)) (omega (arith, e .before .loop-test .left)) in (
+      omega (arith, e .before .before .before .width .ensures),
+      fill-last-two _ _ _ (l .rest) (l .left) (l .inv .1) (omega (arith, l .inv .2, two)) (omega (arith, e .before .loop-test .left))
+          (p .put-pair2 .ensures),
+    )
 
 pub write-spec : {M : Type 1} → statement M
 write-spec =
@@ -71,23 +82,22 @@ write-spec =
     (tie.spec
     Inv-loop
     μ-loop
-    (λ c. search needs)
-    (λ c κs. search needs)
-    (λ c. search needs)
-    (λ c. search needs)
     (λ c κs. search needs)
     loop-holds
     sub-left
     (λ c. search needs)
     (λ c. search needs)
-    (λ c. search needs)
     put-pair-requires
-    (λ c. search needs)
-    put-pair-requires-2
     (λ c. search needs)
     loop-again
     (λ c. search needs)
-    write-short-requires-2
+    (λ c. search needs)
+    slice-write-out
+    (λ c. search needs)
+    (λ c. search needs)
+    returns
+    (λ c. search needs)
+    put-pair-requires-2
     (λ c. search needs)
     (λ c. search needs)
     returns-2)
