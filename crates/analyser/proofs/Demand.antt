@@ -23,7 +23,7 @@ use Rattle.pricing.proofs.Verdicts.{permitted-accepted}
 use Rattle.sheet_schedules.proofs.PlanResults.{schedule-length, schedule-placed, price-at}
 use Rattle.sheet_schedules.proofs.Prices.{accepted-at}
 use Rattle.stores.specs.Rows.{sheetLoad, sheetTotal}
-use Rattle.stores.specs.Stores.{markedTotal}
+use Rattle.stores.specs.Stays.{markedTotal}
 use Rattle.stores.proofs.Unmarked.{unmarked-load}
 use Rattle.analyser.specs.Answers.{figuresAnswer, scheduleResult, pricing}
 use Rattle.analyser.specs.Demand.{priceOf, leftSchedule, HasOptimum, Demand3FromBytes}

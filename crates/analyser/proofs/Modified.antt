@@ -70,7 +70,6 @@ module _ (s : List ℕ) (v : SheetValue) (reads : readForms 4 4 s ≡ accepted v
         written = λ place fits. rw (front-is place fits) modtotal-of;
         left = λ place fits. sym (placed-at place fits .place-is);
         priced = stores-priced s v any r row;
-        at-ends = demand .at-ends;
         unmarked = λ none. (
           unmarked-total (traceOf v) (marksOf (v .marks)) none (rowAt v r .h) (rowAt v r .d),
           unmarked-schedule (traceOf v) (marksOf (v .marks)) none (rowAt v r .h) (rowAt v r .d),

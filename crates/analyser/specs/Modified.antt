@@ -20,7 +20,6 @@ use Rattle.sheet_schedules.specs.Plans.{modifiedFor}
 use Rattle.listing.specs.Listing.{listing}
 use Rattle.stores.specs.Demand.{SameUpTo}
 use Rattle.stores.specs.Rows.{rowModtotal, rowModSchedule, sheetLoad, sheetTotal}
-use Rattle.stores.specs.Stores.{storesOf, storesAtEnds}
 use Rattle.analyser.specs.Answers.{listingResult, pricing}
 use Rattle.analyser.specs.Demand.{priceOf}
 
@@ -62,9 +61,6 @@ pub record ModifiedFromBytes (s : List ℕ) (v : SheetValue) (r : ℕ) : Type 0 
   -- the pricing call gives each permitted schedule its cost, stores counted
   pub priced : (p : List ℕ) → Permitted (traceOf v) p
       → pricing s r p ≡ priceOf (scheduleMemory (traceOf v) p) (sheetLoad v p) (sheetTotal v r p)
-  -- its stores are those at the ends of its stays, also when the record ends one
-  pub at-ends : (p : List ℕ) → Permitted (traceOf v) p
-      → storesOf (traceOf v) (marksOf (v .marks)) (held (traceOf v) p) ≡ storesAtEnds (traceOf v) (marksOf (v .marks)) (held (traceOf v) p)
   -- without a letter w modtotal is opttotal, and the schedule that of document 01
   pub unmarked : ((t : ℕ) → t < length (v .refs) → marksOf (v .marks) t ≡ false)
       → (rowModtotal v r ≡ rowOpttotal v r) × (rowModSchedule v r ≡ rowSchedule v r)

@@ -42,7 +42,7 @@ use Rattle.model.proofs.FigureBounds.{
   sizes-within,
 }
 use Rattle.stores.specs.Rows.{rowModtotal}
-use Rattle.stores.specs.Stores.{modtotal}
+use Rattle.stores.specs.Modtotal.{modtotal}
 use Rattle.stores.proofs.Within.{modAdded-within}
 use Rattle.listing.proofs.RowLines.{rows-most}
 use Rattle.listing.proofs.RowParts.{three-length, row-length, marked-length}

@@ -15,7 +15,7 @@ use Rattle.model.specs.Traces.{Trace}
 use Rattle.model.specs.Values.{zeros}
 use Rattle.model.specs.declared.PriceRow.{PriceRow}
 use Rattle.model.proofs.Tables.{getD-tabulate, tabulate-const, tabulate-set}
-use Rattle.stores.specs.Stores.{modAdded, modtotal}
+use Rattle.stores.specs.Modtotal.{modAdded, modtotal}
 use Rattle.stores.proofs.Unmarked.{unmarked-total}
 use Rattle.prints.specs.inner.Modtotals.{someMark, modtotalIn, firstModtotals}
 

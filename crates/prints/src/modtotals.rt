@@ -13,7 +13,7 @@ ghost use Rattle.model.specs.Sheets.{mostRows, runOf, RunWithin, rowIn, traceOf
 ghost use Rattle.model.specs.Standing.{Standing};
 ghost use Rattle.model.specs.Values.{valueOf, zeros};
 ghost use Rattle.figures.specs.Rows.{allFigures};
-ghost use Rattle.stores.specs.Stores.{modtotal};
+ghost use Rattle.stores.specs.Modtotal.{modtotal};
 ghost use Rattle.prints.specs.inner.Modtotals.{someMark, firstModtotals};
 
 // Whether any touch modifies.

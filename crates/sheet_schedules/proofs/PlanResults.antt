@@ -19,7 +19,7 @@ use Rattle.model.proofs.Places.{text-short, text-fits, refusal-left}
 use Rattle.model.proofs.Tables.{length-tabulate}
 use Rattle.pricing.specs.Checking.{noPrice}
 use Rattle.stores.specs.Rows.{rowModSchedule}
-use Rattle.stores.specs.Stores.{modHeld, modSchedule}
+use Rattle.stores.specs.Modtotal.{modHeld, modSchedule}
 use Rattle.sheet_schedules.specs.Plans.{scheduleFor, modifiedFor, pricedAt, priceFor}
 
 -- a place is shorter than 32 bytes for each step where it has room for fewer steps

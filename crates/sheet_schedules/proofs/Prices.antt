@@ -26,7 +26,7 @@ use Rattle.pricing.proofs.Costing.{schedule-within}
 use Rattle.pricing.proofs.Verdicts.{priced, accepted-answer, refused-answer, accepted-permitted}
 use Rattle.store_plan.specs.inner.Passing.{SizedAs}
 use Rattle.stores.specs.Rows.{sheetLoad, sheetTotal}
-use Rattle.stores.specs.Stores.{storesOf, markedLoad, markedTotal}
+use Rattle.stores.specs.Stays.{storesOf, markedLoad, markedTotal}
 use Rattle.stores.proofs.Unmarked.{unmarked-load}
 use Rattle.sheet_schedules.specs.Plans.{pricedAt}
 use Rattle.sheet_schedules.specs.inner.PlainPrices.{PlainOf}

@@ -13,7 +13,7 @@ use Rattle.model.specs.Traces.{Trace, segs, steps, entry, touching, sizeOf}
 use Rattle.model.specs.declared.PriceRow.{PriceRow}
 use Rattle.model.proofs.Sums.{sum-suc, sum-none}
 use Rattle.model.proofs.Touches.{entry-ref, touching-at, touching-idle}
-use Rattle.stores.specs.Stores.{storeCost, modAdded}
+use Rattle.stores.specs.Modtotal.{storeCost, modAdded}
 use Rattle.stores.proofs.Within.{added-within}
 use Rattle.store_plan.specs.declared.mod_pass.touching.Touched.{Touched}
 use Rattle.store_plan.specs.inner.Touches.{noneSince, touchBy}

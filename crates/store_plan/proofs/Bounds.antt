@@ -10,7 +10,7 @@ use Rattle.model.specs.Traces.{Trace, segs, steps, touched, sizeOf, swapOf, uni
 use Rattle.model.specs.declared.PriceRow.{PriceRow}
 use Rattle.model.proofs.Bounds.{product-within, unit-within}
 use Rattle.model.proofs.LastTouches.{unreferenced-within}
-use Rattle.stores.specs.Stores.{excess, plus, sinceMark}
+use Rattle.stores.specs.Modtotal.{excess, plus, sinceMark}
 use Rattle.store_plan.specs.inner.Touches.{codeOf}
 
 plus-within : (e : Option ℕ) (x n : ℕ) → codeOf e ≤ 1 + n * 2 ^ 40 → x ≤ 2 ^ 40 → codeOf (plus e x) ≤ 1 + suc n * 2 ^ 40

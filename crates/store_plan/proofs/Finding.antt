@@ -14,7 +14,7 @@ use Rattle.model.specs.Sheets.{RunWithin}
 use Rattle.model.specs.Traces.{Trace, segs, steps, entry, sizeOf}
 use Rattle.model.specs.declared.PriceRow.{PriceRow}
 use Rattle.model.proofs.Touches.{entry-ref}
-use Rattle.stores.specs.Stores.{joined}
+use Rattle.stores.specs.Modtotal.{joined}
 use Rattle.store_plan.specs.declared.mod_pass.touching.Touched.{Touched}
 use Rattle.store_plan.specs.inner.Decisions.{noDecisions, FoundBy}
 use Rattle.store_plan.specs.inner.Touches.{noneSince, touchBy}

@@ -14,7 +14,7 @@ use Rattle.model.specs.Figures.{kept}
 use Rattle.model.specs.Traces.{Trace, segs, steps, entry, touched}
 use Rattle.model.specs.declared.PriceRow.{PriceRow}
 use Rattle.model.proofs.Touches.{touched-at, touched-is, idle-touched, entry-ref}
-use Rattle.stores.specs.Stores.{joined, modSchedule}
+use Rattle.stores.specs.Modtotal.{joined, modSchedule}
 use Rattle.stores.specs.inner.Decisions.{modKept}
 use Rattle.stores.proofs.Decisions.{decisions-mod}
 use Rattle.stores.proofs.Nexts.{nextMark, mark-step, mark-end, nextMarked-eq}

@@ -18,9 +18,11 @@ use Rattle.model.proofs.Bounds.{swap-within}
 use Rattle.model.proofs.Loads.{overTouches-eq}
 use Rattle.model.proofs.Sums.{sum-suc, sum-none}
 use Rattle.model.proofs.Touches.{touched-at, touched-is, idle-touched, entry-ref, touching-at, touching-idle}
-use Rattle.stores.specs.Stores.{dirty, storesOf}
+use Rattle.stores.specs.Stays.{storesOf}
 use Rattle.stores.specs.inner.Flags.{modifiedFlag}
+use Rattle.stores.specs.inner.Marks.{dirty, storesAtMarks}
 use Rattle.stores.proofs.Flags.{dirty-flag}
+use Rattle.stores.proofs.Stays.{stays-marks}
 use Rattle.store_plan.specs.inner.Passing.{heldAfter, noFlags, SizedAs}
 
 -- what is held after some steps stands in the bytes of the last of them
@@ -58,9 +60,10 @@ module _ (T : Trace) (marks : ℕ → Bool) (p : List ℕ) where
 
   -- of a permitted schedule, what the touches store are its stores
   stores-are : Permitted T p → segs T ≤ 256 → storesOf T marks (held T p) ≡ storedBy (steps T)
-  unfolding storesOf
+  unfolding storesAtMarks
   stores-are ok few =
-      overTouches-eq T (λ t i. cond (marks t && not (dirty T marks (held T p) t i)) (swapOf T i) 0) storedAt
+      stays-marks T marks p ok
+      ∙ overTouches-eq T (λ t i. cond (marks t && not (dirty T marks (held T p) t i)) (swapOf T i) 0) storedAt
       (λ t i lt l m. ap (λ b. cond (marks t && not b) (swapOf T i) 0)
       (dirty-flag T marks (held T p) i (λ t lt. ok .others-stay t i lt (omega arith)) t (omega arith) ∙ flag-same t i .1))
 

@@ -16,7 +16,7 @@ use Rattle.model.specs.declared.PriceRow.{PriceRow}
 use Rattle.model.proofs.LastTouches.{lastTable-step, lastTable-idle}
 use Rattle.model.proofs.Tables.{getD-tabulate, tabulate-const, tabulate-eq, tabulate-set}
 use Rattle.model.proofs.Touches.{touched-at, touched-is, idle-touched, entry-ref}
-use Rattle.stores.specs.Stores.{excess, sinceMark, sinceThrough, storeCost, joined}
+use Rattle.stores.specs.Modtotal.{excess, sinceMark, sinceThrough, storeCost, joined}
 use Rattle.store_plan.specs.declared.mod_pass.touching.Touched.{Touched}
 use Rattle.store_plan.specs.inner.Touches.{codeOf, sinceTable, noneSince, codeAfter, touchBy}
 use Rattle.store_plan.proofs.Bounds.{since-within}

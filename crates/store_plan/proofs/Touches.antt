@@ -15,7 +15,7 @@ use Rattle.model.specs.declared.Kind.{Kind}
 use Rattle.model.specs.declared.PriceRow.{PriceRow}
 use Rattle.model.proofs.Bounds.{product-within, retention-within}
 use Rattle.model.proofs.LastTouches.{last-time}
-use Rattle.stores.specs.Stores.{excess, plus, orStore, joins}
+use Rattle.stores.specs.Modtotal.{excess, plus, orStore, joins}
 use Rattle.store_plan.specs.inner.Touches.{codeOf, excessBy, keptBy, codePlus, codeAfter, storeBy, joinsBy}
 
 -- an excess of 16-bit numbers

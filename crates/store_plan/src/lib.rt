@@ -15,7 +15,7 @@ ghost use Prim.Native.Nat.{_*_, _≤_};
 ghost use lib.ListN.{length, drop};
 ghost use Rattle.model.specs.Sheets.{mostSegs, mostSteps, runOf, RunWithin, marksOf};
 ghost use Rattle.model.specs.Traces.{Trace, segs};
-ghost use Rattle.stores.specs.Stores.{modSchedule};
+ghost use Rattle.stores.specs.Modtotal.{modSchedule};
 ghost use Rattle.store_plan.specs.inner.Decisions.{noDecisions, noFlags, FoundIn, Folded, Decides};
 
 // For each step whether its touch is a kept reuse, and whether, modifying, it belongs to the stay of the modifying touch before.

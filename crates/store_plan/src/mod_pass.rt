@@ -9,7 +9,7 @@ use touching::touch;
 ghost use mathlib.Core.Path.{_≡_};
 ghost use lib.ListN.{length};
 ghost use Rattle.model.specs.Sheets.{runOf, RunWithin, marksOf};
-ghost use Rattle.stores.specs.Stores.{modAdded};
+ghost use Rattle.stores.specs.Modtotal.{modAdded};
 
 // What the modifying touches add to opttotal: modtotal less opttotal.
 pub fn stores(

@@ -11,7 +11,7 @@ ghost use Rattle.model.specs.Costs.{swapCost};
 ghost use Rattle.model.specs.Schedules.{held, Permitted};
 ghost use Rattle.model.specs.Sheets.{mostSegs, mostSteps, marksOf};
 ghost use Rattle.model.specs.Traces.{Trace};
-ghost use Rattle.stores.specs.Stores.{storesOf};
+ghost use Rattle.stores.specs.Stays.{storesOf};
 ghost use Rattle.store_plan.specs.inner.Passing.{heldAfter, noFlags, SizedAs};
 
 // No segment is modified.

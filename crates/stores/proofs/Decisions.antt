@@ -9,7 +9,7 @@ use Rattle.model.specs.Figures.{kept}
 use Rattle.model.specs.Schedules.{nextKept}
 use Rattle.model.specs.Decisions.{nextDecided, decidedHeld, decidedSchedule, decisionsOf}
 use Rattle.model.proofs.Decisions.{heldBytes-eq, decidedSchedule-eq}
-use Rattle.stores.specs.Stores.{joined, nextMarked, modHeld, modSchedule}
+use Rattle.stores.specs.Modtotal.{joined, nextMarked, modHeld, modSchedule}
 use Rattle.stores.specs.inner.Decisions.{modKept}
 
 module _ (T : Trace) (marks : ℕ → Bool) (h d : ℕ) where

@@ -13,7 +13,6 @@ use Rattle.model.specs.declared.Kind.{Kind}
 use Rattle.model.specs.declared.Kind.the-variants.{Time, Space}
 use Rattle.model.proofs.Warm.{warm-segment}
 use Rattle.stores.specs.Demand.{MarkedDemand}
-use Rattle.stores.proofs.Ends.{stores-ends}
 use Rattle.stores.proofs.LowerBound.{marked-lower-bound}
 use Rattle.stores.proofs.Reached.{mod-permitted, mod-total}
 use Rattle.stores.proofs.LeastLoad.{least-load}
@@ -25,7 +24,6 @@ pub marked-demand : (T : Trace) (marks : ℕ → Bool) (h d : ℕ) → segs T �
     → ((i : ℕ) → segs T ≤ i → T .start i ≡ false) → MarkedDemand T marks h d
 marked-demand T marks h d few some-d some-unit warm =
     record {
-      at-ends = λ p ok. stores-ends T marks _ (ok .touched-held);
       lower = λ p ok. marked-lower-bound T marks h d p ok few;
       permitted = mod-permitted T marks h d few;
       total = mod-total T marks h d few;

@@ -6,7 +6,7 @@ use native.Mathlib.Omega.{arith}
 use Rattle.model.specs.Traces.{Trace, segs, steps, touched, swapOf}
 use Rattle.model.proofs.Sums.{sum-zero}
 use Rattle.model.proofs.DoubleSums.{overTouches-double, potential-eq}
-use Rattle.stores.specs.Stores.{dirty, storesOf, storesAtEnds}
+use Rattle.stores.specs.inner.Marks.{dirty, storesAtMarks, storesAtEnds}
 
 -- one step of one segment: m says whether it is touched, g whether a touch modifies, c whether it is held in the step, q whether it is
 -- modified before
@@ -24,8 +24,8 @@ one-step w false g false false hold = omega arith
 
 -- of a schedule that holds what is touched
 pub stores-ends : (T : Trace) (marks : ℕ → Bool) (S : ℕ → ℕ → Bool)
-    → ((t i : ℕ) → t < steps T → touched T t i ≡ true → S (suc t) i ≡ true) → storesOf T marks S ≡ storesAtEnds T marks S
-unfolding storesOf storesAtEnds dirty
+    → ((t i : ℕ) → t < steps T → touched T t i ≡ true → S (suc t) i ≡ true) → storesAtMarks T marks S ≡ storesAtEnds T marks S
+unfolding storesAtMarks storesAtEnds dirty
 stores-ends T marks S hold =
     omega (
       arith,

@@ -1,8 +1,9 @@
 -- Runs with modifying touches and rows, with modtotal, the schedule written and the prices of others, in one table; a single proof goes
--- over it, computed from the definitions. The first run is worked by hand, the others by trying all schedules. Assumes nothing.
-use Prim.Native.Nat.{ℕ, _+_, _*_}
+-- over it, computed from the definitions. The first run is worked by hand, the others by trying all schedules. At the end what a stay is
+-- and what is stored, by the definitions alone. Assumes nothing.
+use Prim.Native.Nat.{ℕ, zero, suc, _+_, _*_, _/_, _%_}
 use mathlib.Core.Path.{_≡_, refl}
-use mathlib.Core.Bool.{Bool, true, false, _&&_}
+use mathlib.Core.Bool.{Bool, true, false, cond, _&&_}
 use mathlib.Core.List.{List, [], _∷_, _++_}
 use lib.Dec.{eqb}
 use lib.ListN.{getD, replicate}
@@ -10,12 +11,14 @@ use Rattle.model.specs.Sheets.{listed, runOf, marksOf}
 use Rattle.model.specs.Sums.{sum, tabulate}
 use Rattle.model.specs.Traces.{Trace, steps, touching, later, unreferenced}
 use Rattle.model.specs.Figures.{misses, volume, load, optmem, opttotal, kept, refCost}
-use Rattle.model.specs.Schedules.{held, scheduleMemory, scheduleLoad, nextKept}
+use Rattle.model.specs.Schedules.{bit, held, scheduleMemory, scheduleLoad, nextKept}
 use Rattle.model.specs.Decisions.{heldByte, heldBytes}
 use Rattle.model.specs.declared.Kind.{Kind}
 use Rattle.model.specs.declared.Kind.the-variants.{Time, Space}
-use Rattle.stores.specs.Stores.{dirty, storesOf, storesAtEnds, markedLoad, markedTotal}
-use Rattle.stores.specs.Stores.{sinceMark, storeCost, modAdded, modtotal, joined, nextMarked, modHeld, modSchedule}
+use Rattle.stores.specs.Modtotal.{sinceMark, storeCost, modAdded, modtotal, joined, nextMarked, modHeld, modSchedule}
+use Rattle.stores.specs.Stays.{all, any, everyStep, someStep, heldBefore, heldAfter, isStay, modifiesIn, isModifiedStay}
+use Rattle.stores.specs.Stays.{storesOf, markedLoad, markedTotal}
+use Rattle.stores.specs.inner.Marks.{dirty, storesAtEnds}
 
 -- a step: a touch, a touch that modifies, or none
 pub data Step : Type 0 where
@@ -88,7 +91,7 @@ same [] (y ∷ ys) = false
 same (x ∷ xs) [] = false
 same (x ∷ xs) (y ∷ ys) = eqb x y && same xs ys
 
--- every schedule of the list has its price, with the stores counted at first touches and at the ends of stays
+-- every schedule of the list has its price, with the stores counted by stays, and where stays end
 allPriced : Trace → (ℕ → Bool) → ℕ → ℕ → List Priced → Bool
 allPriced T marks h d [] = true
 allPriced T marks h d (p ∷ ps) =
@@ -188,6 +191,104 @@ table =
 pub table-holds : allHold table ≡ true
 unfolding allHold holds allPriced same firstBytes bytesOf table run entriesOf marked entryOf markOf saved interleaved warmFirst waiting
     alone allWarm mixed listed held scheduleMemory scheduleLoad misses volume load optmem opttotal sum tabulate touching later
-    unreferenced kept refCost nextKept heldByte heldBytes dirty storesOf storesAtEnds markedLoad markedTotal sinceMark storeCost
-    modAdded modtotal joined nextMarked modHeld modSchedule
+    unreferenced kept refCost nextKept heldByte heldBytes dirty storesAtEnds markedLoad markedTotal sinceMark storeCost
+    storesOf isModifiedStay isStay everyStep someStep all any heldBefore heldAfter modifiesIn modAdded modtotal joined nextMarked
+    modHeld modSchedule
 table-holds = refl
+
+-- Stays and stores by themselves, no theorem in between. Segment i is held in step n where bit i of the number for that step is 1; the
+-- first number is for step 0
+heldBy : List ℕ → ℕ → ℕ → Bool
+heldBy bytes n i = bit (getD bytes n 0) i
+
+-- the numbers below n of which f is true
+those : ℕ → (ℕ → Bool) → List ℕ
+those zero f = []
+those (suc n) f = those n f ++ cond (f n) (n ∷ []) []
+
+-- the stays of segment 0 in a record of 7 steps, 35 for that from step 3 to step 5
+staysIn : List ℕ → List ℕ
+staysIn bytes =
+    those 100 (λ k. isStay (runOf Time 0 (1 ∷ []) [] (replicate 7 9)) (heldBy bytes) 0 (k / 10) (k % 10))
+
+-- what is held in step 0, step 1 .., and the stays
+pub record Held : Type 0 where
+  pub bytes : List ℕ
+  pub stays : List ℕ
+
+abbrev has : List ℕ → List ℕ → Held
+has bytes stays = record { bytes = bytes; stays = stays }
+
+pub allFound : List Held → Bool
+allFound [] = true
+allFound (x ∷ xs) = same (staysIn (x .bytes)) (x .stays) && allFound xs
+
+pub knownStays : List Held
+knownStays =
+    -- a warm one up to step 1, one between, and one that the record ends
+    has (1 ∷ 1 ∷ 0 ∷ 1 ∷ 1 ∷ 1 ∷ 0 ∷ 1 ∷ []) (01 ∷ 35 ∷ 77 ∷ [])
+    -- never held, and always
+    ∷ has (replicate 8 0) []
+    ∷ has (replicate 8 1) (07 ∷ [])
+    -- warm and dropped at once; every other step
+    ∷ has (1 ∷ 0 ∷ 0 ∷ 0 ∷ 0 ∷ 0 ∷ 1 ∷ 1 ∷ []) (00 ∷ 67 ∷ [])
+    ∷ has (0 ∷ 1 ∷ 0 ∷ 1 ∷ 0 ∷ 1 ∷ 0 ∷ 1 ∷ []) (11 ∷ 33 ∷ 55 ∷ 77 ∷ [])
+    -- what would be held after the record does not count
+    ∷ has (replicate 10 1) (07 ∷ [])
+    ∷ has (0 ∷ 0 ∷ 0 ∷ 0 ∷ 0 ∷ 0 ∷ 0 ∷ 0 ∷ 1 ∷ []) []
+    ∷ []
+
+pub stays-found : allFound knownStays ≡ true
+unfolding allFound knownStays same staysIn those heldBy listed isStay everyStep all heldBefore heldAfter
+stays-found = refl
+
+-- the stores of a schedule of two segments, of w = 3 and w = 5, by its steps and by what is held in step 0, step 1 ..
+storedIn : List Step → List ℕ → ℕ
+storedIn ss bytes = storesOf (runOf Time 1 (2 ∷ 4 ∷ []) [] (entriesOf ss)) (marksOf (marked ss)) (heldBy bytes)
+
+-- what is computed, and what it must be
+pub record Known : Type 0 where
+  pub got : ℕ
+  pub due : ℕ
+
+abbrev is : ℕ → ℕ → Known
+is got due = record { got = got; due = due }
+
+pub allKnown : List Known → Bool
+allKnown [] = true
+allKnown (k ∷ ks) = eqb (k .got) (k .due) && allKnown ks
+
+pub knownStores : List Known
+knownStores =
+    -- two stays with a mark each; one stay with two marks
+    is (storedIn (w 0 ∷ idle ∷ w 0 ∷ []) (0 ∷ 1 ∷ 0 ∷ 1 ∷ [])) 6
+    ∷ is (storedIn (w 0 ∷ idle ∷ w 0 ∷ []) (0 ∷ 1 ∷ 1 ∷ 1 ∷ [])) 3
+    -- a stay that the record ends, with its mark in the last step and before; a stay of step 1 alone
+    ∷ is (storedIn (t 0 ∷ w 0 ∷ []) (0 ∷ 1 ∷ 1 ∷ [])) 3
+    ∷ is (storedIn (w 0 ∷ idle ∷ idle ∷ []) (0 ∷ 1 ∷ 1 ∷ 1 ∷ [])) 3
+    ∷ is (storedIn (idle ∷ w 0 ∷ []) (0 ∷ 0 ∷ 1 ∷ [])) 3
+    ∷ is (storedIn (w 0 ∷ idle ∷ []) (0 ∷ 1 ∷ 0 ∷ [])) 3
+    -- warm, held in step 1 and marked later in the same stay; warm and dropped in step 1; warm and never touched
+    ∷ is (storedIn (idle ∷ w 0 ∷ idle ∷ []) (1 ∷ 1 ∷ 1 ∷ 0 ∷ [])) 3
+    ∷ is (storedIn (w 0 ∷ []) (1 ∷ 1 ∷ [])) 3
+    ∷ is (storedIn (idle ∷ w 0 ∷ []) (1 ∷ 0 ∷ 1 ∷ [])) 3
+    ∷ is (storedIn (idle ∷ idle ∷ []) (1 ∷ 1 ∷ 1 ∷ [])) 0
+    -- a stay without a mark; one with a mark before one without, and after it
+    ∷ is (storedIn (t 0 ∷ t 0 ∷ []) (0 ∷ 1 ∷ 1 ∷ [])) 0
+    ∷ is (storedIn (w 0 ∷ idle ∷ t 0 ∷ []) (0 ∷ 1 ∷ 0 ∷ 1 ∷ [])) 3
+    ∷ is (storedIn (t 0 ∷ idle ∷ w 0 ∷ []) (0 ∷ 1 ∷ 0 ∷ 1 ∷ [])) 3
+    -- longer stays with one step between them
+    ∷ is (storedIn (w 0 ∷ idle ∷ idle ∷ w 0 ∷ w 0 ∷ []) (0 ∷ 1 ∷ 1 ∷ 0 ∷ 1 ∷ 1 ∷ [])) 6
+    -- each segment has its own stays and marks; a mark without a touch says nothing
+    ∷ is (storedIn (t 0 ∷ w 1 ∷ t 0 ∷ []) (0 ∷ 1 ∷ 3 ∷ 1 ∷ [])) 5
+    ∷ is (storedIn (w 0 ∷ w 1 ∷ w 0 ∷ w 1 ∷ []) (0 ∷ 1 ∷ 3 ∷ 3 ∷ 2 ∷ [])) 8
+    ∷ is (storedIn (t 0 ∷ w 9 ∷ []) (0 ∷ 1 ∷ 1 ∷ [])) 0
+    -- what would be held after the record does not count; a record without steps
+    ∷ is (storedIn (w 0 ∷ []) (0 ∷ 1 ∷ 1 ∷ [])) 3
+    ∷ is (storedIn [] (1 ∷ [])) 0
+    ∷ []
+
+pub stores-known : allKnown knownStores ≡ true
+unfolding allKnown knownStores storedIn heldBy entriesOf marked entryOf markOf listed sum storesOf isModifiedStay isStay everyStep
+    someStep all any heldBefore heldAfter modifiesIn
+stores-known = refl

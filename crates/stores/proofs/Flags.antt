@@ -5,7 +5,7 @@ use mathlib.Core.Path.{_≡_, refl, sym}
 use mathlib.Core.Bool.{Bool, true, false, cond, _&&_, _||_, and-false}
 use native.Mathlib.Omega.{arith}
 use Rattle.model.specs.Traces.{Trace, steps, touched}
-use Rattle.stores.specs.Stores.{dirty}
+use Rattle.stores.specs.inner.Marks.{dirty}
 use Rattle.stores.specs.inner.Flags.{modifiedFlag}
 
 -- one step of one segment: m says whether it is touched, g whether a touch modifies, b and c whether it is held before the step and in it,

@@ -19,8 +19,8 @@ use Rattle.model.proofs.Sums.{term-le}
 use Rattle.model.proofs.Decisions.{heldBytes-eq, nextDecided-eq}
 use Rattle.model.proofs.Optimal.{next-kept}
 use Rattle.model.proofs.LeastLoad.{kept-scaled}
-use Rattle.stores.specs.Stores.{markedLoad, markedTotal, excess, plus, sinceMark, sinceThrough, modtotal}
-use Rattle.stores.specs.Stores.{joins, joined, nextMarked, modHeld, modSchedule}
+use Rattle.stores.specs.Modtotal.{excess, plus, sinceMark, sinceThrough, modtotal, joins, joined, nextMarked, modHeld, modSchedule}
+use Rattle.stores.specs.Stays.{markedLoad, markedTotal}
 use Rattle.stores.proofs.LowerBound.{marked-lower-bound}
 use Rattle.stores.proofs.Nexts.{nextMarked-eq}
 use Rattle.stores.proofs.Reached.{mod-total}

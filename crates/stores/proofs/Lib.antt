@@ -8,6 +8,8 @@ pub mod LowerBound
 pub mod Nexts
 pub mod Paid
 pub mod Reached
+pub mod StayTests
+pub mod Stays
 pub mod Tight
 pub mod Unique
 pub mod Unmarked

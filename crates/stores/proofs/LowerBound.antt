@@ -9,14 +9,16 @@ use native.Mathlib.Omega.{arith}
 use Rattle.model.specs.Costs.{totalCost}
 use Rattle.model.specs.Traces.{Trace, segs, steps, touched, swapOf, unitOf, later, unreferenced}
 use Rattle.model.specs.Figures.{refCost, ofTime}
-use Rattle.model.specs.Schedules.{held, Permitted, scheduleMemory, scheduleLoad}
+use Rattle.model.specs.Schedules.{held, Permitted}
 use Rattle.model.proofs.Sums.{sum-zero}
 use Rattle.model.proofs.Touches.{unreferenced-none}
 use Rattle.model.proofs.DoubleSums.{doubleSum, double-add, double-total, overTouches-double, potential-le}
 use Rattle.model.proofs.LowerBound.{leastCost, least-later, least-within, leastAt, touchCost, touch-least, opttotal-touches}
 use Rattle.model.proofs.LowerBound.{memoryOf, loadOf}
-use Rattle.stores.specs.Stores.{modifies, dirty, storesOf, markedLoad, markedTotal}
-use Rattle.stores.specs.Stores.{plus, sinceMark, orStore, storeCost, modAdded, modtotal}
+use Rattle.stores.specs.Modtotal.{plus, sinceMark, orStore, storeCost, modAdded, modtotal}
+use Rattle.stores.specs.Stays.{modifies, markedTotal}
+use Rattle.stores.specs.inner.Marks.{dirty, storesAtMarks}
+use Rattle.stores.proofs.Stays.{total-by-marks}
 
 -- the excess after the unreferenced time o
 abbrev pub excessOf : ℕ → ℕ → ℕ → ℕ → Option ℕ → ℕ
@@ -111,9 +113,9 @@ module _ (T : Trace) (marks : ℕ → Bool) (h d : ℕ) where
     costCell t i = totalCost h d (cond (S (suc t) i && not (touched T t i)) (unitOf T i) 0) (loadCell t i)
 
     -- the total of S is d × Q and the cost of every segment in every step
-    pub total-cells : totalCost h d (memoryOf T S) (loadOf T S + storesOf T marks S)
+    pub total-cells : totalCost h d (memoryOf T S) (loadOf T S + storesAtMarks T marks S)
         ≡ d * refCost T + doubleSum (steps T) (segs T) costCell
-    unfolding storesOf
+    unfolding storesAtMarks
     total-cells =
         rw (
           overTouches-double T (λ t i. cond (S t i) 0 (swapOf T i)),
@@ -153,7 +155,7 @@ module _ (T : Trace) (marks : ℕ → Bool) (h d : ℕ) (S : ℕ → ℕ → Boo
       (S t i) (S (suc t) i) (dirty T marks S t i) (stays t i lt l) (dirty-held T marks S t i))
 
   -- the total of S is at least modtotal
-  pub lower-bound : modtotal T marks h d ≤ totalCost h d (memoryOf T S) (loadOf T S + storesOf T marks S)
+  pub lower-bound : modtotal T marks h d ≤ totalCost h d (memoryOf T S) (loadOf T S + storesAtMarks T marks S)
   lower-bound =
       omega (
         arith,
@@ -166,6 +168,7 @@ module _ (T : Trace) (marks : ℕ → Bool) (h d : ℕ) (S : ℕ → ℕ → Boo
 -- the total of a permitted schedule in bytes is at least modtotal
 pub marked-lower-bound : (T : Trace) (marks : ℕ → Bool) (h d : ℕ) (p : List ℕ) → Permitted T p → segs T ≤ 256
     → modtotal T marks h d ≤ markedTotal T marks h d p
-unfolding markedTotal markedLoad scheduleMemory scheduleLoad held
+unfolding held
 marked-lower-bound T marks h d p ok le =
-    lower-bound T marks h d (held T p) (λ i lt. refl) (λ t i lt l. ok .others-stay t i lt (omega arith))
+    rw (total-by-marks T marks h d p ok)
+    (lower-bound T marks h d (held T p) (λ i lt. refl) (λ t i lt l. ok .others-stay t i lt (omega arith)))

@@ -10,7 +10,8 @@ use Rattle.model.specs.Schedules.{nextKept}
 use Rattle.model.proofs.Touches.{touched-below, touched-beyond, entry-touched}
 use Rattle.model.proofs.Decisions.{nextDecided-beyond, nextDecided-reuse}
 use Rattle.model.proofs.Optimal.{next-kept, kept-reuse}
-use Rattle.stores.specs.Stores.{modifies, nextMarked}
+use Rattle.stores.specs.Modtotal.{nextMarked}
+use Rattle.stores.specs.Stays.{modifies}
 
 module _ (T : Trace) (h d : ℕ) where
   -- from place t on, the next touch of segment i is a kept reuse

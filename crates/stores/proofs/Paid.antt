@@ -10,7 +10,7 @@ use borrow.Author.Tests.{leb-true, leb-false}
 use Rattle.model.specs.Costs.{keeps, totalCost}
 use Rattle.model.specs.Traces.{later}
 use Rattle.model.specs.Figures.{ofTime, isReuse}
-use Rattle.stores.specs.Stores.{plus, orStore, joins}
+use Rattle.stores.specs.Modtotal.{plus, orStore, joins}
 use Rattle.stores.proofs.LowerBound.{excessOf, worth}
 
 -- the decisions at a touch after the unreferenced time o, with the excess e since the last modifying touch: whether it is a kept reuse, and

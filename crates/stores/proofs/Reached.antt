@@ -7,16 +7,19 @@ use mathlib.Core.Option.{Option, none, some}
 use native.Mathlib.Omega.{arith}
 use Rattle.model.specs.Traces.{Trace, segs, steps, touched, swapOf, unitOf, unreferenced}
 use Rattle.model.specs.Figures.{isReuse, kept}
-use Rattle.model.specs.Schedules.{held, Permitted, scheduleMemory, scheduleLoad}
+use Rattle.model.specs.Schedules.{held, Permitted}
 use Rattle.model.proofs.Sums.{sum-zero}
 use Rattle.model.proofs.Touches.{touched-below, unreferenced-none, unreferenced-touched, unreferenced-later, reuse-later}
 use Rattle.model.proofs.DoubleSums.{potential-ge}
 use Rattle.model.proofs.Decisions.{length-heldBytes, held-bytes}
-use Rattle.stores.specs.Stores.{modifies, dirty, markedLoad, markedTotal, excess, plus, sinceMark, sinceThrough, storeCost, modtotal}
-use Rattle.stores.specs.Stores.{joins, joined, nextMarked, modHeld, modSchedule}
+use Rattle.stores.specs.Modtotal.{excess, plus, sinceMark, sinceThrough, storeCost, modtotal}
+use Rattle.stores.specs.Modtotal.{joins, joined, nextMarked, modHeld, modSchedule}
+use Rattle.stores.specs.Stays.{modifies, markedTotal}
+use Rattle.stores.specs.inner.Marks.{dirty}
 use Rattle.stores.proofs.LowerBound.{modCost, modtotal-touches, costCell, total-cells, marked-lower-bound}
 use Rattle.stores.proofs.Nexts.{next, next-step, next-end, nextKept-reuse, nextMark, mark-step, mark-end}
 use Rattle.stores.proofs.Paid.{paid, one-step}
+use Rattle.stores.proofs.Stays.{total-by-marks}
 
 or-left : (a b : Bool) → a ≡ true → a || b ≡ true
 or-left a b e = rw e
@@ -141,7 +144,6 @@ module _ (T : Trace) (marks : ℕ → Bool) (h d : ℕ) where
 
   -- its total is modtotal
   pub mod-total : segs T ≤ 256 → markedTotal T marks h d (modSchedule T marks h d) ≡ modtotal T marks h d
-  unfolding markedTotal markedLoad scheduleMemory scheduleLoad
   mod-total few =
       omega (
         arith,
@@ -150,4 +152,5 @@ module _ (T : Trace) (marks : ℕ → Bool) (h d : ℕ) where
         potential-ge (steps T) (segs T) (costCell T marks h d S) (modCost T marks h d) soFar (λ t i lt l. soFar-step t i lt (omega arith)),
         sum-zero (segs T) (soFar (steps T)) (λ i l. rw (next-end T h d i, mark-end T marks (joined T marks h d) i)),
         total-cells T marks h d S,
+        total-by-marks T marks h d (modSchedule T marks h d) (mod-permitted few),
       )

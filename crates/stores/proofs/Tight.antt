@@ -12,7 +12,7 @@ use Rattle.model.specs.Traces.{later}
 use Rattle.model.specs.Figures.{isReuse}
 use Rattle.model.proofs.Touches.{reuse-later}
 use Rattle.model.proofs.LowerBound.{leastCost, least-within}
-use Rattle.stores.specs.Stores.{plus, joins}
+use Rattle.stores.specs.Modtotal.{plus, joins}
 use Rattle.stores.proofs.LowerBound.{excessOf, worth, worth-within}
 use Rattle.stores.proofs.Paid.{isKept, isJoined}
 use Rattle.stores.proofs.Reached.{or-right}

@@ -13,20 +13,22 @@ use Rattle.model.specs.Costs.{totalCost}
 use Rattle.model.specs.Sums.{sum}
 use Rattle.model.specs.Traces.{Trace, segs, steps, touched, swapOf, unitOf, later, unreferenced}
 use Rattle.model.specs.Figures.{isReuse, kept}
-use Rattle.model.specs.Schedules.{held, Permitted, scheduleMemory, scheduleLoad}
+use Rattle.model.specs.Schedules.{held, Permitted}
 use Rattle.model.proofs.Bounds.{product-within}
 use Rattle.model.proofs.Sums.{sum-zero, term-le}
 use Rattle.model.proofs.Touches.{touched-beyond, unreferenced-later}
 use Rattle.model.proofs.DoubleSums.{doubleSum, double-add, double-tight, telescope, potential-le}
 use Rattle.model.proofs.LowerBound.{leastCost, leastAt, touch-least, memoryOf, loadOf}
-use Rattle.stores.specs.Stores.{dirty, storesOf, markedLoad, markedTotal, sinceMark, sinceThrough, orStore, storeCost, modtotal}
-use Rattle.stores.specs.Stores.{joins, joined, modHeld, modSchedule}
+use Rattle.stores.specs.Modtotal.{sinceMark, sinceThrough, orStore, storeCost, modtotal, joins, joined, modHeld, modSchedule}
+use Rattle.stores.specs.Stays.{markedLoad, markedTotal}
+use Rattle.stores.specs.inner.Marks.{dirty, storesAtMarks}
 use Rattle.stores.proofs.LowerBound.{excessOf, worth, dirty-held, modCost, modtotal-touches, costCell, total-cells}
 use Rattle.stores.proofs.LowerBound.{potential, potential-start, potential-step}
 use Rattle.stores.proofs.Nexts.{next, next-step, next-end, nextKept-beyond, mark-step, mark-end, nextMarked-beyond}
 use Rattle.stores.proofs.Paid.{isKept}
 use Rattle.stores.proofs.Reached.{nextJoin, held-mod, mod-total}
 use Rattle.stores.proofs.LeastLoad.{Close, kept-same, through-scaled, joined-same, modHeld-same, schedule-same, scale, scale-big}
+use Rattle.stores.proofs.Stays.{total-by-marks}
 use Rattle.stores.proofs.Tight.{Tight, Before, After, before-step, after-step, not-true}
 
 -- in a sum that is 0 nothing positive is there
@@ -47,7 +49,7 @@ module _ (T : Trace) (marks : ℕ → Bool) (h d : ℕ) (S : ℕ → ℕ → Boo
     (starts : (i : ℕ) → i < segs T → S 0 i ≡ T .start i)
     (stays : (t i : ℕ) → t < steps T → i < segs T → touched T t i ≡ false → S (suc t) i ≡ true → S t i ≡ true)
     (holds : (t i : ℕ) → t < steps T → touched T t i ≡ true → S (suc t) i ≡ true)
-    (within : totalCost h d (memoryOf T S) (loadOf T S + storesOf T marks S) ≤ modtotal T marks h d) where
+    (within : totalCost h d (memoryOf T S) (loadOf T S + storesAtMarks T marks S) ≤ modtotal T marks h d) where
   abbrev after : ℕ → ℕ → ℕ
   after t i = modCost T marks h d t i + potential T marks h d S (suc t) i
 
@@ -197,10 +199,10 @@ module _ (T : Trace) (marks : ℕ → Bool) (h d : ℕ) (few : segs T ≤ 256) (
       below = rw (mod-total T marks h d few) total
 
   pub same-segment : (t i : ℕ) → t < steps T → i < segs T → held T p (suc t) i ≡ modHeld T marks h d t i
-  unfolding markedTotal markedLoad scheduleMemory scheduleLoad held kept joined storeCost
+  unfolding held kept joined storeCost
   same-segment t i lt l =
       same T marks (M * h + 1) (M * d) (held T p) (λ i lt. refl) (λ t i lt l. ok .others-stay t i lt (omega arith)) (ok .touched-held)
-      scaled-total i l some-units (omega arith)
+      (rw (total-by-marks T marks (M * h + 1) (M * d) p ok) at scaled-total) i l some-units (omega arith)
       (λ t lt k. strict-keep M h d (unitOf T i) (swapOf T i) (unreferenced T t i) (omega arith)
       (sym (kept-same T marks h d M (scale-big T) t i l) ∙ k))
       (λ t lt j. strict-join M h (swapOf T i) (suc t) (sinceThrough T marks h d t i) (sinceThrough T marks (M * h + 1) (M * d) t i)

@@ -9,10 +9,14 @@ use Rattle.model.specs.Traces.{Trace, segs, steps, entry, touched, touching, sw
 use Rattle.model.specs.Figures.{kept, opttotal}
 use Rattle.model.specs.Schedules.{held, scheduleLoad, nextKept, optimalSchedule}
 use Rattle.model.specs.Decisions.{nextDecided, decidedHeld, decidedSchedule}
+use Rattle.model.specs.Sums.{sum}
 use Rattle.model.proofs.Sums.{sum-zero}
 use Rattle.model.proofs.Decisions.{heldBytes-eq}
 use Rattle.model.proofs.Optimal.{next-kept, decided-optimal}
-use Rattle.stores.specs.Stores.{dirty, storesOf, markedLoad, storeCost, modAdded, modtotal, joined, nextMarked, modHeld, modSchedule}
+use Rattle.stores.specs.Modtotal.{storeCost, modAdded, modtotal, joined, nextMarked, modHeld, modSchedule}
+use Rattle.stores.specs.Stays.{storesOf, markedLoad}
+use Rattle.stores.specs.inner.Marks.{dirty, storesAtEnds}
+use Rattle.stores.proofs.Stays.{stays-ends}
 
 -- where no touch adds anything, the sum is 0
 nothing-added : (T : Trace) (f : ℕ → ℕ → ℕ) → ((t i : ℕ) → t < steps T → f t i ≡ 0) → overTouches T f ≡ 0
@@ -33,13 +37,29 @@ module _ (T : Trace) (marks : ℕ → Bool) (none : (t : ℕ) → t < steps T �
   unfolding modtotal
   unmarked-total h d = omega (arith, unmarked-added h d)
 
-  pub unmarked-load : (p : List ℕ) → markedLoad T marks p ≡ scheduleLoad T p
-  unfolding markedLoad storesOf
-  unmarked-load p =
-      omega (
+  -- no segment is modified
+  never-dirty : (S : ℕ → ℕ → Bool) (t i : ℕ) → t ≤ steps T → dirty T marks S t i ≡ false
+  unfolding dirty
+  never-dirty S zero i le = refl
+  never-dirty S (suc t) i le =
+      rw (none t le, and-false (touched T t i), never-dirty S t i (omega arith), and-false (S (suc t) i))
+
+  pub unmarked-stores : (S : ℕ → ℕ → Bool) → storesOf T marks S ≡ 0
+  unfolding storesAtEnds
+  unmarked-stores S =
+      stays-ends T marks S
+      ∙ omega (
         arith,
-        nothing-added T (λ t i. cond (marks t && not (dirty T marks (held T p) t i)) (swapOf T i) 0) (λ t i lt. rw (none t lt)),
+        sum-zero (steps T) (λ t. sum (segs T) (λ i. cond (dirty T marks S t i && not (S (suc t) i)) (swapOf T i) 0))
+            (λ t lt. sum-zero (segs T) (λ i. cond (dirty T marks S t i && not (S (suc t) i)) (swapOf T i) 0)
+            (λ i l. rw (never-dirty S t i (omega arith)))),
+        sum-zero (segs T) (λ i. cond (dirty T marks S (steps T) i) (swapOf T i) 0)
+            (λ i l. rw (never-dirty S (steps T) i (omega arith))),
       )
+
+  pub unmarked-load : (p : List ℕ) → markedLoad T marks p ≡ scheduleLoad T p
+  unfolding markedLoad
+  unmarked-load p = omega (arith, unmarked-stores (held T p))
 
   -- no next touch modifies
   next-unmarked : (f : ℕ → ℕ → Bool) (k t i : ℕ) → t + k ≤ steps T → nextMarked T marks f k t i ≡ false

@@ -8,7 +8,7 @@ use Rattle.model.specs.Sums.{sum}
 use Rattle.model.specs.Traces.{Trace, segs, steps, sizeOf, swapOf, touching}
 use Rattle.model.proofs.Bounds.{product-within, either-within}
 use Rattle.model.proofs.Loads.{touching-within}
-use Rattle.stores.specs.Stores.{orStore, sinceThrough, storeCost, modAdded}
+use Rattle.stores.specs.Modtotal.{orStore, sinceThrough, storeCost, modAdded}
 
 -- the largest w
 abbrev pub largestSwap : ℕ

@@ -8,7 +8,8 @@ use Rattle.model.specs.Traces.{Trace, steps}
 use Rattle.model.specs.Figures.{opttotal}
 use Rattle.model.specs.Schedules.{held, Permitted}
 use Rattle.model.specs.Sheets.{mostSegs}
-use Rattle.stores.specs.Stores.{markedLoad, markedTotal, storesOf, storesAtEnds, modtotal, modSchedule}
+use Rattle.stores.specs.Modtotal.{modtotal, modSchedule}
+use Rattle.stores.specs.Stays.{markedLoad, markedTotal}
 
 -- p and q hold the same segments in the steps before place t, and of the segments below i in the step at place t
 pub record SameUpTo (T : Trace) (p q : List ℕ) (t i : ℕ) : Type 0 where
@@ -16,8 +17,6 @@ pub record SameUpTo (T : Trace) (p q : List ℕ) (t i : ℕ) : Type 0 where
   pub lower : (k : ℕ) → k < i → held T p (suc t) k ≡ held T q (suc t) k
 
 pub record MarkedDemand (T : Trace) (marks : ℕ → Bool) (h d : ℕ) : Type 0 where
-  -- the stores of a permitted schedule are those at the ends of its stays, also when the record ends one
-  pub at-ends : (p : List ℕ) → Permitted T p → storesOf T marks (held T p) ≡ storesAtEnds T marks (held T p)
   -- no permitted schedule has a total below modtotal
   pub lower : (p : List ℕ) → Permitted T p → modtotal T marks h d ≤ markedTotal T marks h d p
   -- the schedule written is permitted, and its total is modtotal

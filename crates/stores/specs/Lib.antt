@@ -1,4 +1,5 @@
 pub mod Demand
+pub mod Modtotal
 pub mod Rows
-pub mod Stores
+pub mod Stays
 pub mod inner

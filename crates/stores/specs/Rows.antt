@@ -3,7 +3,8 @@
 use Prim.Native.Nat.{ℕ}
 use mathlib.Core.List.{List}
 use Rattle.model.specs.Sheets.{SheetValue, traceOf, marksOf, rowAt}
-use Rattle.stores.specs.Stores.{markedLoad, markedTotal, modtotal, modSchedule}
+use Rattle.stores.specs.Modtotal.{modtotal, modSchedule}
+use Rattle.stores.specs.Stays.{markedLoad, markedTotal}
 
 -- modtotal of row r
 abbrev pub rowModtotal : SheetValue → ℕ → ℕ

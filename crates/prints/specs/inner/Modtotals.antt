@@ -7,7 +7,7 @@ use Rattle.model.specs.Sheets.{rowIn, mostRows}
 use Rattle.model.specs.Sums.{tabulate}
 use Rattle.model.specs.Traces.{Trace}
 use Rattle.model.specs.declared.PriceRow.{PriceRow}
-use Rattle.stores.specs.Stores.{modtotal}
+use Rattle.stores.specs.Modtotal.{modtotal}
 
 -- one of the marks is set
 unfoldable pub someMark : List Bool → Bool

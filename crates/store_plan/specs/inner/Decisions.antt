@@ -10,7 +10,7 @@ use Rattle.model.specs.Figures.{kept}
 use Rattle.model.specs.Sheets.{mostSegs, mostSteps}
 use Rattle.model.specs.Traces.{Trace, segs, steps, entry}
 use Rattle.model.specs.declared.PriceRow.{PriceRow}
-use Rattle.stores.specs.Stores.{joined, nextMarked}
+use Rattle.stores.specs.Modtotal.{joined, nextMarked}
 use Rattle.stores.specs.inner.Decisions.{modKept}
 use Rattle.store_plan.specs.declared.Found.{Found}
 

@@ -13,7 +13,7 @@ use Rattle.model.specs.Traces.{Trace}
 use Rattle.model.specs.declared.Kind.{Kind}
 use Rattle.model.specs.declared.PriceRow.{PriceRow}
 use Rattle.store_plan.specs.declared.mod_pass.touching.Touched.{Touched}
-use Rattle.stores.specs.Stores.{sinceMark}
+use Rattle.stores.specs.Modtotal.{sinceMark}
 
 -- an excess or none as a number: 0 for none, else one more
 abbrev pub codeOf : Option ℕ → ℕ

@@ -4,7 +4,7 @@ use Prim.Native.Nat.{ℕ, _-_}
 use mathlib.Core.Bool.{Bool, _||_}
 use Rattle.model.specs.Traces.{Trace, steps}
 use Rattle.model.specs.Figures.{kept}
-use Rattle.stores.specs.Stores.{joined, nextMarked}
+use Rattle.stores.specs.Modtotal.{joined, nextMarked}
 
 -- a touch of segment i in the step at place t finds it held: it is a kept reuse, or the next modifying touch from there on belongs to the
 -- stay of the one before

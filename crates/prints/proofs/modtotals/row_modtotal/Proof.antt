@@ -7,7 +7,7 @@ use denote.Ref.{now}
 use borrow.Author.Needs.{needs}
 use Rattle.model.specs.Sheets.{runOf, marksOf}
 use Rattle.model.specs.Traces.{Trace}
-use Rattle.stores.specs.Stores.{modtotal}
+use Rattle.stores.specs.Modtotal.{modtotal}
 use Rattle.listing.proofs.ListingMost.{modtotal-within}
 use Rattle.prints.proofs.RowTotals.{modtotal-adds, modtotal-plain}
 use Rattle.prints.proofs.modtotals.row_modtotal.Statement.{statement}

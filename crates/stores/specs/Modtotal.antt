@@ -1,43 +1,17 @@
--- Modified segments (request F-13): what a schedule costs with stores counted, the least such total, and the schedule that has it. `marks
--- t` says that the touch in the step at place t modifies, the letter w; S t i that segment i is held in step t, counted from 1, and S 0 i
--- that it is warm. Assumes nothing.
+-- Modified segments (request F-13), the part that theorems pin, so that nothing in it needs to be believed: the least total with stores
+-- counted, by a formula, and the schedule that has it. That no permitted schedule costs less than `modtotal`, that `modSchedule` costs just
+-- that, and that it is the one which the rule for ties picks is the record `MarkedDemand` (Demand.antt), proved of every run of a sheet
+-- (`run-demand`, proofs/Demand.antt); it speaks of costs by Stays.antt alone. Assumes nothing.
 use Prim.Native.Nat.{ℕ, zero, suc, _+_, _-_, _*_, min}
-use mathlib.Core.Bool.{Bool, false, cond, not, _&&_, _||_}
+use mathlib.Core.Bool.{Bool, false, cond, _||_}
 use mathlib.Core.List.{List}
 use mathlib.Core.Option.{Option, none, some}
-use Rattle.model.specs.Costs.{keeps, totalCost}
-use Rattle.model.specs.Sums.{sum}
-use Rattle.model.specs.Traces.{Trace, steps, touched, swapOf, overTouches, overSegments}
+use Rattle.model.specs.Costs.{keeps}
+use Rattle.model.specs.Traces.{Trace, steps, touched, swapOf, overTouches}
 use Rattle.model.specs.Figures.{retentionOf, opttotal}
-use Rattle.model.specs.Schedules.{held, scheduleMemory, scheduleLoad, nextKept}
+use Rattle.model.specs.Schedules.{nextKept}
 use Rattle.model.specs.Decisions.{heldBytes}
-
--- the step at place t touches segment i and modifies it; a mark on a step without a touch says nothing
-abbrev pub modifies : Trace → (ℕ → Bool) → ℕ → ℕ → Bool
-modifies T marks t i = touched T t i && marks t
-
--- segment i is held in step t, in a stay that has had a modifying touch, in this step or before. A stay is an unbroken run of steps that
--- hold the segment, from step 0 on for a warm one held in step 1; no segment is modified before step 1
-unfoldable pub dirty : Trace → (ℕ → Bool) → (ℕ → ℕ → Bool) → ℕ → ℕ → Bool
-dirty T marks S zero i = false
-dirty T marks S (suc t) i = S (suc t) i && (modifies T marks t i || dirty T marks S t i)
-
--- the stores: w for each stay with a modifying touch, once, counted at its first modifying touch
-unfoldable pub storesOf : Trace → (ℕ → Bool) → (ℕ → ℕ → Bool) → ℕ
-storesOf T marks S = overTouches T (λ t i. cond (marks t && not (dirty T marks S t i)) (swapOf T i) 0)
-
--- the same, counted where the stay ends: the next step does not hold the segment, or the record ends
-unfoldable pub storesAtEnds : Trace → (ℕ → Bool) → (ℕ → ℕ → Bool) → ℕ
-storesAtEnds T marks S =
-    sum (steps T) (λ t. overSegments T (λ i. cond (dirty T marks S t i && not (S (suc t) i)) (swapOf T i) 0))
-    + overSegments T (λ i. cond (dirty T marks S (steps T) i) (swapOf T i) 0)
-
--- load of a schedule with stores counted, and its total
-unfoldable pub markedLoad : Trace → (ℕ → Bool) → List ℕ → ℕ
-markedLoad T marks p = scheduleLoad T p + storesOf T marks (held T p)
-
-unfoldable pub markedTotal : Trace → (ℕ → Bool) → ℕ → ℕ → List ℕ → ℕ
-markedTotal T marks h d p = totalCost h d (scheduleMemory T p) (markedLoad T marks p)
+use Rattle.stores.specs.Stays.{modifies}
 
 -- what holding a segment for its touch in the step at place t costs beyond a load: d × R − h × w, 0 where the reuse is kept anyway
 abbrev pub excess : Trace → ℕ → ℕ → ℕ → ℕ → ℕ
