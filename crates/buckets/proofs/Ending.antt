@@ -14,7 +14,7 @@ use Rattle.model.proofs.LastTouches.{last-time}
 use Rattle.model.proofs.Tables.{tabulate-eq}
 use Rattle.buckets.specs.Buckets.{bucketCount, endBucket, allEmpty, noBucket}
 use Rattle.buckets.specs.inner.Pass.{touchOf, Limited, withEnd}
-use Rattle.buckets.specs.inner.Quotients.{timeSince}
+use Rattle.buckets.specs.inner.Search.{timeSince}
 use Rattle.buckets.specs.declared.Bucket.{Bucket}
 use Rattle.buckets.specs.declared.pass.Touch.{Touch}
 use Rattle.buckets.proofs.Filling.{bucketOver, bucketsOver, buckets-start, buckets-step}

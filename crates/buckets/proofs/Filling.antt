@@ -28,10 +28,10 @@ bucketOver counts x n k =
     record {
       count = gathered counts x n k (λ y. 1);
       volume = gathered counts x n k (λ y. y .size);
-      retention = gathered counts x n k (λ y. y .retention);
-      swap = gathered counts x n k (λ y. y .swap);
-      retentionz = gathered counts x n k (λ y. y .retention * y .size);
-      swapz = gathered counts x n k (λ y. y .swap * y .size);
+      retention = gathered counts x n k (λ y. y .costs .retention .0);
+      swap = gathered counts x n k (λ y. y .costs .swap .0);
+      retentionz = gathered counts x n k (λ y. y .costs .retention .0 * y .size);
+      swapz = gathered counts x n k (λ y. y .costs .swap .0 * y .size);
     }
 
 module _ (counts : ℕ → Bool) (x : ℕ → Touch) where
@@ -134,8 +134,8 @@ within-more b m n le w = omega arith
 -- a bucket with one more touch
 touch-within : (b : Bucket) (m n : ℕ) → m + 2 ^ 48 ≤ n → Within b m → (y : Touch) → Limited y → Within (withTouch b y) n
 touch-within b m n le w y lim =
-    let r = product-within (y .retention) (y .size) (2 ^ 32) (2 ^ 16) (omega arith) (omega arith) in
-    let s = product-within (y .swap) (y .size) (2 ^ 32) (2 ^ 16) (omega arith) (omega arith) in
+    let r = product-within (y .costs .retention .0) (y .size) (2 ^ 32) (2 ^ 16) (omega arith) (omega arith) in
+    let s = product-within (y .costs .swap .0) (y .size) (2 ^ 32) (2 ^ 16) (omega arith) (omega arith) in
     record {
       count = omega arith;
       volume = omega arith;

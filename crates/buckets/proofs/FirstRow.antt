@@ -1,4 +1,4 @@
--- The first row that keeps a reuse: along ascending thresholds the rows that keep it are the last ones, so halving finds the first.
+-- The first row that keeps a reuse: along ascending thresholds the rows that keep it are the last ones.
 -- Assumes nothing.
 use Prim.Native.Nat.{ℕ, zero, suc, _+_, _-_, _*_, _/_, _≤_, _<_}
 use mathlib.Core.Path.{_≡_, refl, sym, _∙_}
@@ -15,7 +15,6 @@ use Rattle.model.proofs.Sums.{last-or-below}
 use Rattle.model.proofs.Ascent.{cross-trans}
 use Rattle.buckets.specs.FirstRow.{firstRow, lastBucket}
 use Rattle.model.specs.Sheets.{RowsWithin, rowIn}
-use Rattle.buckets.proofs.Halving.{Bracket, bracket-start, bracket-halved, halved-within}
 
 -- row k keeps a reuse of retention R and swap cost w
 abbrev pub keepsAt : List PriceRow → ℕ → ℕ → ℕ → Bool
@@ -54,45 +53,3 @@ unfolding firstRow
 first-row-none [] r R w below = refl
 first-row-none (q ∷ rows) r R w below =
     rw (below 0 (omega arith)) (first-row-none rows (suc r) R w (λ j l. below (suc j) (omega arith)))
-
-module _ (rows : List PriceRow) (R w : ℕ) where
-  -- where no row is left between the ends, they stand at the first row; beyond the rows where none keeps it
-  bracket-row : (lo : ℕ) → Bracket (keepsAt rows R w) (length rows) lo lo → lo < length rows → lo ≡ firstRow rows 0 R w
-  bracket-row lo b lt = omega (arith, first-row-found rows 0 R w lo lt (b .below) (b .above lo (omega arith) lt))
-
-  bracket-none : (lo : ℕ) → Bracket (keepsAt rows R w) (length rows) lo lo → length rows ≤ lo → lastBucket ≡ firstRow rows 0 R w
-  bracket-none lo b le = sym (first-row-none rows 0 R w (λ j l. b .below j (omega arith)))
-
--- of the rows, n from lo on are still to be looked at
-pub record Halving (rows : List PriceRow) (R w lo n : ℕ) : Type 0 where
-  pub within : lo + n ≤ length rows
-  pub bracket : RowsWithin rows → Bracket (keepsAt rows R w) (length rows) lo (lo + n)
-
-module _ (rows : List PriceRow) (R w : ℕ) where
-  pub halving-start : Halving rows R w 0 (length rows)
-  halving-start =
-      record { within = omega arith; bracket = λ up. rw (zero-add (length rows)) (bracket-start (keepsAt rows R w) (length rows)) }
-
-  -- a look at the row in the middle leaves half of them
-  pub halving-step : (lo n : ℕ) → Halving rows R w lo n → 0 < n → (next : ℕ)
-      → next ≡ cond (keepsAt rows R w (lo + (n - n / 2) - 1)) lo (lo + (n - n / 2)) → Halving rows R w next (n / 2)
-  halving-step lo n s some next is =
-      record {
-        within = halved-within lo n (n - n / 2) (n / 2) (length rows) (omega arith) (s .within)
-            (keepsAt rows R w (lo + (n - n / 2) - 1)) next is;
-        bracket = λ up.
-            bracket-halved (keepsAt rows R w) (length rows) (keeps-after rows up R w) lo n (n - n / 2) (n / 2) (omega arith)
-            (omega arith) (omega arith) (omega arith) (s .within) (s .bracket up) next is;
-      }
-
-  -- where none is left, lo is the first row; beyond the rows where none keeps it
-  pub halving-row : (lo n : ℕ) → Halving rows R w lo n → n ≤ 0 → lo < length rows → RowsWithin rows → lo ≡ firstRow rows 0 R w
-  halving-row lo n s none lt up =
-      let end : lo + n ≡ lo = omega arith in
-      bracket-row rows R w lo (rw end at (s .bracket up)) lt
-
-  pub halving-none : (lo n : ℕ) → Halving rows R w lo n → n ≤ 0 → length rows ≤ lo → RowsWithin rows
-      → lastBucket ≡ firstRow rows 0 R w
-  halving-none lo n s none le up =
-      let end : lo + n ≡ lo = omega arith in
-      bracket-none rows R w lo (rw end at (s .bracket up)) le

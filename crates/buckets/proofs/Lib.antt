@@ -1,9 +1,7 @@
 pub mod Ending
 pub mod Filling
 pub mod FirstRow
-pub mod Halving
-pub mod Looks
 pub mod Passing
-pub mod QuotedRows
-pub mod RatedSegments
+pub mod Prices
+pub mod Rounds
 pub mod Touches

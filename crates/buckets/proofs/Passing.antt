@@ -21,7 +21,7 @@ use Rattle.model.proofs.Tables.{tabulate-eq}
 use Rattle.model.specs.Sums.{tabulate}
 use Rattle.buckets.specs.Buckets.{bucketCount, bucketAfter, allEmpty, noBucket}
 use Rattle.buckets.specs.inner.Pass.{touchOf, Limited, withTouch, passedAfter}
-use Rattle.buckets.specs.inner.Quotients.{timeSince}
+use Rattle.buckets.specs.inner.Search.{timeSince}
 use Rattle.buckets.specs.declared.Bucket.{Bucket}
 use Rattle.buckets.specs.declared.pass.Touch.{Touch}
 use Rattle.buckets.specs.declared.pass.Passed.{Passed}
@@ -39,10 +39,11 @@ module _ (rows : List PriceRow) (T : Trace) where
       sym (tabulate-eq bucketCount (bucketAfter rows T n) (bucketOver (touches T) stepTouch n) (λ k l. bucketAfter-over rows T n k))
 
   -- at the start the warm segments count as touched, and nothing is in the buckets
-  pub pass-start : (warm : List ℕ) → ((i : ℕ) → T .start i ≡ listed warm i)
-      → record { buckets = allEmpty; last = startTable warm } ≡ passedAfter rows T 0
+  pub pass-start : (warm : List ℕ) → ((i : ℕ) → T .start i ≡ listed warm i) → (buckets : List Bucket) (last : List ℕ)
+      → buckets ≡ allEmpty → last ≡ startTable warm → record { buckets = buckets; last = last } ≡ passedAfter rows T 0
   unfolding passedAfter
-  pass-start warm same = rw (buckets-start (touches T) stepTouch ∙ buckets-over 0, startTable-is T warm same) refl
+  pass-start warm same buckets last empty table =
+      rw (empty, table, buckets-start (touches T) stepTouch ∙ buckets-over 0, startTable-is T warm same) refl
 
   -- what the pass has after n steps
   module _ (n : ℕ) (buckets : List Bucket) (last : List ℕ) (s : record { buckets = buckets; last = last } ≡ passedAfter rows T n) where

@@ -1,60 +1,71 @@
 -- One touch: its limits, what the mark of its segment tells, and the buckets of the definitions as those of touches.
 -- Assumes nothing.
 use Prim.Native.Nat.{ℕ, _-_, _≤_, _<_}
-use mathlib.Core.Path.{_≡_, refl}
+use mathlib.Core.Path.{_≡_, refl, ap}
 use mathlib.Core.Bool.{Bool, true, false}
 use mathlib.Core.List.{List}
 use mathlib.Core.Option.{Option}
+use native.Mathlib.Omega.{arith}
 use lib.Dec.{ltb}
 use lib.ListN.{length}
 use borrow.Author.Tests.{le-leb, lt-leb}
 use Rattle.model.specs.Costs.{retention, swapCost}
 use Rattle.model.specs.Traces.{Trace, segs, steps, entry, sizeOf, touching, unreferenced}
 use Rattle.model.specs.declared.Kind.{Kind}
+use Rattle.model.specs.declared.LoadUnits.{LoadUnits}
+use Rattle.model.specs.declared.MemoryUnits.{MemoryUnits}
 use Rattle.model.specs.declared.PriceRow.{PriceRow}
-use Rattle.model.specs.Sheets.{RowsWithin, mostSteps, largestA, largestSize}
+use Rattle.model.specs.Sheets.{mostRows}
 use Rattle.buckets.specs.Buckets.{bucketOf, filed, bucketAfter, ended, endBucket}
 use Rattle.buckets.specs.FirstRow.{lastBucket}
-use Rattle.buckets.specs.inner.Pass.{touchOf, unplaced, Limited}
-use Rattle.buckets.specs.inner.Quotients.{timeSince, IsBucket, IsPlace, Quoted, unitsFor, rateOf}
-use Rattle.buckets.proofs.RatedSegments.{place-bucket}
+use Rattle.buckets.specs.inner.Pass.{costsOf, touchOf, unplaced, Limited}
+use Rattle.buckets.specs.inner.Search.{timeSince, touchBucket, Searchable}
 use Rattle.buckets.specs.declared.pass.Touch.{Touch}
 use Rattle.buckets.proofs.Filling.{gathered, bucketOver}
 
-module _ (kind : Kind) (a z n mark w : ℕ) (swap : w ≡ swapCost a z) where
+module _ (kind : Kind) (a z n mark : ℕ) (w : LoadUnits) (swap : w .0 ≡ swapCost a z) where
   -- a segment with a mark up to step n was touched
-  pub reuse-is : mark ≤ n → (R : ℕ) → R ≡ retention kind z (n - mark)
-      → record { reuse = true; size = z; retention = R; swap = w; bucket = lastBucket } ≡ unplaced kind a z (timeSince n mark)
+  pub reuse-is : mark ≤ n → (R : MemoryUnits) → R .0 ≡ retention kind z (n - mark)
+      → record { reuse = true; size = z; costs = record { retention = R; swap = w }; bucket = lastBucket }
+      ≡ unplaced kind a z (timeSince n mark)
   unfolding unplaced
-  reuse-is le R retained = rw (le-leb mark n le, retained, swap) refl
+  reuse-is le R retained =
+      let m : R ≡ record { 0 = retention kind z (n - mark) } = ap {B = MemoryUnits} (λ k. record { 0 = k }) retained in
+      let l : w ≡ record { 0 = swapCost a z } = ap {B = LoadUnits} (λ k. record { 0 = k }) swap in
+      rw (le-leb mark n le, m, l) refl
 
   -- with a later one it was not
   pub first-is : n < mark
-      → record { reuse = false; size = z; retention = 0; swap = w; bucket = lastBucket } ≡ unplaced kind a z (timeSince n mark)
+      → record { reuse = false; size = z; costs = record { retention = record { 0 = 0 }; swap = w }; bucket = lastBucket }
+      ≡ unplaced kind a z (timeSince n mark)
   unfolding unplaced
-  first-is lt = rw (lt-leb mark n lt, swap) refl
+  first-is lt =
+      let l : w ≡ record { 0 = swapCost a z } = ap {B = LoadUnits} (λ k. record { 0 = k }) swap in
+      rw (lt-leb mark n lt, l) refl
 
 -- a touch with its bucket
 abbrev pub placed : Touch → ℕ → Touch
-placed x k = record { reuse = x .reuse; size = x .size; retention = x .retention; swap = x .swap; bucket = k }
+placed x k = record { reuse = x .reuse; size = x .size; costs = x .costs; bucket = k }
 
 pub placed-limited : (x : Touch) (k : ℕ) → Limited x → k ≤ lastBucket → Limited (placed x k)
 placed-limited x k l le =
     record { is-bucket = le; size-within = l .size-within; retention-within = l .retention-within; swap-within = l .swap-within }
 
-pub placed-is : (kind : Kind) (a : ℕ) (rows : List PriceRow) (z : ℕ) (o : Option ℕ) (x : Touch) (k : ℕ) → x ≡ unplaced kind a z o
-    → IsBucket rows (x .reuse) (x .retention) (x .swap) k → RowsWithin rows → placed x k ≡ touchOf kind a rows z o
-unfolding touchOf unplaced
-placed-is kind a rows z o x k is bucket up = rw (bucket up, is) refl
+-- its bucket can be looked for among 64 rows
+pub touch-searchable : (hs ds : List ℕ) (x : Touch) → length hs ≡ mostRows → length ds ≡ mostRows → Limited x
+    → Searchable hs ds (x .costs)
+touch-searchable hs ds x loads memories l =
+    record {
+      loads-many = loads;
+      memories-many = memories;
+      retention-within = omega (arith, l .retention-within);
+      swap-within = omega (arith, l .swap-within);
+    }
 
--- the touch with the bucket that the quotient tells
-pub touch-placed : (kind : Kind) (a : ℕ) (rows : List PriceRow) (qs : List ℕ) → Quoted (unitsFor a) rows qs → (z rate mark n : ℕ)
-    (x : Touch) (k : ℕ)
-    → a ≤ largestA → z ≤ largestSize → n ≤ mostSteps → rate ≡ rateOf kind a z → x ≡ unplaced kind a z (timeSince n mark)
-    → IsPlace qs (length rows) rate mark n k → RowsWithin rows → placed x k ≡ touchOf kind a rows z (timeSince n mark)
+pub placed-is : (kind : Kind) (a : ℕ) (rows : List PriceRow) (z : ℕ) (o : Option ℕ) (x : Touch) (k : ℕ) → x ≡ unplaced kind a z o
+    → k ≡ touchBucket rows (x .reuse) (x .costs) → placed x k ≡ touchOf kind a rows z o
 unfolding touchOf unplaced
-touch-placed kind a rows qs quoted z rate mark n x k la lz ln is touch place up =
-    rw (place-bucket kind a rows qs quoted z rate mark n k la lz ln is place up, touch) refl
+placed-is kind a rows z o x k is bucket = rw (bucket, is) refl
 
 -- the touch of segment i after t steps
 abbrev pub touchAt : List PriceRow → Trace → ℕ → ℕ → Touch

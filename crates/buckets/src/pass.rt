@@ -2,7 +2,9 @@
 // What each function gives is written in specs/; nothing is assumed.
 use crate::Bucket;
 use crate::Tally;
+use crate::search::Reuse;
 use model::Kind;
+use model::MemoryUnits;
 use model::PriceRow;
 use model::Sheet;
 ghost use mathlib.Core.Path.{_≡_};
@@ -10,15 +12,14 @@ ghost use Prim.Native.Nat.{_≤_, _^_};
 ghost use lib.ListN.{length, take};
 ghost use Rattle.model.specs.Sheets.{RowsWithin, RunWithin, runOf, mostSegs, mostRows};
 ghost use Rattle.buckets.specs.Buckets.{tallyOf, allEmpty};
-ghost use Rattle.buckets.specs.inner.Quotients.{Listed, Rated, timeSince};
+ghost use Rattle.buckets.specs.inner.Search.{timeSince};
 ghost use Rattle.buckets.specs.inner.Pass.{unplaced, Limited, withTouch, withEnd, Within, Passable, PassedOn, EndedAt};
 
-// A touch: whether it is a reuse, the segment's size, retention, swap cost, and the bucket that it goes to.
+// A touch: whether it is a reuse, the segment's size, the two costs, and the bucket that it goes to. A first touch has retention 0.
 pub struct Touch {
     pub reuse: bool,
     pub size: u16,
-    pub retention: u64,
-    pub swap: u64,
+    pub costs: Reuse,
     pub bucket: usize,
 }
 
@@ -47,22 +48,26 @@ pub fn touch_of(kind: Kind, a: u8, z: u16, mark: u16, steps: u16) -> Touch
     ensures within { λ r. ⌜ Limited r ⌝ }
     ensures exact { λ r. ⌜ r ≡ unplaced kind a z (timeSince steps mark) ⌝ }
 {
-    let w = model::swap_cost(a, z).0;
+    let w = model::swap_cost(a, z);
     if mark <= steps {
-        let r = model::retention_cost(kind, z, steps - mark).0;
+        let r = model::retention_cost(kind, z, steps - mark);
         Touch {
             reuse: true,
             size: z,
-            retention: r,
-            swap: w,
+            costs: Reuse {
+                retention: r,
+                swap: w,
+            },
             bucket: Tally::LAST,
         }
     } else {
         Touch {
             reuse: false,
             size: z,
-            retention: 0,
-            swap: w,
+            costs: Reuse {
+                retention: MemoryUnits(0),
+                swap: w,
+            },
             bucket: Tally::LAST,
         }
     }
@@ -75,13 +80,15 @@ pub fn add_touch(b: Bucket, x: Touch) -> Bucket
     ensures { λ r. ⌜ r ≡ withTouch b x ⌝ }
 {
     let z = x.size as u64;
+    let r = x.costs.retention.0;
+    let w = x.costs.swap.0;
     Bucket {
         count: b.count + 1,
         volume: b.volume + z,
-        retention: b.retention + x.retention,
-        swap: b.swap + x.swap,
-        retentionz: b.retentionz + x.retention * z,
-        swapz: b.swapz + x.swap * z,
+        retention: b.retention + r,
+        swap: b.swap + w,
+        retentionz: b.retentionz + r * z,
+        swapz: b.swapz + w * z,
     }
 }
 
@@ -99,16 +106,16 @@ pub fn references(
     kind: Kind,
     a: u8,
     rows: usize,
-    qs: &[u64],
-    rates: &[u64],
+    hs: &[u16],
+    ds: &[u16],
     sizes: &[u16],
     from: Passed,
     steps: usize,
     refs: &[u16],
 ) -> Passed
-    requires { ⌜ Listed (now qs) rows × Rated kind a (now sizes) (now rates) ⌝ }
+    requires { ⌜ (length (now hs) ≡ mostRows) × (length (now ds) ≡ mostRows) ⌝ }
     requires { ⌜ Passable from (length (now sizes)) steps (length (now refs)) ⌝ }
-    ensures { λ r. ⌜ PassedOn kind a (now (sizes .entry)) rows (now (qs .entry)) steps (now (refs .entry)) from r ⌝ }
+    ensures { λ r. ⌜ PassedOn kind a (now (sizes .entry)) rows (now (hs .entry)) (now (ds .entry)) steps (now (refs .entry)) from r ⌝ }
 {
     let mut buckets = from.buckets;
     let mut last = from.last;
@@ -118,9 +125,8 @@ pub fn references(
         let step = steps + t;
         t += 1;
         if i < sizes.len() {
-            let mark = last[i];
-            let mut x = touch_of(kind, a, sizes[i], mark, step as u16);
-            let k = crate::search::bucket_of(rows, qs, rates[i], mark, step as u16);
+            let mut x = touch_of(kind, a, sizes[i], last[i], step as u16);
+            let k = crate::search::bucket_of(rows, hs, ds, x.reuse, x.costs);
             x.bucket = k;
             let b = buckets[k];
             buckets[k] = add_touch(b, x);
@@ -138,22 +144,22 @@ pub fn ends(
     kind: Kind,
     a: u8,
     rows: usize,
-    qs: &[u64],
-    rates: &[u64],
+    hs: &[u16],
+    ds: &[u16],
     sizes: &[u16],
     last: &[u16],
     steps: u16,
 ) -> [Bucket; Tally::BUCKETS]
-    requires { ⌜ Listed (now qs) rows × Rated kind a (now sizes) (now rates) ⌝ }
+    requires { ⌜ (length (now hs) ≡ mostRows) × (length (now ds) ≡ mostRows) ⌝ }
     requires { ⌜ (length (now sizes) ≤ mostSegs) × (length (now sizes) ≤ length (now last)) ⌝ }
-    ensures { λ r. ⌜ EndedAt kind a (now (sizes .entry)) rows (now (qs .entry)) steps (now (last .entry)) r ⌝ }
+    ensures { λ r. ⌜ EndedAt kind a (now (sizes .entry)) rows (now (hs .entry)) (now (ds .entry)) steps (now (last .entry)) r ⌝ }
 {
     let mut buckets = empty_buckets();
     let mut i = 0;
     while i < sizes.len() {
         let mark = last[i];
         let mut x = touch_of(kind, a, sizes[i], mark, steps);
-        let k = crate::search::bucket_of(rows, qs, rates[i], mark, steps);
+        let k = crate::search::bucket_of(rows, hs, ds, x.reuse, x.costs);
         x.bucket = k;
         let b = buckets[k];
         buckets[k] = add_end(b, x);
@@ -175,21 +181,21 @@ pub fn tally(
     requires { ⌜ (rows ≤ mostRows) × RowsWithin (take rows prices) × RunWithin (runOf kind a (now sizes) (now warm) (now refs)) ⌝ }
     ensures { λ r. ⌜ r ≡ tallyOf (take rows prices) (runOf kind a (now (sizes .entry)) (now (warm .entry)) (now (refs .entry))) ⌝ }
 {
-    let quotients = crate::search::quotients(a, prices, rows);
-    let rates = crate::search::rates(kind, a, sizes);
-    let qs = &quotients[..Sheet::MAX_ROWS];
-    let of_segments = &rates[..Sheet::MAX_SEGS];
+    let loads = crate::search::load_prices(prices, rows);
+    let memories = crate::search::memory_prices(prices, rows);
+    let hs = &loads[..Sheet::MAX_ROWS];
+    let ds = &memories[..Sheet::MAX_ROWS];
     let empty = empty_buckets();
     let table = model::start_table(warm);
     let start = Passed {
         buckets: empty,
         last: table,
     };
-    let passed = references(kind, a, rows, qs, of_segments, sizes, start, 0, refs);
+    let passed = references(kind, a, rows, hs, ds, sizes, start, 0, refs);
     let buckets = passed.buckets;
     let last = passed.last;
     let steps = refs.len() as u16;
-    let ended = ends(kind, a, rows, qs, of_segments, sizes, &last, steps);
+    let ended = ends(kind, a, rows, hs, ds, sizes, &last, steps);
     Tally {
         buckets: buckets,
         ends: ended,

@@ -1,215 +1,156 @@
-// The first row that keeps a reuse: for loops among the quotients of the thresholds, and for a single touch by halving the rows.
+// The first row that keeps a reuse, by priced comparisons in three rounds: for the loops over references and segments and for one touch.
 // What each function gives is written in specs/; nothing is assumed.
-use model::Kind;
+use model::LoadUnits;
+use model::MemoryUnits;
 use model::PriceRow;
 use model::Sheet;
 ghost use mathlib.Core.Path.{_≡_};
 ghost use mathlib.Core.Bool.{cond};
-ghost use Prim.Native.Nat.{_+_, _-_, _*_, _≤_, _<_, _^_};
-ghost use lib.Dec.{leb};
-ghost use lib.ListN.{length, getD, take};
-ghost use Rattle.model.specs.Costs.{keeps};
-ghost use Rattle.model.specs.Sheets.{mostSegs, mostRows};
+ghost use Prim.Native.Nat.{_+_, _*_, _≤_, _<_, _^_};
+ghost use lib.ListN.{take};
+ghost use Rattle.model.specs.Sheets.{mostRows};
 ghost use Rattle.buckets.specs.FirstRow.{lastBucket};
-ghost use Rattle.buckets.specs.inner.Quotients.{IsFirstRow, IsBucket, unitsFor, quotientOf, rateOf, allPast};
-ghost use Rattle.buckets.specs.inner.Quotients.{Listed, Quoted, Rated, Looked, Found, Rest, IsPlace};
+ghost use Rattle.buckets.specs.inner.Search.{loadPrices, memoryPrices, keptAt, Searchable, Narrows, Found};
+ghost use Rattle.buckets.specs.inner.Search.{IsFirstRow, IsBucket, IsTouchBucket};
 
 // What stands for no row, and for a first touch: the bucket after those of the rows.
 pub const LAST: usize = Sheet::MAX_ROWS;
 
-// How many units a quotient of 1 has, for a weight of volume of 0 and for others. They are at least the product of an unreferenced time, a
-// swap cost and a d of a sheet, so that a reuse above a threshold has the greater quotient, though a rate and a threshold's quotient are
-// rounded down; and few enough that no quotient of a reuse has its top bit set.
-const UNITS_WEIGHTLESS: u64 = 134_217_728;
-
-const UNITS: u64 = 140_737_488_355_328;
-
-// The largest number whose top bit is clear. It is past the quotient of every reuse.
-const BELOW_TOP: u64 = 9_223_372_036_854_775_807;
-
-// `lo` where x is at most y, and else `half` places on. The test is the top bit of a sum: a branch on it would often be mispredicted.
-fn advanced(x: u64, y: u64, lo: usize, half: usize) -> usize
-    requires { ⌜ (x < 2 ^ 63) × (y < 2 ^ 63) ⌝ }
-    requires { ⌜ lo + half ≤ lastBucket ⌝ }
-    ensures { λ r. ⌜ r ≡ cond (leb x y) lo (lo + half) ⌝ }
-{
-    let exceeds = (x + BELOW_TOP - y) >> 63;
-    lo + half * (exceeds as usize)
+// The two costs of a reuse: its retention, if it is kept, and its swap cost, if it is not.
+pub struct Reuse {
+    pub retention: MemoryUnits,
+    pub swap: LoadUnits,
 }
 
-// Where the rows that keep a reuse may begin: at `lo` still where the row h/d keeps it, and else `half` rows later.
-fn narrowed(h: u16, d: u16, retention: u64, swap: u64, lo: usize, half: usize) -> usize
-    requires { ⌜ (retention < 2 ^ 40) × (swap < 2 ^ 40) ⌝ }
-    requires { ⌜ lo + half ≤ lastBucket ⌝ }
-    ensures { λ r. ⌜ r ≡ cond (keeps (d * retention) (h * swap)) lo (lo + half) ⌝ }
-{
-    advanced((d as u64) * retention, (h as u64) * swap, lo, half)
-}
-
-// The first row that keeps a reuse, found by halving the rows; the last bucket where none does.
-fn halved(prices: [PriceRow; Sheet::MAX_ROWS], rows: usize, retention: u64, swap: u64) -> usize
+// The price h of one load unit in each row; 0 beyond the last.
+pub fn load_prices(prices: [PriceRow; Sheet::MAX_ROWS], rows: usize) -> [u16; Sheet::MAX_ROWS]
     requires { ⌜ rows ≤ mostRows ⌝ }
-    requires { ⌜ (retention < 2 ^ 40) × (swap < 2 ^ 40) ⌝ }
-    ensures within { λ r. ⌜ r ≤ lastBucket ⌝ }
-    ensures exact { λ r. ⌜ IsFirstRow (take rows prices) retention swap r ⌝ }
+    ensures { λ r. ⌜ r ≡ loadPrices (take rows prices) ⌝ }
 {
-    let mut lo = 0;
-    let mut n = rows;
-    while 0 < n {
-        let rest = n / 2;
-        let half = n - rest;
-        let m = lo + half - 1;
-        let row = prices[m];
-        lo = narrowed(row.h, row.d, retention, swap, lo, half);
-        n = rest;
-    }
-    if lo < rows { lo } else { LAST }
-}
-
-// How many units a quotient of 1 has, where a is the weight of volume.
-fn units(a: u8) -> u64
-    ensures { λ r. ⌜ (r ≡ unitsFor a) × (r ≤ 2 ^ 47) ⌝ }
-{
-    if a == 0 { UNITS_WEIGHTLESS } else { UNITS }
-}
-
-// The quotient of a threshold.
-fn quotient(units: u64, h: u16, d: u16) -> u64
-    requires { ⌜ units ≤ 2 ^ 47 ⌝ }
-    ensures { λ r. ⌜ (r ≡ quotientOf units h d) × (r < 2 ^ 63) ⌝ }
-{
-    if d == 0 {
-        0
-    } else {
-        (h as u64) * units / (d as u64)
-    }
-}
-
-// The rate of a segment of size z.
-fn rate(kind: Kind, a: u8, z: u16) -> u64
-    ensures { λ r. ⌜ (r ≡ rateOf kind a z) × (r ≤ 2 ^ 47) ⌝ }
-{
-    let swap = model::swap_cost(a, z).0;
-    model::unit_cost(kind, z) * units(a) / swap
-}
-
-// 64 quotients without a row.
-fn all_past() -> [u64; Sheet::MAX_ROWS]
-    ensures { λ r. ⌜ r ≡ allPast ⌝ }
-{
-    [BELOW_TOP; Sheet::MAX_ROWS]
-}
-
-// The quotients of the thresholds, where a is the weight of volume; past every reuse's beyond the rows.
-pub fn quotients(a: u8, prices: [PriceRow; Sheet::MAX_ROWS], rows: usize) -> [u64; Sheet::MAX_ROWS]
-    requires { ⌜ rows ≤ mostRows ⌝ }
-    ensures { λ r. ⌜ Quoted (unitsFor a) (take rows prices) r × Listed r rows ⌝ }
-{
-    let units = units(a);
-    let mut out = all_past();
+    let mut out = [0u16; Sheet::MAX_ROWS];
     let mut r = 0;
     while r < rows {
         let row = prices[r];
-        out[r] = quotient(units, row.h, row.d);
+        out[r] = row.h;
         r += 1;
     }
     out
 }
 
-// The rates of segments of these sizes.
-pub fn rates(kind: Kind, a: u8, sizes: &[u16]) -> [u64; Sheet::MAX_SEGS]
-    requires { ⌜ length (now sizes) ≤ mostSegs ⌝ }
-    ensures { λ r. ⌜ Rated kind a (now (sizes .entry)) r ⌝ }
+// The price d of one memory unit in each row; 0 beyond the last.
+pub fn memory_prices(prices: [PriceRow; Sheet::MAX_ROWS], rows: usize) -> [u16; Sheet::MAX_ROWS]
+    requires { ⌜ rows ≤ mostRows ⌝ }
+    ensures { λ r. ⌜ r ≡ memoryPrices (take rows prices) ⌝ }
 {
-    let mut out = [0u64; Sheet::MAX_SEGS];
-    let mut i = 0;
-    while i < sizes.len() {
-        out[i] = rate(kind, a, sizes[i]);
-        i += 1;
+    let mut out = [0u16; Sheet::MAX_ROWS];
+    let mut r = 0;
+    while r < rows {
+        let row = prices[r];
+        out[r] = row.d;
+        r += 1;
     }
     out
 }
 
-// `lo` where x is at most the last of the `half` numbers from there on, and else the place after them.
-fn look(list: &[u64], x: u64, lo: usize, half: usize) -> usize
-    requires { ⌜ Looked (now list) × (x < 2 ^ 63) ⌝ }
-    requires { ⌜ (1 ≤ half) × (lo + half ≤ lastBucket) ⌝ }
-    ensures { λ r. ⌜ r ≡ cond (leb x (getD (now (list .entry)) (lo + half - 1) 0)) lo (lo + half) ⌝ }
+// 1 where row r does not keep a reuse, and else 0. A row beyond the last has no prices, and keeps all.
+fn unkept(hs: &[u16], ds: &[u16], reuse: Reuse, r: usize) -> usize
+    requires { ⌜ Searchable (now hs) (now ds) reuse × (r < mostRows) ⌝ }
+    ensures { λ n. ⌜ n ≡ cond (keptAt (now (hs .entry)) (now (ds .entry)) reuse r) 0 1 ⌝ }
 {
-    advanced(x, list[lo + half - 1], lo, half)
+    let memory = reuse.retention.priced(ds[r]);
+    let load = reuse.swap.priced(hs[r]);
+    if model::kept(memory, load) { 0 } else { 1 }
 }
 
-// Where x belongs among 64 rising numbers, or one of the 8 places after: three looks, or none where the first 8 numbers decide.
-fn of_eight(list: &[u64], x: u64, count: usize) -> usize
-    requires { ⌜ Looked (now list) × (x < 2 ^ 63) ⌝ }
-    requires { ⌜ Rest (now list) x count ⌝ }
-    ensures { λ r. ⌜ Found (now (list .entry)) x r 8 ⌝ }
+// One round: of 4 * s rows from `lo` on it leaves s, from how many of three rows s apart do not keep the reuse. Those come first.
+fn narrowed(hs: &[u16], ds: &[u16], reuse: Reuse, lo: usize, s: usize) -> usize
+    requires { ⌜ Searchable (now hs) (now ds) reuse × (1 ≤ s) × (lo + 4 * s ≤ mostRows) ⌝ }
+    ensures { λ r. ⌜ Narrows (now (hs .entry)) (now (ds .entry)) reuse lo (4 * s) r s ⌝ }
 {
-    if count <= 8 {
+    let first = unkept(hs, ds, reuse, lo + s - 1);
+    let second = unkept(hs, ds, reuse, lo + 2 * s - 1);
+    let third = unkept(hs, ds, reuse, lo + 3 * s - 1);
+    lo + s * (first + second + third)
+}
+
+// The last round: of four neighbours from `lo` on it leaves the first that keeps the reuse, or the row after them.
+fn settled(hs: &[u16], ds: &[u16], reuse: Reuse, lo: usize) -> usize
+    requires { ⌜ Searchable (now hs) (now ds) reuse × (lo + 4 ≤ mostRows) ⌝ }
+    ensures { λ r. ⌜ Narrows (now (hs .entry)) (now (ds .entry)) reuse lo 4 r 0 ⌝ }
+{
+    let first = unkept(hs, ds, reuse, lo);
+    let second = unkept(hs, ds, reuse, lo + 1);
+    let third = unkept(hs, ds, reuse, lo + 2);
+    let fourth = unkept(hs, ds, reuse, lo + 3);
+    lo + first + second + third + fourth
+}
+
+// The first of 16 rows among which the first is that keeps a reuse: a round, or none where there are no more than 16.
+fn of_sixteen(rows: usize, hs: &[u16], ds: &[u16], reuse: Reuse) -> usize
+    requires { ⌜ Searchable (now hs) (now ds) reuse ⌝ }
+    ensures { λ r. ⌜ Found (now (hs .entry)) (now (ds .entry)) reuse rows r 16 ⌝ }
+{
+    if rows <= 16 {
         return 0;
     }
-    let of_32 = look(list, x, 0, 32);
-    let of_16 = look(list, x, of_32, 16);
-    look(list, x, of_16, 8)
+    narrowed(hs, ds, reuse, 0, 16)
 }
 
-// Where x belongs, or the place after: at most six looks, or none where the first number decides.
-fn of_one(list: &[u64], x: u64, count: usize) -> usize
-    requires { ⌜ Looked (now list) × (x < 2 ^ 63) ⌝ }
-    requires { ⌜ Rest (now list) x count ⌝ }
-    ensures { λ r. ⌜ Found (now (list .entry)) x r 1 ⌝ }
+// The first of 4 such rows: one more round, or none where there are no more than 4.
+fn of_four(rows: usize, hs: &[u16], ds: &[u16], reuse: Reuse) -> usize
+    requires { ⌜ Searchable (now hs) (now ds) reuse ⌝ }
+    ensures { λ r. ⌜ Found (now (hs .entry)) (now (ds .entry)) reuse rows r 4 ⌝ }
 {
-    if count <= 1 {
+    if rows <= 4 {
         return 0;
     }
-    let of_8 = of_eight(list, x, count);
-    let of_4 = look(list, x, of_8, 4);
-    let of_2 = look(list, x, of_4, 2);
-    look(list, x, of_2, 1)
+    let lo = of_sixteen(rows, hs, ds, reuse);
+    narrowed(hs, ds, reuse, lo, 4)
 }
 
-// The place of the first of 64 rising numbers that is at least x, or 64. Those from `count` on are at least x.
-fn first_at_least(list: &[u64], x: u64, count: usize) -> usize
-    requires { ⌜ Looked (now list) × (x < 2 ^ 63) ⌝ }
-    requires { ⌜ Rest (now list) x count ⌝ }
-    ensures { λ r. ⌜ Found (now (list .entry)) x r 0 ⌝ }
+// The first row that keeps a reuse, or one beyond the last: one more round, or one look where there is one row.
+fn first_kept(rows: usize, hs: &[u16], ds: &[u16], reuse: Reuse) -> usize
+    requires { ⌜ Searchable (now hs) (now ds) reuse ⌝ }
+    ensures { λ r. ⌜ Found (now (hs .entry)) (now (ds .entry)) reuse rows r 0 ⌝ }
 {
-    let of_1 = of_one(list, x, count);
-    look(list, x, of_1, 1)
+    if rows <= 1 {
+        return unkept(hs, ds, reuse, 0);
+    }
+    let lo = of_four(rows, hs, ds, reuse);
+    settled(hs, ds, reuse, lo)
 }
 
-// The bucket of a single touch: that of the first row that keeps a reuse, found by halving the rows, or the last.
-pub fn bucket(
-    prices: [PriceRow; Sheet::MAX_ROWS],
-    rows: usize,
-    reuse: bool,
-    retention: u64,
-    swap: u64,
-) -> usize
-    requires { ⌜ rows ≤ mostRows ⌝ }
-    requires { ⌜ (retention < 2 ^ 40) × (swap < 2 ^ 40) ⌝ }
-    ensures within { λ r. ⌜ r ≤ lastBucket ⌝ }
-    ensures exact { λ r. ⌜ IsBucket (take rows prices) reuse retention swap r ⌝ }
+// The first row that keeps a reuse; the last bucket where none does.
+fn first_row(rows: usize, hs: &[u16], ds: &[u16], reuse: Reuse) -> usize
+    requires { ⌜ Searchable (now hs) (now ds) reuse ⌝ }
+    ensures within { λ k. ⌜ k ≤ lastBucket ⌝ }
+    ensures exact { λ k. ⌜ IsFirstRow rows (now (hs .entry)) (now (ds .entry)) reuse k ⌝ }
 {
-    if reuse {
-        halved(prices, rows, retention, swap)
+    let k = first_kept(rows, hs, ds, reuse);
+    if k < rows { k } else { LAST }
+}
+
+// The bucket of a touch or an end interval: that of the first row that keeps a reuse, and else the last.
+pub fn bucket_of(rows: usize, hs: &[u16], ds: &[u16], again: bool, reuse: Reuse) -> usize
+    requires { ⌜ Searchable (now hs) (now ds) reuse ⌝ }
+    ensures within { λ k. ⌜ k ≤ lastBucket ⌝ }
+    ensures exact { λ k. ⌜ IsBucket rows (now (hs .entry)) (now (ds .entry)) again reuse k ⌝ }
+{
+    if again {
+        first_row(rows, hs, ds, reuse)
     } else {
         LAST
     }
 }
 
-// The bucket, after so many steps, of a touch or an end interval of a segment with a rate and a mark, from the quotients of the rows:
-// at most seven looks at them, four where there are no more than 8 rows, one for one row. It is small enough for the compiler to put it
-// into a loop.
-pub(crate) fn bucket_of(rows: usize, qs: &[u64], rate: u64, mark: u16, steps: u16) -> usize
-    requires { ⌜ Listed (now qs) rows ⌝ }
-    requires { ⌜ rate ≤ 2 ^ 47 ⌝ }
-    ensures within { λ r. ⌜ r ≤ lastBucket ⌝ }
-    ensures exact { λ r. ⌜ IsPlace (now (qs .entry)) rows rate mark steps r ⌝ }
+// The bucket of a single touch.
+pub fn bucket(prices: [PriceRow; Sheet::MAX_ROWS], rows: usize, again: bool, reuse: Reuse) -> usize
+    requires { ⌜ rows ≤ mostRows ⌝ }
+    requires { ⌜ (reuse .retention .0 < 2 ^ 40) × (reuse .swap .0 < 2 ^ 40) ⌝ }
+    ensures within { λ k. ⌜ k ≤ lastBucket ⌝ }
+    ensures exact { λ k. ⌜ IsTouchBucket (take rows prices) again reuse k ⌝ }
 {
-    if steps < mark {
-        return LAST;
-    }
-    let k = first_at_least(qs, ((steps - mark) as u64) * rate, rows);
-    if k < rows { k } else { LAST }
+    let hs = load_prices(prices, rows);
+    let ds = memory_prices(prices, rows);
+    bucket_of(rows, &hs, &ds, again, reuse)
 }

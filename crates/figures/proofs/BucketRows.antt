@@ -15,7 +15,7 @@ use Rattle.model.specs.Sheets.{RowsWithin, rowIn}
 use Rattle.model.specs.declared.PriceRow.{PriceRow}
 use Rattle.buckets.specs.Buckets.{bucketCount, bucketOf}
 use Rattle.buckets.specs.FirstRow.{lastBucket, firstRow}
-use Rattle.buckets.proofs.Halving.{Lasts}
+use Rattle.buckets.specs.inner.Search.{Lasts}
 use Rattle.buckets.proofs.FirstRow.{keepsAt, keeps-after}
 
 module _ (R w : ℕ) where

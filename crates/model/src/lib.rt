@@ -22,6 +22,9 @@ pub struct MemoryUnits(pub u64);
 // An amount in load units.
 pub struct LoadUnits(pub u64);
 
+// A priced amount: memory units at the price d, or load units at the price h. Two of them can be compared.
+pub struct Priced(pub u64);
+
 // A row of a sheet: h is the price of one load unit, d that of one memory unit. Its threshold is h/d.
 pub struct PriceRow {
     pub h: u16,
@@ -344,37 +347,37 @@ pub fn retention_cost(kind: Kind, z: u16, unreferenced: u16) -> MemoryUnits
 
 impl MemoryUnits {
     // Memory at the price d of one memory unit.
-    pub fn priced(self, d: u16) -> u64
+    pub fn priced(self, d: u16) -> Priced
         requires { ⌜ self .0 < 2 ^ 47 ⌝ }
-        ensures { λ r. ⌜ r ≡ d * self .0 ⌝ }
+        ensures { λ r. ⌜ r .0 ≡ d * self .0 ⌝ }
     {
-        (d as u64) * self.0
+        Priced((d as u64) * self.0)
     }
 }
 
 impl LoadUnits {
     // Load at the price h of one load unit.
-    pub fn priced(self, h: u16) -> u64
+    pub fn priced(self, h: u16) -> Priced
         requires { ⌜ self .0 < 2 ^ 47 ⌝ }
-        ensures { λ r. ⌜ r ≡ h * self .0 ⌝ }
+        ensures { λ r. ⌜ r .0 ≡ h * self .0 ⌝ }
     {
-        (h as u64) * self.0
+        Priced((h as u64) * self.0)
     }
 }
 
 // Whether a reuse is kept: its priced retention does not exceed its priced swap cost.
-pub fn kept(priced_retention: u64, priced_swap: u64) -> bool
-    ensures { λ r. ⌜ r ≡ keeps «priced_retention» «priced_swap» ⌝ }
+pub fn kept(retention: Priced, swap: Priced) -> bool
+    ensures { λ r. ⌜ r ≡ keeps (retention .0) (swap .0) ⌝ }
 {
-    priced_retention <= priced_swap
+    retention.0 <= swap.0
 }
 
 // The margin of a reuse: its priced swap cost less its priced retention.
-pub fn margin(priced_retention: u64, priced_swap: u64) -> i64
-    requires { ⌜ («priced_retention» < 2 ^ 62) × («priced_swap» < 2 ^ 62) ⌝ }
-    ensures { λ r. ⌜ r ≡ marginOf «priced_retention» «priced_swap» ⌝ }
+pub fn margin(retention: Priced, swap: Priced) -> i64
+    requires { ⌜ (retention .0 < 2 ^ 62) × (swap .0 < 2 ^ 62) ⌝ }
+    ensures { λ r. ⌜ r ≡ marginOf (retention .0) (swap .0) ⌝ }
 {
-    (priced_swap as i64) - (priced_retention as i64)
+    (swap.0 as i64) - (retention.0 as i64)
 }
 
 // The total of an amount of memory and an amount of load at a row's prices: with the tariff's bill the one place where the two units meet.
@@ -382,5 +385,5 @@ pub fn total(row: PriceRow, memory: MemoryUnits, load: LoadUnits) -> u64
     requires { ⌜ (memory .0 < 2 ^ 47) × (load .0 < 2 ^ 47) ⌝ }
     ensures { λ r. ⌜ r ≡ totalCost (row .h) (row .d) (memory .0) (load .0) ⌝ }
 {
-    memory.priced(row.d) + load.priced(row.h)
+    memory.priced(row.d).0 + load.priced(row.h).0
 }

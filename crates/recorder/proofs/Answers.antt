@@ -57,7 +57,8 @@ begun-stands v valid =
     let T = traceOf (started v) in
     let warm = v .head .warm in
     rw (front warm (zeros mostSegs) (min (length warm) mostSegs) mostSegs (few-warm v valid) refl)
-    (recorder-passed (started v) 0 refl allEmpty (startTable warm) 0 0 (pass-start (v .head .rows) T warm (λ i. refl))
+    (recorder-passed (started v) 0 refl allEmpty (startTable warm) 0 0
+    (pass-start (v .head .rows) T warm (λ i. refl) allEmpty (startTable warm) refl refl)
     (sym (sum-none (touching T (λ t i. unitOf T i)))) (sym (sum-none (touching T (λ t i. sizeOf T i)))))
 
 pub start-stands : (v : SheetValue) → Valid v → (sheet : Sheet) → sheet ≡ sheetOf v → begun (sheet .head) ≡ recorderOf (started v)

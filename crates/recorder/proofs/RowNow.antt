@@ -13,7 +13,6 @@ use Rattle.model.specs.Traces.{sizeOf, swapOf}
 use Rattle.model.proofs.FirstTouches.{started}
 use Rattle.buckets.specs.Buckets.{bucketCount, tallyOf}
 use Rattle.buckets.specs.inner.Pass.{EndedAt}
-use Rattle.buckets.specs.inner.Quotients.{unitsFor, Quoted}
 use Rattle.figures.specs.Rows.{figuresAt}
 use Rattle.figures.specs.inner.Sweep.{summed, withStart, Tallied}
 use Rattle.figures.specs.inner.OneRow.{mostItems, Holds, RowFits, rowFrom}
@@ -26,31 +25,31 @@ use Rattle.figures.proofs.Sweeping.{SweptTo, all-fits, tallied-buckets, tallied
 use Rattle.recorder.specs.inner.Heads.{headSwaps}
 use Rattle.recorder.specs.Recorders.{recorderOf}
 use Rattle.recorder.specs.declared.Recorder.{Recorder}
-use Rattle.recorder.proofs.Standing.{front, padded-at, head-rows, few-warm}
+use Rattle.recorder.proofs.Standing.{PricedBy, front, padded-at, head-rows, few-warm}
 
 -- the end intervals are those of the sheet's tally
-ends-of : (v : SheetValue) → Valid v → (rows segs steps : ℕ) (qs : List ℕ) (b : List Bucket)
+ends-of : (v : SheetValue) → Valid v → (rows segs steps : ℕ) (hs ds : List ℕ) (b : List Bucket)
     → rows ≡ min (recorderOf v .head .rows) mostRows → segs ≡ min (recorderOf v .head .segs) mostSegs
     → steps ≡ min (recorderOf v .steps) mostSteps
-    → Quoted (unitsFor (recorderOf v .head .a)) (take rows (recorderOf v .head .prices)) qs
-    → EndedAt (recorderOf v .head .kind) (recorderOf v .head .a) (take segs (recorderOf v .head .sizes)) rows qs steps
+    → PricedBy hs ds rows (recorderOf v .head .prices)
+    → EndedAt (recorderOf v .head .kind) (recorderOf v .head .a) (take segs (recorderOf v .head .sizes)) rows hs ds steps
     (recorderOf v .last) b
     → b ≡ tallyOf (v .head .rows) (traceOf v) .ends
 unfolding recorderOf headOf
-ends-of v valid rows segs steps qs b rows-are segs-are steps-are quoted ended =
+ends-of v valid rows segs steps hs ds b rows-are segs-are steps-are priced ended =
     let all : length (v .refs) ≡ steps = omega (arith, valid .run .steps-within) in
     let sizes = front (v .head .sizes) (zeros mostSegs) segs mostSegs (valid .run .segs-within) segs-are in
-    (rw sizes at ended) (v .head .rows) (head-rows (v .head) (valid .rows) rows rows-are qs quoted) (v .head .warm) (v .refs) all
+    (rw sizes at ended) (v .head .rows) (head-rows (v .head) (valid .rows) rows rows-are hs ds priced) (v .head .warm) (v .refs) all
     (valid .run)
     (ap (lastTable (traceOf v)) all)
 
-pub ends-stand : (R : Recorder) (rows segs steps : ℕ) (qs : List ℕ) (b : List Bucket)
+pub ends-stand : (R : Recorder) (rows segs steps : ℕ) (hs ds : List ℕ) (b : List Bucket)
     → rows ≡ min (R .head .rows) mostRows → segs ≡ min (R .head .segs) mostSegs → steps ≡ min (R .steps) mostSteps
-    → Quoted (unitsFor (R .head .a)) (take rows (R .head .prices)) qs
-    → EndedAt (R .head .kind) (R .head .a) (take segs (R .head .sizes)) rows qs steps (R .last) b
+    → PricedBy hs ds rows (R .head .prices)
+    → EndedAt (R .head .kind) (R .head .a) (take segs (R .head .sizes)) rows hs ds steps (R .last) b
     → (v : SheetValue) → Valid v → R ≡ recorderOf v → b ≡ tallyOf (v .head .rows) (traceOf v) .ends
-ends-stand R rows segs steps qs b rows-are segs-are steps-are quoted ended v valid e =
-    ends-of v valid rows segs steps qs b (rw e at rows-are) (rw e at segs-are) (rw e at steps-are) (rw e at quoted) (rw e at ended)
+ends-stand R rows segs steps hs ds b rows-are segs-are steps-are priced ended v valid e =
+    ends-of v valid rows segs steps hs ds b (rw e at rows-are) (rw e at segs-are) (rw e at steps-are) (rw e at priced) (rw e at ended)
 
 -- the swap costs of the warm segments are the sheet's
 starts-of : (v : SheetValue) → Valid v → headSwaps (recorderOf v .head)

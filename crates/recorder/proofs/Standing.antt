@@ -14,12 +14,13 @@ use Rattle.model.specs.Figures.{refCost, refVolume}
 use Rattle.model.specs.Sheets.{HeadValue, SheetValue, RowsWithin, RunWithin, Valid, headRun, traceOf}
 use Rattle.model.specs.Sheets.{idle, newestForm, mostSegs, mostRows, mostSteps}
 use Rattle.model.specs.Values.{padded, zeroRows, headOf}
+use Rattle.model.specs.declared.PriceRow.{PriceRow}
 use Rattle.model.specs.declared.Refusal.the-variants.{RecorderFull}
 use Rattle.model.specs.declared.Verdict.the-variants.{Accepted, Refused}
 use Rattle.model.proofs.Lists.{getD-any}
 use Rattle.model.proofs.Warm.{warm-few}
-use Rattle.buckets.specs.inner.Pass.{Roomy, RowsOf, passedAfter, passedOf}
-use Rattle.buckets.specs.inner.Quotients.{unitsFor, Quoted}
+use Rattle.buckets.specs.inner.Pass.{Roomy, passedAfter, passedOf}
+use Rattle.buckets.specs.inner.Search.{loadPrices, memoryPrices, RowsOf}
 use Rattle.buckets.specs.declared.Bucket.{Bucket}
 use Rattle.buckets.specs.declared.pass.Passed.{Passed}
 use Rattle.figures.proofs.Limits.{buckets-roomy}
@@ -38,12 +39,19 @@ pub padded-at : {A : Type 0} (xs blank : List A) (i : ℕ) (d : A) → i < lengt
 unfolding padded
 padded-at xs blank i d lt = List·getD-append xs (drop (length xs) blank) d i lt
 
--- the rows of a head, from the quotients of those that it counts
-pub head-rows : (v : HeadValue) → RowsWithin (v .rows) → (n : ℕ) → n ≡ min (length (v .rows)) mostRows → (qs : List ℕ)
-    → Quoted (unitsFor (v .a)) (take n (padded (v .rows) (zeroRows mostRows))) qs → RowsOf (v .a) n qs (v .rows)
-head-rows v up n is qs quoted =
+-- the prices hs and ds are those of the first n rows of a list
+pub record PricedBy (hs ds : List ℕ) (n : ℕ) (prices : List PriceRow) : Type 0 where
+  pub loads : hs ≡ loadPrices (take n prices)
+  pub memories : ds ≡ memoryPrices (take n prices)
+
+-- the rows of a head, from the prices of those that it counts
+pub head-rows : (v : HeadValue) → RowsWithin (v .rows) → (n : ℕ) → n ≡ min (length (v .rows)) mostRows → (hs ds : List ℕ)
+    → PricedBy hs ds n (padded (v .rows) (zeroRows mostRows)) → RowsOf n hs ds (v .rows)
+head-rows v up n is hs ds priced =
+    let all = front (v .rows) (zeroRows mostRows) n mostRows (up .rows-within) is in
     record {
-      quoted = rw (front (v .rows) (zeroRows mostRows) n mostRows (up .rows-within) is) at quoted;
+      loads = priced .loads ∙ ap loadPrices all;
+      memories = priced .memories ∙ ap memoryPrices all;
       within = up;
       counted = omega (arith, up .rows-within);
     }

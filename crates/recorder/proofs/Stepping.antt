@@ -16,7 +16,7 @@ use Rattle.model.specs.Values.{zeros, zeroRows, headOf}
 use Rattle.model.specs.declared.Head.{Head}
 use Rattle.model.proofs.Bounds.{unit-within}
 use Rattle.buckets.specs.inner.Pass.{touchOf, Limited, Within, withTouch, PassedOn, passedAfter, passedOf}
-use Rattle.buckets.specs.inner.Quotients.{timeSince, unitsFor, Quoted}
+use Rattle.buckets.specs.inner.Search.{timeSince}
 use Rattle.buckets.specs.Buckets.{bucketCount, tallyOf, noBucket}
 use Rattle.figures.specs.inner.Sweep.{summed, Tallied}
 use Rattle.figures.specs.inner.OneRow.{byKind, Holds}
@@ -30,7 +30,7 @@ use Rattle.buckets.proofs.Passing.{pass-step, pass-idle, passed-agree}
 use Rattle.recorder.specs.inner.Passes.{Continued}
 use Rattle.recorder.specs.Recorders.{recorderOf, appended, taken, rested, withStep}
 use Rattle.recorder.specs.declared.Recorder.{Recorder}
-use Rattle.recorder.proofs.Standing.{front, padded-at, head-rows, standing, standing-roomy, taken-run, recorder-passed}
+use Rattle.recorder.proofs.Standing.{PricedBy, front, padded-at, head-rows, standing, standing-roomy, taken-run, recorder-passed}
 
 -- N is the recorder R with one more reference, to segment x: a touch, its bucket, Q and V as the code makes them
 pub record Stepped (R : Recorder) (x : ℕ) (N : Recorder) : Type 0 where
@@ -120,27 +120,27 @@ pub rested-stands : (R : Recorder) (v : SheetValue) → Valid v → R ≡ record
 rested-stands R v valid e = rw e (rested-of v valid)
 
 -- the pass goes on from what it has after a sheet
-passed-of : (v : SheetValue) (rows segs : ℕ) (qs : List ℕ) (p : Passed) (n : ℕ) (xs : List ℕ) (r : Passed)
+passed-of : (v : SheetValue) (rows segs : ℕ) (hs ds : List ℕ) (p : Passed) (n : ℕ) (xs : List ℕ) (r : Passed)
     → rows ≡ min (headOf (v .head) .rows) mostRows → segs ≡ min (headOf (v .head) .segs) mostSegs
-    → Quoted (unitsFor (headOf (v .head) .a)) (take rows (headOf (v .head) .prices)) qs
-    → PassedOn (headOf (v .head) .kind) (headOf (v .head) .a) (take segs (headOf (v .head) .sizes)) rows qs n xs p r
+    → PricedBy hs ds rows (headOf (v .head) .prices)
+    → PassedOn (headOf (v .head) .kind) (headOf (v .head) .a) (take segs (headOf (v .head) .sizes)) rows hs ds n xs p r
     → RowsWithin (v .head .rows) → RunWithin (traceOf (appended v xs)) → length (v .refs) ≡ n → p ≡ passedOf (v .head .rows) (traceOf v)
     → r ≡ passedOf (v .head .rows) (traceOf (appended v xs))
 unfolding headOf
-passed-of v rows segs qs p n xs r rows-are segs-are quoted on up run all is =
+passed-of v rows segs hs ds p n xs r rows-are segs-are priced on up run all is =
     let T = traceOf v in
     let U = withRefs T (v .refs ++ xs) in
     let sizes = front (v .head .sizes) (zeros mostSegs) segs mostSegs (run .segs-within) segs-are in
-    (rw sizes at on) (v .head .rows) (head-rows (v .head) up rows rows-are qs quoted) (v .head .warm) (v .refs) all run
+    (rw sizes at on) (v .head .rows) (head-rows (v .head) up rows rows-are hs ds priced) (v .head .warm) (v .refs) all run
     (rw (← all) (is ∙ passed-agree (v .head .rows) T (v .refs ++ xs) (length (v .refs))
     (λ t lt. List·getD-append (v .refs) xs (length (v .head .sizes)) t lt)))
 
-pub passed-on : (head : Head) (rows segs : ℕ) (qs : List ℕ) (p : Passed) (n : ℕ) (xs : List ℕ) (r : Passed)
+pub passed-on : (head : Head) (rows segs : ℕ) (hs ds : List ℕ) (p : Passed) (n : ℕ) (xs : List ℕ) (r : Passed)
     → rows ≡ min (head .rows) mostRows → segs ≡ min (head .segs) mostSegs
-    → Quoted (unitsFor (head .a)) (take rows (head .prices)) qs
-    → PassedOn (head .kind) (head .a) (take segs (head .sizes)) rows qs n xs p r → Continued head p n xs r
-passed-on head rows segs qs p n xs r rows-are segs-are quoted on v up run e =
-    passed-of v rows segs qs p n xs r (rw e at rows-are) (rw e at segs-are) (rw e at quoted) (rw e at on) up run
+    → PricedBy hs ds rows (head .prices)
+    → PassedOn (head .kind) (head .a) (take segs (head .sizes)) rows hs ds n xs p r → Continued head p n xs r
+passed-on head rows segs hs ds p n xs r rows-are segs-are priced on v up run e =
+    passed-of v rows segs hs ds p n xs r (rw e at rows-are) (rw e at segs-are) (rw e at priced) (rw e at on) up run
 
 -- several references, as the code takes them from the recorder of v: Q and V are sums of the buckets
 taken-of : (v : SheetValue) (xs : List ℕ) → RowsWithin (v .head .rows) → RunWithin (traceOf (appended v xs))

@@ -27,9 +27,9 @@ fn ends_now(recorder: Recorder) -> [Bucket; Tally::BUCKETS]
     let all_sizes = head.sizes;
     let last = recorder.last;
     let sizes = &all_sizes[..segs];
-    let quotients = buckets::search::quotients(a, prices, rows);
-    let rates = buckets::search::rates(kind, a, sizes);
-    buckets::pass::ends(kind, a, rows, &quotients, &rates, sizes, &last, steps)
+    let hs = buckets::search::load_prices(prices, rows);
+    let ds = buckets::search::memory_prices(prices, rows);
+    buckets::pass::ends(kind, a, rows, &hs, &ds, sizes, &last, steps)
 }
 
 // The figures of a row of the recorder.

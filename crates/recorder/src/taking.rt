@@ -30,7 +30,7 @@ pub fn take_one(mut recorder: Recorder, segment: usize) -> Recorder
     let z = sizes[segment];
     let t = recorder.steps;
     let mut x = buckets::pass::touch_of(kind, head.a, z, recorder.last[segment], t as u16);
-    let k = buckets::search::bucket(prices, rows, x.reuse, x.retention, x.swap);
+    let k = buckets::search::bucket(prices, rows, x.reuse, x.costs);
     x.bucket = k;
     let b = recorder.buckets[k];
     recorder.buckets[k] = crate::guards::file(b, x);
@@ -80,9 +80,9 @@ fn pass_on(head: Head, from: Passed, count: usize, refs: &[u16]) -> Passed
     let prices = head.prices;
     let all_sizes = head.sizes;
     let sizes = &all_sizes[..segs];
-    let quotients = buckets::search::quotients(a, prices, rows);
-    let rates = buckets::search::rates(kind, a, sizes);
-    buckets::pass::references(kind, a, rows, &quotients, &rates, sizes, from, count, refs)
+    let hs = buckets::search::load_prices(prices, rows);
+    let ds = buckets::search::memory_prices(prices, rows);
+    buckets::pass::references(kind, a, rows, &hs, &ds, sizes, from, count, refs)
 }
 
 // The recorder with all references. One put together by hand, whose sums leave no room, stays as it was.

@@ -10,16 +10,21 @@ use Rattle.model.specs.Costs.{swapCost, retention}
 use Rattle.model.specs.Sums.{tabulate}
 use Rattle.model.specs.Traces.{Trace, steps}
 use Rattle.model.specs.Figures.{ofTime, isReuse}
-use Rattle.model.specs.Sheets.{RowsWithin, RunWithin, runOf, mostSegs, mostSteps}
+use Rattle.model.specs.Sheets.{RunWithin, runOf, mostSegs, mostSteps}
 use Rattle.model.specs.declared.Kind.{Kind}
 use Rattle.model.specs.declared.PriceRow.{PriceRow}
 use Rattle.model.specs.LastTouches.{lastTable}
 use Rattle.buckets.specs.Buckets.{bucketCount, bucketAfter, tallyOf, noBucket}
 use Rattle.buckets.specs.FirstRow.{lastBucket, firstRow}
-use Rattle.buckets.specs.inner.Quotients.{unitsFor, Quoted}
+use Rattle.buckets.specs.inner.Search.{RowsOf}
 use Rattle.buckets.specs.declared.Bucket.{Bucket}
+use Rattle.buckets.specs.declared.search.Reuse.{Reuse}
 use Rattle.buckets.specs.declared.pass.Touch.{Touch}
 use Rattle.buckets.specs.declared.pass.Passed.{Passed}
+
+-- the costs of a touch of a segment of size z with unreferenced time o; a first touch has retention 0
+abbrev pub costsOf : Kind → ℕ → ℕ → Option ℕ → Reuse
+costsOf kind a z o = record { retention = record { 0 = ofTime (retention kind z) o }; swap = record { 0 = swapCost a z } }
 
 -- a touch of a segment of size z with unreferenced time o, or its end interval, before its bucket is looked for: with the last
 unfoldable pub unplaced : Kind → ℕ → ℕ → Option ℕ → Touch
@@ -27,8 +32,7 @@ unplaced kind a z o =
     record {
       reuse = isReuse o;
       size = z;
-      retention = ofTime (retention kind z) o;
-      swap = swapCost a z;
+      costs = costsOf kind a z o;
       bucket = lastBucket;
     }
 
@@ -38,8 +42,7 @@ touchOf kind a rows z o =
     record {
       reuse = isReuse o;
       size = z;
-      retention = ofTime (retention kind z) o;
-      swap = swapCost a z;
+      costs = costsOf kind a z o;
       bucket = cond (isReuse o) (firstRow rows 0 (ofTime (retention kind z) o) (swapCost a z)) lastBucket;
     }
 
@@ -47,8 +50,8 @@ touchOf kind a rows z o =
 pub record Limited (x : Touch) : Type 0 where
   pub is-bucket : x .bucket ≤ lastBucket
   pub size-within : x .size < 2 ^ 16
-  pub retention-within : x .retention < 2 ^ 32
-  pub swap-within : x .swap < 2 ^ 32
+  pub retention-within : x .costs .retention .0 < 2 ^ 32
+  pub swap-within : x .costs .swap .0 < 2 ^ 32
 
 -- a bucket with one more touch
 abbrev pub withTouch : Bucket → Touch → Bucket
@@ -56,10 +59,10 @@ withTouch b x =
     record {
       count = b .count + 1;
       volume = b .volume + x .size;
-      retention = b .retention + x .retention;
-      swap = b .swap + x .swap;
-      retentionz = b .retentionz + x .retention * x .size;
-      swapz = b .swapz + x .swap * x .size;
+      retention = b .retention + x .costs .retention .0;
+      swap = b .swap + x .costs .swap .0;
+      retentionz = b .retentionz + x .costs .retention .0 * x .size;
+      swapz = b .swapz + x .costs .swap .0 * x .size;
     }
 
 -- a bucket with one more end interval; a segment that never counts as touched has none
@@ -93,23 +96,17 @@ pub record Passable (p : Passed) (segs n m : ℕ) : Type 0 where
   pub few-segs : segs ≤ mostSegs
   pub few-steps : n + m ≤ mostSteps
 
--- `count` rows such as a sheet has, the quotients of which are qs
-pub record RowsOf (a count : ℕ) (qs : List ℕ) (rows : List PriceRow) : Type 0 where
-  pub quoted : Quoted (unitsFor a) rows qs
-  pub within : RowsWithin rows
-  pub counted : length rows ≡ count
-
 -- r is what the pass has after all entries of a run, where p is what it has after the first n: those `before`, which are not at hand, and
--- then refs. Of the rows only the quotients are at hand, and the warm segments are not
-abbrev pub PassedOn : Kind → ℕ → List ℕ → ℕ → List ℕ → ℕ → List ℕ → Passed → Passed → Type 0
-PassedOn kind a sizes count qs n refs p r =
-    (rows : List PriceRow) → RowsOf a count qs rows → (warm before : List ℕ) → length before ≡ n
+-- then refs. Of the rows only the prices are at hand, and the warm segments are not
+abbrev pub PassedOn : Kind → ℕ → List ℕ → ℕ → List ℕ → List ℕ → ℕ → List ℕ → Passed → Passed → Type 0
+PassedOn kind a sizes count hs ds n refs p r =
+    (rows : List PriceRow) → RowsOf count hs ds rows → (warm before : List ℕ) → length before ≡ n
     → RunWithin (runOf kind a sizes warm (before ++ refs)) → p ≡ passedAfter rows (runOf kind a sizes warm (before ++ refs)) n
     → r ≡ passedOf rows (runOf kind a sizes warm (before ++ refs))
 
 -- the buckets of the end intervals of a run with n steps, the entries and warm segments of which are not at hand, where `last` is its table
 -- of last touches
-abbrev pub EndedAt : Kind → ℕ → List ℕ → ℕ → List ℕ → ℕ → List ℕ → List Bucket → Type 0
-EndedAt kind a sizes count qs n last r =
-    (rows : List PriceRow) → RowsOf a count qs rows → (warm refs : List ℕ) → length refs ≡ n → RunWithin (runOf kind a sizes warm refs)
+abbrev pub EndedAt : Kind → ℕ → List ℕ → ℕ → List ℕ → List ℕ → ℕ → List ℕ → List Bucket → Type 0
+EndedAt kind a sizes count hs ds n last r =
+    (rows : List PriceRow) → RowsOf count hs ds rows → (warm refs : List ℕ) → length refs ≡ n → RunWithin (runOf kind a sizes warm refs)
     → last ≡ lastTable (runOf kind a sizes warm refs) n → r ≡ tallyOf rows (runOf kind a sizes warm refs) .ends

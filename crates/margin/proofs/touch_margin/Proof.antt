@@ -67,9 +67,9 @@ margin-requires : tie.Need-margin-requires
 margin-requires c κs =
     let p = c .before .before in
     let s = Begin (p .before .before .before .before) in
-    let retained : p .priced .result < 2 ^ 62 =
+    let retained : p .priced .result .0 < 2 ^ 62 =
     rw (p .priced .ensures) (priced-room (s .args .row .d) _ (omega (arith, s .good)) (retention-room (p .before))) in
-    let swapped : c .priced2 .result < 2 ^ 62 =
+    let swapped : c .priced2 .result .0 < 2 ^ 62 =
     rw (c .priced2 .ensures) (priced-room (s .args .row .h) _ (omega (arith, s .good)) (swap-room (c .before))) in
     omega arith
 

@@ -8,9 +8,12 @@ use Rattle.model.proofs.total.Tie as tie
 
 add-result : tie.Need-add-result
 add-result c =
-    let a = c .before .before .args in
+    let p = c .before .before in
+    let a = p .before .before .args in
     omega (
       arith,
+      p .before .priced .ensures,
+      p .priced2 .ensures,
       product-within (a .row .d) (a .memory .0) 65535 (2 ^ 47) (omega arith) (omega arith),
       product-within (a .row .h) (a .load .0) 65535 (2 ^ 47) (omega arith) (omega arith),
     )

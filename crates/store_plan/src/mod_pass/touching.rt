@@ -2,6 +2,7 @@
 // Nothing is assumed.
 use model::Kind;
 use model::PriceRow;
+use model::Priced;
 use model::Sheet;
 ghost use mathlib.Core.Path.{_≡_};
 ghost use Prim.Native.Nat.{_<_, _^_};
@@ -28,8 +29,8 @@ fn excess(kind: Kind, a: u8, row: PriceRow, z: u16, mark: u16, steps: u16) -> u6
     ensures { λ r. ⌜ r ≡ excessBy kind a row z mark steps ⌝ }
 {
     if mark <= steps {
-        let held = model::retention_cost(kind, z, steps - mark).priced(row.d);
-        let load = model::swap_cost(a, z).priced(row.h);
+        let held = model::retention_cost(kind, z, steps - mark).priced(row.d).0;
+        let load = model::swap_cost(a, z).priced(row.h).0;
         if load < held {
             return held - load;
         }
@@ -76,7 +77,7 @@ fn joins(store: u64, since: u64) -> bool
     if since == 0 {
         return false;
     }
-    model::kept(since - 1, store)
+    model::kept(Priced(since - 1), Priced(store))
 }
 
 // Whether a touch after so many steps, of a segment with that mark in the table of last touches, is a kept reuse: it has no excess.
@@ -104,7 +105,7 @@ pub(crate) fn touch(
     ensures { λ r. ⌜ r ≡ touchBy kind a row z mark since steps marked ⌝ }
 {
     let x = excess(kind, a, row, z, mark, steps);
-    let store = model::swap_cost(a, z).priced(row.h);
+    let store = model::swap_cost(a, z).priced(row.h).0;
     let s = plus(since, x);
     Touched {
         since: after(marked, s),

@@ -6,30 +6,26 @@ use Rattle.model.proofs.Bounds.{product-within}
 use Rattle.buckets.proofs.pass.add_touch.Statement.{statement}
 use Rattle.buckets.proofs.pass.add_touch.Tie as tie
 
-products : (c : tie.Start) → (c .args .x .retention * c .args .x .size ≤ 2 ^ 48) × (c .args .x .swap * c .args .x .size ≤ 2 ^ 48)
+products : (c : tie.Start) → (c .args .x .costs .retention .0 * c .args .x .size ≤ 2 ^ 48) × (c .args .x .costs .swap .0 * c .args .x .size ≤ 2 ^ 48)
 products c =
     let x = c .args .x in (
-      product-within (x .retention) (x .size) (2 ^ 32) (2 ^ 16) (omega arith) (omega arith),
-      product-within (x .swap) (x .size) (2 ^ 32) (2 ^ 16) (omega arith) (omega arith),
+      product-within (x .costs .retention .0) (x .size) (2 ^ 32) (2 ^ 16) (omega arith) (omega arith),
+      product-within (x .costs .swap .0) (x .size) (2 ^ 32) (2 ^ 16) (omega arith) (omega arith),
     )
 
-mul-t8 : tie.Need-mul-t8
-mul-t8 c = let s = c .before .before .before .before .before .before .before .before in omega (arith, products s)
-
-add-t9 : tie.Need-add-t9
-add-t9 c = let s = c .before .before .before .before .before .before .before .before .before in omega (arith, products s, s .pre)
-
 mul-t10 : tie.Need-mul-t10
-mul-t10 c =
-    let s = c .before .before .before .before .before .before .before .before .before .before in
-    omega (arith, products s)
+mul-t10 c = let s = c .before .before .before .before .before in omega (arith, products s)
 
 add-t11 : tie.Need-add-t11
-add-t11 c =
-    let s = c .before .before .before .before .before .before .before .before .before .before .before in
-    omega (arith, products s, s .pre)
+add-t11 c = let s = c .before .before .before .before .before .before in omega (arith, products s, s .pre)
+
+mul-t12 : tie.Need-mul-t12
+mul-t12 c = let s = c .before .before .before .before .before .before in omega (arith, products s)
+
+add-t13 : tie.Need-add-t13
+add-t13 c = let s = c .before .before .before .before .before .before .before in omega (arith, products s, s .pre)
 
 pub add-touch-spec : {M : Type 1} → statement M
 add-touch-spec =
     tie.close (tie.spec (λ c. search needs) (λ c. search needs) (λ c. search needs) (λ c. search needs)
-    (λ c. search needs) mul-t8 add-t9 mul-t10 add-t11 (λ c. search needs))
+    (λ c. search needs) mul-t10 add-t11 mul-t12 add-t13 (λ c. search needs))

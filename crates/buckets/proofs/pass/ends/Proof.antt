@@ -11,22 +11,23 @@ use Rattle.model.specs.Sheets.{RunWithin, runOf}
 use Rattle.model.specs.LastTouches.{lastTable}
 use Rattle.model.specs.declared.PriceRow.{PriceRow}
 use Rattle.buckets.specs.Buckets.{tallyOf}
-use Rattle.buckets.specs.inner.Pass.{Limited, Roomy, RowsOf}
+use Rattle.buckets.specs.inner.Pass.{Limited, Roomy}
+use Rattle.buckets.specs.inner.Search.{RowsOf}
 use Rattle.buckets.proofs.Filling.{roomy-start, roomy-end}
 use Rattle.buckets.proofs.Ending.{endsUpTo, ending-start, ending-step}
-use Rattle.buckets.proofs.Touches.{placed, placed-limited, touch-placed}
+use Rattle.buckets.proofs.Touches.{placed, placed-limited, placed-is, touch-searchable}
 use Rattle.buckets.proofs.pass.ends.Statement.{statement}
 use Rattle.buckets.proofs.pass.ends.Tie as tie
 
 abbrev Inv-loop : tie.InvT-loop
-Inv-loop kind a rows qs rates sizes last steps buckets₀ i₀ buckets i =
+Inv-loop kind a rows hs ds sizes last steps buckets₀ i₀ buckets i =
     (i ≤ length sizes) × Roomy buckets (i * 2 ^ 48)
-    × ((list : List PriceRow) → RowsOf a rows qs list → (warm refs : List ℕ) → length refs ≡ steps
+    × ((list : List PriceRow) → RowsOf rows hs ds list → (warm refs : List ℕ) → length refs ≡ steps
     → RunWithin (runOf kind a sizes warm refs)
     → last ≡ lastTable (runOf kind a sizes warm refs) steps → buckets ≡ endsUpTo list (runOf kind a sizes warm refs) i)
 
 abbrev μ-loop : tie.MeasureT-loop
-μ-loop kind a rows qs rates sizes last steps buckets₀ i₀ buckets i = length sizes - i
+μ-loop kind a rows hs ds sizes last steps buckets₀ i₀ buckets i = length sizes - i
 
 -- the function's entry, from a turn of the loop
 abbrev entry : tie.In-loop Inv-loop μ-loop → tie.Start Inv-loop μ-loop
@@ -36,32 +37,25 @@ loop-holds : tie.Need-loop-holds Inv-loop μ-loop
 loop-holds c =
     rw (c .empty-buckets .ensures) (omega arith, roomy-start, λ list of warm refs all run table. ending-start list _)
 
--- the segment has a rate
-in-rates : (c : tie.In-loop Inv-loop μ-loop) → c .before .loop .i < length (entry c .args .rates .now)
-in-rates c = omega (arith, c .loop-test .taken, entry c .pre .0 .1 .as-many)
-
-shared-slice-read-bucket-of : tie.Need-shared-slice-read-bucket-of Inv-loop μ-loop
-shared-slice-read-bucket-of c = in-rates (c .before .before .before .before)
-
 bucket-of-requires : tie.Need-bucket-of-requires Inv-loop μ-loop
 bucket-of-requires c κs =
-    let l = c .before .before .before .before in
-    let s = entry l in (s .pre .0 .0, s .pre .0 .1 .within _ (in-rates l))
+    let s = entry (c .before .before .before) in
+    touch-searchable _ _ _ (s .pre .0 .0) (s .pre .0 .1) (c .touch-of .ensures .0)
 
 -- the end interval with its bucket
-touch-limited : (c : tie.After-bucket-of Inv-loop μ-loop) → Limited (placed (c .before .before .touch-of .result) (c .bucket-of .result))
-touch-limited c = placed-limited _ _ (c .before .before .touch-of .ensures .0) (c .bucket-of .ensures .0)
+touch-limited : (c : tie.After-bucket-of Inv-loop μ-loop) → Limited (placed (c .before .touch-of .result) (c .bucket-of .result))
+touch-limited c = placed-limited _ _ (c .before .touch-of .ensures .0) (c .bucket-of .ensures .0)
 
 add-end-requires : tie.Need-add-end-requires Inv-loop μ-loop
 add-end-requires c κs =
     let d = c .before in
-    let l = d .before .before .before .before .before in
+    let l = d .before .before .before .before in
     (omega (arith, l .before .loop .inv .1 .each _ (d .bucket-of .ensures .0), l .loop-test .taken, entry l .pre .1 .0), touch-limited d)
 
 loop-again : tie.Need-loop-again Inv-loop μ-loop
 loop-again c =
     let d = c .before .before in
-    let l = d .before .before .before .before .before in
+    let l = d .before .before .before .before in
     let s = entry l in
     let here = l .loop-test .taken in
     let i = l .before .loop .i in
@@ -70,10 +64,7 @@ loop-again c =
       roomy-end _ (i * 2 ^ 48) ((i + 1) * 2 ^ 48) (omega arith) (l .before .loop .inv .1) _ lim _ (c .add-end .ensures),
       λ list of warm refs all run table.
           ending-step list _ run (s .args .steps) all _ table _ here _ (l .before .loop .inv .2 list of warm refs all run table) _ lim
-          (touch-placed _ _ _ _ (of .quoted) _ _ _ (s .args .steps) _ _ (run .a-within) (run .size-within _ here)
-          (omega (arith, all, run .steps-within))
-          (s .pre .0 .1 .of-segment _ here) (d .before .before .touch-of .ensures .1) (rw (of .counted) (d .bucket-of .ensures .1))
-          (of .within))
+          (placed-is _ _ list _ _ _ _ (d .before .touch-of .ensures .1) (d .bucket-of .ensures .1 list of))
           _ (c .add-end .ensures),
     )
 
@@ -95,8 +86,6 @@ ends-spec =
     (λ c. search needs)
     (λ c. search needs)
     (λ c κs. search needs)
-    (λ c. search needs)
-    shared-slice-read-bucket-of
     bucket-of-requires
     (λ c. search needs)
     (λ c. search needs)

@@ -9,23 +9,24 @@ use lib.ListN.{length, getD, length-append}
 use Rattle.model.specs.Sheets.{RunWithin, runOf}
 use Rattle.model.specs.Traces.{entry}
 use Rattle.model.specs.declared.PriceRow.{PriceRow}
-use Rattle.buckets.specs.inner.Pass.{Limited, Roomy, RowsOf, passedAfter}
+use Rattle.buckets.specs.inner.Pass.{Limited, Roomy, passedAfter}
+use Rattle.buckets.specs.inner.Search.{RowsOf}
 use Rattle.buckets.proofs.Filling.{roomy-touch, roomy-more}
 use Rattle.buckets.proofs.Passing.{pass-step, pass-idle, entry-on}
-use Rattle.buckets.proofs.Touches.{placed, placed-limited, touch-placed}
+use Rattle.buckets.proofs.Touches.{placed, placed-limited, placed-is, touch-searchable}
 use Rattle.buckets.proofs.pass.references.Statement.{statement}
 use Rattle.buckets.proofs.pass.references.Tie as tie
 
 abbrev Inv-loop : tie.InvT-loop
-Inv-loop kind a rows qs rates sizes steps refs buckets₀ last₀ t₀ buckets last t =
+Inv-loop kind a rows hs ds sizes steps refs buckets₀ last₀ t₀ buckets last t =
     (t ≤ length refs) × Roomy buckets (2 ^ 60 + t * 2 ^ 48)
-    × ((list : List PriceRow) → RowsOf a rows qs list → (warm before : List ℕ) → length before ≡ steps
+    × ((list : List PriceRow) → RowsOf rows hs ds list → (warm before : List ℕ) → length before ≡ steps
     → RunWithin (runOf kind a sizes warm (before ++ refs))
     → record { buckets = buckets₀; last = last₀ } ≡ passedAfter list (runOf kind a sizes warm (before ++ refs)) steps
     → record { buckets = buckets; last = last } ≡ passedAfter list (runOf kind a sizes warm (before ++ refs)) (steps + t))
 
 abbrev μ-loop : tie.MeasureT-loop
-μ-loop kind a rows qs rates sizes steps refs buckets₀ last₀ t₀ buckets last t = length refs - t
+μ-loop kind a rows hs ds sizes steps refs buckets₀ last₀ t₀ buckets last t = length refs - t
 
 -- the function's entry, from a turn of the loop
 abbrev start : tie.In-loop Inv-loop μ-loop → tie.Start Inv-loop μ-loop
@@ -39,13 +40,9 @@ loop-of c = c .before .before
 few : (c : tie.In-loop Inv-loop μ-loop) → start c .args .steps + c .before .loop .t < 2048
 few c = omega (arith, c .loop-test .taken, start c .pre .1 .few-steps)
 
--- the touched segment is among those of the table, and has a rate
+-- the touched segment is among those of the table
 in-table : (c : tie.Then1 Inv-loop μ-loop) → getD (start (loop-of c) .args .refs .now) (loop-of c .before .loop .t) 0 < 256
 in-table c = omega (arith, c .if1 .taken, start (loop-of c) .pre .1 .few-segs)
-
-in-rates : (c : tie.Then1 Inv-loop μ-loop)
-    → getD (start (loop-of c) .args .refs .now) (loop-of c .before .loop .t) 0 < length (start (loop-of c) .args .rates .now)
-in-rates c = omega (arith, c .if1 .taken, start (loop-of c) .pre .0 .1 .as-many)
 
 loop-holds : tie.Need-loop-holds Inv-loop μ-loop
 loop-holds c =
@@ -65,42 +62,33 @@ add-step c = omega (arith, few (c .before))
 add-t : tie.Need-add-t Inv-loop μ-loop
 add-t c = omega (arith, few (c .before))
 
-mul-mark : tie.Need-mul-mark Inv-loop μ-loop
-mul-mark c = omega (arith, in-table c)
-
-array-read-mark : tie.Need-array-read-mark Inv-loop μ-loop
-array-read-mark c = in-table c
-
 mul-touch-of : tie.Need-mul-touch-of Inv-loop μ-loop
 mul-touch-of c = omega (arith, in-table c)
 
 shared-slice-read-touch-of : tie.Need-shared-slice-read-touch-of Inv-loop μ-loop
 shared-slice-read-touch-of c = c .before .if1 .taken
 
+mul-touch-of-2 : tie.Need-mul-touch-of-2 Inv-loop μ-loop
+mul-touch-of-2 c = omega (arith, in-table (c .before))
+
+array-read-touch-of : tie.Need-array-read-touch-of Inv-loop μ-loop
+array-read-touch-of c = in-table (c .before)
+
 cast-touch-of : tie.Need-cast-touch-of Inv-loop μ-loop
 cast-touch-of c = omega (arith, few (loop-of (c .before)))
 
-mul-bucket-of : tie.Need-mul-bucket-of Inv-loop μ-loop
-mul-bucket-of c = omega (arith, in-table (c .before .before))
-
-shared-slice-read-bucket-of : tie.Need-shared-slice-read-bucket-of Inv-loop μ-loop
-shared-slice-read-bucket-of c = in-rates (c .before .before .before)
-
-cast-bucket-of : tie.Need-cast-bucket-of Inv-loop μ-loop
-cast-bucket-of c = omega (arith, few (loop-of (c .before .before .before)))
-
 bucket-of-requires : tie.Need-bucket-of-requires Inv-loop μ-loop
 bucket-of-requires c κs =
-    let l = c .before .before .before in
-    let s = start (loop-of l) in (s .pre .0 .0, s .pre .0 .1 .within _ (in-rates l))
+    let s = start (loop-of (c .before .before)) in
+    touch-searchable _ _ _ (s .pre .0 .0) (s .pre .0 .1) (c .touch-of .ensures .0)
 
 -- the touch with its bucket
-touch-limited : (c : tie.After-bucket-of Inv-loop μ-loop) → Limited (placed (c .before .before .touch-of .result) (c .bucket-of .result))
-touch-limited c = placed-limited _ _ (c .before .before .touch-of .ensures .0) (c .bucket-of .ensures .0)
+touch-limited : (c : tie.After-bucket-of Inv-loop μ-loop) → Limited (placed (c .before .touch-of .result) (c .bucket-of .result))
+touch-limited c = placed-limited _ _ (c .before .touch-of .ensures .0) (c .bucket-of .ensures .0)
 
 -- a turn of the loop, from the place where the bucket is found
 abbrev turn : tie.After-bucket-of Inv-loop μ-loop → tie.Then1 Inv-loop μ-loop
-turn c = c .before .before .before .before
+turn c = c .before .before .before
 
 add-touch-requires : tie.Need-add-touch-requires Inv-loop μ-loop
 add-touch-requires c κs =
@@ -150,11 +138,7 @@ loop-again c =
           rw same
           (pass-step list _ _ _ _ (l .before .loop .inv .2 list of warm before at run is) run (within l before at) _ (here l warm before at)
           (e .if1 .taken) _ lim
-          (touch-placed _ _ _ _ (of .quoted) _ _ _ (s .args .steps + t) _ _ (run .a-within) (run .size-within _ (e .if1 .taken))
-          (omega (arith, few l))
-          (s .pre .0 .1 .of-segment _ (e .if1 .taken)) (d .before .before .touch-of .ensures .1)
-          (rw (of .counted) (d .bucket-of .ensures .1))
-          (of .within))
+          (placed-is _ _ list _ _ _ _ (d .before .touch-of .ensures .1) (d .bucket-of .ensures .1 list of))
           _ (c .add-touch .ensures)),
     )
 
@@ -192,15 +176,12 @@ references-spec =
     cast-i
     add-step
     add-t
-    mul-mark
-    array-read-mark
     mul-touch-of
     shared-slice-read-touch-of
+    mul-touch-of-2
+    array-read-touch-of
     cast-touch-of
     (λ c κs. search needs)
-    mul-bucket-of
-    shared-slice-read-bucket-of
-    cast-bucket-of
     bucket-of-requires
     (λ c. search needs)
     (λ c. search needs)

@@ -1,17 +1,27 @@
 -- `buckets::search::bucket` meets its contract. Assumes nothing.
+use borrow.Author.Needs.{needs}
 use native.Mathlib.Omega.{arith}
-use mathlib.Core.Path.{refl}
+use Rattle.buckets.proofs.Prices.{prices-of}
 use Rattle.buckets.proofs.search.bucket.Statement.{statement}
 use Rattle.buckets.proofs.search.bucket.Tie as tie
 
-halved-requires : tie.Need-halved-requires
-halved-requires c κs = c .before .pre
-
 returns : tie.Need-returns
-returns c = (c .halved .ensures .0, λ up. rw (c .before .if1 .taken) (c .halved .ensures .1 up))
-
-returns-2 : tie.Need-returns-2
-returns-2 c = (omega arith, λ up. rw (c .if1 .left) refl)
+returns c =
+    let m = c .before .before .before in
+    let s = m .before .before in (
+      c .bucket-of .ensures .0,
+      λ up.
+          c .bucket-of .ensures .1 _
+          (prices-of _ _ _ _ (omega (arith, s .good, s .pre .0)) up (m .before .load-prices .ensures) (m .memory-prices .ensures)),
+    )
 
 pub bucket-spec : {M : Type 1} → statement M
-bucket-spec = tie.close (tie.spec halved-requires returns returns-2)
+bucket-spec =
+    tie.close
+    (tie.spec
+    (λ c κs. search needs)
+    (λ c κs. search needs)
+    (λ c. search needs)
+    (λ c. search needs)
+    (λ c κs. search needs)
+    returns)

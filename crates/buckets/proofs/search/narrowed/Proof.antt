@@ -1,27 +1,53 @@
--- `buckets::search::narrowed` meets its contract: both products are at most 2 ^ 56. Assumes nothing.
-use Prim.Native.Nat.{_*_, _^_, _≤_}
+-- `buckets::search::narrowed` meets its contract: three looks leave a quarter of the rows. Assumes nothing.
+use borrow.Author.Needs.{needs}
+use Prim.Native.Nat.{_+_, _-_, _*_, _≤_}
 use native.Mathlib.Omega.{arith}
-use Rattle.model.proofs.Bounds.{product-within}
+use Rattle.buckets.proofs.Rounds.{looks-few, narrows-by-three}
 use Rattle.buckets.proofs.search.narrowed.Statement.{statement}
 use Rattle.buckets.proofs.search.narrowed.Tie as tie
 
-memory-within : (c : tie.Start) → c .args .d * c .args .retention ≤ 2 ^ 56
-memory-within c = product-within (c .args .d) (c .args .retention) (2 ^ 16) (2 ^ 40) (omega arith) (omega arith)
-
-load-within : (c : tie.Start) → c .args .h * c .args .swap ≤ 2 ^ 56
-load-within c = product-within (c .args .h) (c .args .swap) (2 ^ 16) (2 ^ 40) (omega arith) (omega arith)
-
-mul-advanced : tie.Need-mul-advanced
-mul-advanced c = omega (arith, memory-within c)
-
-mul-advanced-2 : tie.Need-mul-advanced-2
-mul-advanced-2 c = omega (arith, load-within c)
-
-advanced-requires : tie.Need-advanced-requires
-advanced-requires c κs = ((omega (arith, memory-within c), omega (arith, load-within c)), c .pre .1)
-
 returns : tie.Need-returns
-returns c = c .advanced .ensures
+returns c =
+    let s = c .before .before .before .before .before in
+    narrows-by-three _ _ _ _ _ (s .pre .1) (s .pre .2) _ _ _ (c .before .before .unkept .ensures) (c .before .unkept2 .ensures)
+    (c .unkept3 .ensures)
+
+-- each look gives 0 or 1
+few : (c : tie.After-unkept3) → c .before .before .unkept .result + c .before .unkept2 .result + c .unkept3 .result ≤ 3
+few c =
+    let a = c .before .before .before .before .before .args in
+    looks-few (a .hs .now) (a .ds .now) (a .reuse) (a .lo + a .s - 1) (a .lo + 2 * a .s - 1) (a .lo + 3 * a .s - 1) _ _ _
+    (c .before .before .unkept .ensures) (c .before .unkept2 .ensures) (c .unkept3 .ensures)
+
+add-result : tie.Need-add-result
+add-result c = omega (arith, few c)
+
+add-result-2 : tie.Need-add-result-2
+add-result-2 c = omega (arith, few c)
+
+mul-result : tie.Need-mul-result
+mul-result c = omega (arith, returns c .within, c .before .before .before .before .before .pre .2)
+
+add-result-3 : tie.Need-add-result-3
+add-result-3 c = omega (arith, returns c .within, c .before .before .before .before .before .pre .2)
 
 pub narrowed-spec : {M : Type 1} → statement M
-narrowed-spec = tie.close (tie.spec mul-advanced mul-advanced-2 advanced-requires returns)
+narrowed-spec =
+    tie.close
+    (tie.spec
+    (λ c. search needs)
+    (λ c. search needs)
+    (λ c κs. search needs)
+    (λ c. search needs)
+    (λ c. search needs)
+    (λ c. search needs)
+    (λ c κs. search needs)
+    (λ c. search needs)
+    (λ c. search needs)
+    (λ c. search needs)
+    (λ c κs. search needs)
+    add-result
+    add-result-2
+    mul-result
+    add-result-3
+    returns)

@@ -19,34 +19,28 @@ array-share-prefix-all-sizes c =
 slice-aggregate-sizes : tie.Need-slice-aggregate-sizes
 slice-aggregate-sizes c = sym (length-take-le _ _ (array-share-prefix-all-sizes (c .before)))
 
-quotients-requires : tie.Need-quotients-requires
-quotients-requires c κs = omega (arith, c .before .before .before .before .before .before .least .ensures)
+load-prices-requires : tie.Need-load-prices-requires
+load-prices-requires c κs = omega (arith, c .before .before .before .before .before .before .least .ensures)
 
-rates-requires : tie.Need-rates-requires
-rates-requires c κs =
-    let z = c .before in
-    omega (arith, slice-aggregate-sizes z, z .before .before .before .before .before .least2 .ensures)
+memory-prices-requires : tie.Need-memory-prices-requires
+memory-prices-requires c κs = load-prices-requires (c .before) κs
 
 slice-aggregate-ends-3 : tie.Need-slice-aggregate-ends-3
 slice-aggregate-ends-3 c = search needs
 
 ends-requires : tie.Need-ends-requires
 ends-requires c κs =
-    let r = c .before .before .before in
-    let q = r .before in
-    let z = q .before in
-    let p = z .before .before .before in
-    let l = p .before .before in (
-      (q .quotients .ensures .1, r .rates .ensures),
-      omega (arith, slice-aggregate-sizes z, l .least2 .ensures, slice-aggregate-ends-3 c),
-    )
+    let z = c .before .before .before .before .before in
+    let l = z .before .before .before .before .before in
+    (search needs, omega (arith, slice-aggregate-sizes z, l .least2 .ensures, slice-aggregate-ends-3 c))
 
 returns : tie.Need-returns
 returns c =
-    let q = c .before .before .before .before .before in
+    let m = c .before .before .before .before in
+    let q = m .before in
     let l = q .before .before .before .before .before in
-    ends-stand _ _ _ _ _ _ (l .before .before .least .ensures) (l .before .least2 .ensures) (l .least3 .ensures)
-    (q .quotients .ensures .0) (c .ends .ensures)
+    ends-stand _ _ _ _ _ _ _ (l .before .before .least .ensures) (l .before .least2 .ensures) (l .least3 .ensures)
+    (record { loads = q .load-prices .ensures; memories = m .memory-prices .ensures }) (c .ends .ensures)
 
 pub ends-now-spec : {M : Type 1} → statement M
 ends-now-spec =
@@ -58,8 +52,8 @@ ends-now-spec =
     (λ c. search needs)
     array-share-prefix-all-sizes
     slice-aggregate-sizes
-    quotients-requires
-    rates-requires
+    load-prices-requires
+    memory-prices-requires
     (λ c. search needs)
     (λ c. search needs)
     slice-aggregate-ends-3

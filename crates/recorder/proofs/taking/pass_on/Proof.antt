@@ -4,6 +4,7 @@ use native.Mathlib.Omega.{arith}
 use borrow.Author.Needs.{needs}
 use lib.ListN.{length}
 use lib.Seq.{length-take-le}
+use Rattle.buckets.proofs.Prices.{loads-many, memories-many}
 use Rattle.recorder.proofs.Stepping.{passed-on}
 use Rattle.recorder.proofs.taking.pass_on.Statement.{statement}
 use Rattle.recorder.proofs.taking.pass_on.Tie as tie
@@ -19,23 +20,20 @@ array-share-prefix-all-sizes c =
 slice-aggregate-sizes : tie.Need-slice-aggregate-sizes
 slice-aggregate-sizes c = sym (length-take-le _ _ (array-share-prefix-all-sizes (c .before)))
 
-quotients-requires : tie.Need-quotients-requires
-quotients-requires c κs = omega (arith, c .before .before .before .before .least .ensures)
+load-prices-requires : tie.Need-load-prices-requires
+load-prices-requires c κs = omega (arith, c .before .before .before .before .least .ensures)
 
-rates-requires : tie.Need-rates-requires
-rates-requires c κs =
-    let z = c .before in
-    omega (arith, slice-aggregate-sizes z, z .before .before .before .least2 .ensures)
+memory-prices-requires : tie.Need-memory-prices-requires
+memory-prices-requires c κs = load-prices-requires (c .before) κs
 
 references-requires : tie.Need-references-requires
 references-requires c κs =
-    let r = c .before .before in
-    let q = r .before in
+    let m = c .before .before in
+    let q = m .before in
     let z = q .before in
-    let p = z .before .before in
-    let l = p .before in
+    let l = z .before .before .before in
     let s = l .before .before .before in (
-      (q .quotients .ensures .1, r .rates .ensures),
+      (loads-many _ _ (q .load-prices .ensures), memories-many _ _ (m .memory-prices .ensures)),
       record {
         roomy = s .pre .roomy;
         few-segs = omega (arith, slice-aggregate-sizes z, l .least2 .ensures);
@@ -45,9 +43,11 @@ references-requires c κs =
 
 returns : tie.Need-returns
 returns c =
-    let q = c .before .before .before .before in
+    let m = c .before .before .before in
+    let q = m .before in
     let l = q .before .before .before .before in
-    passed-on _ _ _ _ _ _ _ _ (l .before .least .ensures) (l .least2 .ensures) (q .quotients .ensures .0) (c .references .ensures)
+    passed-on _ _ _ _ _ _ _ _ _ (l .before .least .ensures) (l .least2 .ensures)
+    (record { loads = q .load-prices .ensures; memories = m .memory-prices .ensures }) (c .references .ensures)
 
 pub pass-on-spec : {M : Type 1} → statement M
 pass-on-spec =
@@ -57,8 +57,8 @@ pass-on-spec =
     (λ c κs. search needs)
     array-share-prefix-all-sizes
     slice-aggregate-sizes
-    quotients-requires
-    rates-requires
+    load-prices-requires
+    memory-prices-requires
     (λ c. search needs)
     (λ c. search needs)
     references-requires

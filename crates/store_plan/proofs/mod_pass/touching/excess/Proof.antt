@@ -28,8 +28,8 @@ returns-2 : tie.Need-returns-2
 returns-2 c =
     let s = c .before .before .before .before .before in
     let p = s .before .args in
-    let held : c .before .before .before .priced .result ≡ p .row .d * retention (p .kind) (p .z) (p .steps - p .mark) = cc in
-    let load : c .before .priced2 .result ≡ p .row .h * swapCost (p .a) (p .z) = cc in
+    let held : c .before .before .before .priced .result .0 ≡ p .row .d * retention (p .kind) (p .z) (p .steps - p .mark) = cc in
+    let load : c .before .priced2 .result .0 ≡ p .row .h * swapCost (p .a) (p .z) = cc in
     rw (le-leb (p .mark) (p .steps) (s .if1 .taken)) (omega (arith, held, load, c .if2 .left))
 
 returns-3 : tie.Need-returns-3
