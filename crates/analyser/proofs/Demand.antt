@@ -63,14 +63,14 @@ module _ (s : List ℕ) (v : SheetValue) (reads : readForms 1 3 s ≡ accepted v
   priced-at p ok = rw (← load-is p, ← total-is p) (stores-priced s v any r row p ok)
 
   -- what the schedule call answers and leaves
-  placed-at : (place : List ℕ) → 32 * length (v .refs) ≤ length place
-      → PlaceLeft (scheduleResult s r) place (rowSchedule v r ++ drop (32 * length (v .refs)) place)
-      (record { verdict = Accepted; length = 32 * length (v .refs) })
+  placed-at : (place : List ℕ) → 32 * length (v .entries) ≤ length place
+      → PlaceLeft (scheduleResult s r) place (rowSchedule v r ++ drop (32 * length (v .entries)) place)
+      (record { verdict = Accepted; length = 32 * length (v .entries) })
   unfolding scheduleResult
   placed-at place fits = rw reads (schedule-placed v r place row fits)
 
   -- the bytes at the front are the optimal schedule
-  front-is : (place : List ℕ) → 32 * length (v .refs) ≤ length place → leftSchedule s v r place ≡ rowSchedule v r
+  front-is : (place : List ℕ) → 32 * length (v .entries) ≤ length place → leftSchedule s v r place ≡ rowSchedule v r
   front-is place fits =
       rw (← placed-at place fits .place-is, ← schedule-length v r)
       (take-append-seam (rowSchedule v r) (drop (length (rowSchedule v r)) place))

@@ -47,11 +47,11 @@ module _ (s : List ℕ) (v : SheetValue) (reads : readSheet s ≡ accepted v) (r
 
   -- a place of the schedule's length
   place : List ℕ
-  place = replicate (32 * length (v .refs)) 0
+  place = replicate (32 * length (v .entries)) 0
 
-  fits : 32 * length (v .refs) ≤ length place
+  fits : 32 * length (v .entries) ≤ length place
   unfolding place
-  fits = omega (arith, length-replicate {A = ℕ} (32 * length (v .refs)) 0)
+  fits = omega (arith, length-replicate {A = ℕ} (32 * length (v .entries)) 0)
 
   -- and what the schedule call of the form writes there costs as much
   reached-row : (b : Bool) → leb 4 (v .form) ≡ b

@@ -31,7 +31,7 @@ record Stands (v : SheetValue) (R : Recorder) : Type 0 where
   stands : R ≡ recorderOf v
 
 -- the recorder does not look at the form
-form-aside : (v : SheetValue) → recorderOf (recordedOf v (v .refs)) ≡ recorderOf v
+form-aside : (v : SheetValue) → recorderOf (recordedOf v (v .entries)) ≡ recorderOf v
 unfolding recorderOf
 form-aside v = refl
 
@@ -47,7 +47,7 @@ module _ (v : SheetValue) (taken xs : List ℕ) (R N : Recorder) (before : Stand
 rested-is : (v : SheetValue) (taken : List ℕ) → rested (recordedOf v taken) ≡ recordedOf v (taken ++ (idle ∷ []))
 rested-is v taken =
     let e : max 2 (max 2 (v .form)) ≡ max 2 (v .form) = omega arith in
-    ap (λ (f : ℕ). record { form = f; head = v .head; refs = taken ++ (idle ∷ []); marks = [] }) e
+    ap (λ (f : ℕ). record { form = f; head = v .head; entries = taken ++ (idle ∷ []); marks = [] }) e
 
 -- the sheet that ends at the steps taken is of form 2 or 3
 recorded-early : (s : List ℕ) (v : SheetValue) (taken : List ℕ) → readForms 1 3 s ≡ accepted v → recordedOf v taken .form ≤ 3
@@ -132,7 +132,7 @@ handed-empty (touched-all {taken} {R} before xs r t) why e = all-empty taken R (
 handed-empty (idled {taken} {R} before r t) why e = idle-empty taken R (handed-empty before why e) r t
 
 -- the steps that were counted
-steps-of : (v : SheetValue) → recorderOf v .steps ≡ length (v .refs)
+steps-of : (v : SheetValue) → recorderOf v .steps ≡ length (v .entries)
 unfolding recorderOf
 steps-of v = refl
 
@@ -154,7 +154,7 @@ handed-recorded {s} {taken} {R} h =
     }
 
 -- so a recorder that was started on a sheet's bytes and took the sheet's own steps stands for the sheet
-pub sheet-recorded : {s : List ℕ} {R : Recorder} (v : SheetValue) → readForms 1 3 s ≡ accepted v → Handed s (v .refs) R
+pub sheet-recorded : {s : List ℕ} {R : Recorder} (v : SheetValue) → readForms 1 3 s ≡ accepted v → Handed s (v .entries) R
     → (R ≡ recorderOf v) × ((row : ℕ) (r : FiguresAnswer) → Figured R row r → r ≡ figuresOf v row)
 unfolding figuresOf
 sheet-recorded v e h = let all = handed-recorded h in (all .stands v e ∙ form-aside v, all .figures v e)

@@ -37,10 +37,10 @@ module _ (trace : List ℕ) (k : ℕ) (s text : List ℕ) (v : SheetValue) (read
   valid-import : Valid (importedValue trace k v)
   valid-import = imported-valid k trace (v .head .rows) (importedValue trace k v) (both .0) rows-within
 
-  counted : length (importedValue trace k v .refs) ≡ lineCount (linesOf trace)
+  counted : length (importedValue trace k v .entries) ≡ lineCount (linesOf trace)
   counted = imported-refs k trace (v .head .rows) (importedValue trace k v) (both .0)
 
-  inside : {t : ℕ} → t < lineCount (linesOf trace) → t < length (importedValue trace k v .refs)
+  inside : {t : ℕ} → t < lineCount (linesOf trace) → t < length (importedValue trace k v .entries)
   inside lt = rw counted lt
 
   pub imported-from-bytes : ImportedFromBytes trace k v text

@@ -34,18 +34,18 @@ module _ (s : List ℕ) (v : SheetValue) (reads : readForms 4 4 s ≡ accepted v
 
   demand : MarkedDemand (traceOf v) (marksOf (v .marks)) (rowAt v r .h) (rowAt v r .d)
   demand =
-      run-demand (v .head .kind) (v .head .a) (v .head .sizes) (v .head .warm) (v .refs) (marksOf (v .marks)) (rowAt v r .h) (rowAt v r .d)
+      run-demand (v .head .kind) (v .head .a) (v .head .sizes) (v .head .warm) (v .entries) (marksOf (v .marks)) (rowAt v r .h) (rowAt v r .d)
       (valid .run) (valid .warm) (valid .rows .some-d r row)
 
   -- what the schedule call answers and leaves
-  placed-at : (place : List ℕ) → 32 * length (v .refs) ≤ length place
-      → PlaceLeft (modifiedResult s r) place (rowModSchedule v r ++ drop (32 * length (v .refs)) place)
-      (record { verdict = Accepted; length = 32 * length (v .refs) })
+  placed-at : (place : List ℕ) → 32 * length (v .entries) ≤ length place
+      → PlaceLeft (modifiedResult s r) place (rowModSchedule v r ++ drop (32 * length (v .entries)) place)
+      (record { verdict = Accepted; length = 32 * length (v .entries) })
   unfolding modifiedResult
   placed-at place fits = rw reads (modified-placed v r place row fits)
 
   -- the bytes at the front are the schedule of the least total
-  front-is : (place : List ℕ) → 32 * length (v .refs) ≤ length place → leftModified s v r place ≡ rowModSchedule v r
+  front-is : (place : List ℕ) → 32 * length (v .entries) ≤ length place → leftModified s v r place ≡ rowModSchedule v r
   front-is place fits =
       rw (← placed-at place fits .place-is, ← modified-length v r)
       (take-append-seam (rowModSchedule v r) (drop (length (rowModSchedule v r)) place))

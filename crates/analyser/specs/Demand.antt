@@ -18,7 +18,7 @@ priceOf memory load total = record { verdict = Accepted; memory = record { 0 = m
 
 -- the bytes that the schedule call leaves at the front of a place: 32 for each step
 abbrev pub leftSchedule : List ℕ → SheetValue → ℕ → List ℕ → List ℕ
-leftSchedule s v r place = take (32 * length (v .refs)) (placeFor (scheduleResult s r) place)
+leftSchedule s v r place = take (32 * length (v .entries)) (placeFor (scheduleResult s r) place)
 
 -- a schedule that is permitted and has exactly the optimum's cost, load and memory, also when the pricing call is asked
 pub record HasOptimum (s : List ℕ) (v : SheetValue) (r : ℕ) (p : List ℕ) : Type 0 where
@@ -39,13 +39,13 @@ pub record Demand3FromBytes (s : List ℕ) (v : SheetValue) (r : ℕ) : Type 0 w
   -- any permitted schedule of that cost has at least that load
   pub least : (p : List ℕ) → Permitted (traceOf v) p → rowTotal v r p ≡ rowOpttotal v r → rowLoad v r ≤ scheduleLoad (traceOf v) p
   -- the schedule call accepts every place that is long enough, whatever stands there
-  pub schedule-accepted : (place : List ℕ) → 32 * length (v .refs) ≤ length place
-      → answerFor (scheduleResult s r) place ≡ record { verdict = Accepted; length = 32 * length (v .refs) }
+  pub schedule-accepted : (place : List ℕ) → 32 * length (v .entries) ≤ length place
+      → answerFor (scheduleResult s r) place ≡ record { verdict = Accepted; length = 32 * length (v .entries) }
   -- the bytes that it leaves at the front are a permitted schedule of exactly that cost, load and memory
-  pub written : (place : List ℕ) → 32 * length (v .refs) ≤ length place → HasOptimum s v r (leftSchedule s v r place)
+  pub written : (place : List ℕ) → 32 * length (v .entries) ≤ length place → HasOptimum s v r (leftSchedule s v r place)
   -- they are those of the definition, and what stood beyond them stays
-  pub left : (place : List ℕ) → 32 * length (v .refs) ≤ length place
-      → placeFor (scheduleResult s r) place ≡ rowSchedule v r ++ drop (32 * length (v .refs)) place
+  pub left : (place : List ℕ) → 32 * length (v .entries) ≤ length place
+      → placeFor (scheduleResult s r) place ≡ rowSchedule v r ++ drop (32 * length (v .entries)) place
   -- and the pricing call gives each permitted schedule its cost
   pub priced : (p : List ℕ) → Permitted (traceOf v) p
       → pricing s r p ≡ priceOf (scheduleMemory (traceOf v) p) (scheduleLoad (traceOf v) p) (rowTotal v r p)

@@ -30,7 +30,7 @@ importedValue trace k v = sheetOfPages (pagesIn k trace) (v .head .rows)
 
 -- the segment that the line at place t touches
 abbrev pub importedSegment : List ℕ → ℕ → SheetValue → ℕ → ℕ
-importedSegment trace k v t = getD (importedValue trace k v .refs) t 0
+importedSegment trace k v t = getD (importedValue trace k v .entries) t 0
 
 -- what holds of the text that the call gives for a trace, with the rows of a run of bytes that reads as v
 pub record ImportedFromBytes (trace : List ℕ) (k : ℕ) (v : SheetValue) (text : List ℕ) : Type 0 where
@@ -40,7 +40,7 @@ pub record ImportedFromBytes (trace : List ℕ) (k : ℕ) (v : SheetValue) (text
   pub valid : Valid (importedValue trace k v)
   pub within : length text ≤ formBytes 1
   -- there is one reference for each line
-  pub refs-counted : length (importedValue trace k v .refs) ≡ lineCount (linesOf trace)
+  pub refs-counted : length (importedValue trace k v .entries) ≡ lineCount (linesOf trace)
   -- two lines touch the same segment exactly where their addresses lie in one page
   pub same-segment : (t u : ℕ) → t < lineCount (linesOf trace) → u < lineCount (linesOf trace)
       → (importedSegment trace k v t ≡ importedSegment trace k v u) ↔ (pageAt k trace t ≡ pageAt k trace u)

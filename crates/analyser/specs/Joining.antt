@@ -39,8 +39,8 @@ pub record FiguresAdd (v w : SheetValue) (joint first second : RowFigures) : Typ
   pub optocc-add : joint .optocc ≡ first .optocc + second .optocc
   pub wsmem-least : first .wsmem + second .wsmem ≤ joint .wsmem
   pub wsocc-least : first .wsocc + second .wsocc ≤ joint .wsocc
-  pub wsmem-add : length (v .refs) ≡ length (w .refs) → joint .wsmem ≡ first .wsmem + second .wsmem
-  pub wsocc-add : length (v .refs) ≡ length (w .refs) → joint .wsocc ≡ first .wsocc + second .wsocc
+  pub wsmem-add : length (v .entries) ≡ length (w .entries) → joint .wsmem ≡ first .wsmem + second .wsmem
+  pub wsocc-add : length (v .entries) ≡ length (w .entries) → joint .wsocc ≡ first .wsocc + second .wsocc
 
 -- what holds of the text that the call gives for two runs of bytes that read as v and w
 pub record JoinedFromBytes (s1 s2 text : List ℕ) (v w : SheetValue) : Type 0 where

@@ -46,7 +46,7 @@ pub data Handed (s : List ℕ) : (taken : List ℕ) → (R : Recorder) → Type 
 
 -- the sheet that ends at the steps taken: of form 2 on, since they may be idle
 abbrev pub recordedOf : SheetValue → List ℕ → SheetValue
-recordedOf v taken = record { form = max 2 (v .form); head = v .head; refs = taken; marks = [] }
+recordedOf v taken = record { form = max 2 (v .form); head = v .head; entries = taken; marks = [] }
 
 -- the recorder without segments and rows after n idle steps
 abbrev pub emptyAfter : ℕ → Recorder

@@ -1,7 +1,7 @@
 -- The 65 buckets: one per row and the last, which the single pass fills. Each reuse, the first touch of a warm segment among them, goes to
 -- the first row that keeps it; a reuse that no row keeps, and each other first touch (with retention 0), goes to the last bucket. End
 -- intervals are counted apart. Assumes nothing.
-use Prim.Native.Nat.{ℕ, _*_}
+use Prim.Native.Nat.{ℕ, suc, _*_}
 use mathlib.Core.Bool.{cond}
 use mathlib.Core.List.{List}
 use lib.Dec.{eqb}
@@ -16,7 +16,7 @@ use Rattle.buckets.specs.declared.Tally.{Tally}
 
 -- how many buckets there are
 abbrev pub bucketCount : ℕ
-bucketCount = 65
+bucketCount = suc lastBucket
 
 -- the bucket of a touch of segment i after t steps
 unfoldable pub bucketOf : List PriceRow → Trace → ℕ → ℕ → ℕ

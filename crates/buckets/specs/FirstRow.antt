@@ -3,11 +3,12 @@ use Prim.Native.Nat.{ℕ, suc, _*_}
 use mathlib.Core.Bool.{cond}
 use mathlib.Core.List.{List, [], _∷_}
 use Rattle.model.specs.Costs.{keeps}
+use Rattle.model.specs.Sheets.{mostRows}
 use Rattle.model.specs.declared.PriceRow.{PriceRow}
 
 -- what stands for no row: the bucket after those of the rows
 abbrev pub lastBucket : ℕ
-lastBucket = 64
+lastBucket = mostRows
 
 -- the first row, counted from r, that keeps a reuse of retention R and swap cost w; the last bucket where none does
 unfoldable pub firstRow : List PriceRow → ℕ → ℕ → ℕ → ℕ

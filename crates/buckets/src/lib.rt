@@ -31,5 +31,5 @@ impl Tally {
     // How many buckets: one per row, and the last.
     pub const BUCKETS: usize = Sheet::MAX_ROWS + 1;
     // The last bucket: first touches of segments that are not warm, and reuses that no row keeps.
-    pub const LAST: usize = search::LAST;
+    pub const LAST: usize = Sheet::MAX_ROWS;
 }

@@ -1,5 +1,6 @@
 // The first row that keeps a reuse, by priced comparisons in three rounds: for the loops over references and segments and for one touch.
 // What each function gives is written in specs/; nothing is assumed.
+use crate::Tally;
 use model::LoadUnits;
 use model::MemoryUnits;
 use model::PriceRow;
@@ -12,9 +13,6 @@ ghost use Rattle.model.specs.Sheets.{mostRows};
 ghost use Rattle.buckets.specs.FirstRow.{lastBucket};
 ghost use Rattle.buckets.specs.inner.Search.{loadPrices, memoryPrices, keptAt, Searchable, Narrows, Found};
 ghost use Rattle.buckets.specs.inner.Search.{IsFirstRow, IsBucket, IsTouchBucket};
-
-// What stands for no row, and for a first touch: the bucket after those of the rows.
-pub const LAST: usize = Sheet::MAX_ROWS;
 
 // The two costs of a reuse: its retention, if it is kept, and its swap cost, if it is not.
 pub struct Reuse {
@@ -127,7 +125,7 @@ fn first_row(rows: usize, hs: &[u16], ds: &[u16], reuse: Reuse) -> usize
     ensures exact { λ k. ⌜ IsFirstRow rows (now (hs .entry)) (now (ds .entry)) reuse k ⌝ }
 {
     let k = first_kept(rows, hs, ds, reuse);
-    if k < rows { k } else { LAST }
+    if k < rows { k } else { Tally::LAST }
 }
 
 // The bucket of a touch or an end interval: that of the first row that keeps a reuse, and else the last.
@@ -139,7 +137,7 @@ pub fn bucket_of(rows: usize, hs: &[u16], ds: &[u16], again: bool, reuse: Reuse)
     if again {
         first_row(rows, hs, ds, reuse)
     } else {
-        LAST
+        Tally::LAST
     }
 }
 

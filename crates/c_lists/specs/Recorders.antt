@@ -4,7 +4,7 @@ use mathlib.Core.Bool.{cond}
 use mathlib.Core.List.{List, [], _∷_, map}
 use lib.ListN.{getD}
 use lib.Dec.{eqb, ltb}
-use Rattle.model.specs.Sheets.{mostSteps}
+use Rattle.model.specs.Sheets.{largestA, mostSteps}
 use Rattle.model.specs.Sums.{tabulate}
 use Rattle.model.specs.declared.Kind.{Kind}
 use Rattle.model.specs.declared.Kind.the-variants.{Time, Space}
@@ -39,7 +39,7 @@ recorderIn l =
       head =
           record {
             kind = kindIn (getD (l .head) 0 0);
-            a = min (getD (l .head) 1 0) 255;
+            a = min (getD (l .head) 1 0) largestA;
             segs = getD (l .head) 2 0;
             sizes = l .sizes;
             rows = getD (l .head) 3 0;

@@ -60,7 +60,7 @@ module _ (v : SheetValue) (c : Valid v) (w : v .head .warm ≡ []) where
         form-within = omega arith;
         rows = c .rows;
         run = c .run;
-        whole = λ e t l. ⊎-elim (λ m. m) (λ i. absurd (none-idle (v .refs) t (length (v .head .sizes)) n l i)) (c .run .entry-within t l);
+        whole = λ e t l. ⊎-elim (λ m. m) (λ i. absurd (none-idle (v .entries) t (length (v .head .sizes)) n l i)) (c .run .entry-within t l);
         warm = c .warm;
         cold = λ _. w;
         marked = λ l. absurd (omega (arith, l));
@@ -71,24 +71,24 @@ module _ (v : SheetValue) (c : Valid v) (w : v .head .warm ≡ []) where
 -- a sheet of form 1 has no idle step
 pub whole-in-1 : (v : SheetValue) → Valid v → v .form ≡ 1 → hasIdle v ≡ false
 whole-in-1 v c e =
-    idle-none (v .refs) (length (v .head .sizes)) (λ t l i. omega (arith, c .whole e t l, i, c .run .segs-within))
+    idle-none (v .entries) (length (v .head .sizes)) (λ t l i. omega (arith, c .whole e t l, i, c .run .segs-within))
 
 -- ---- when 17 is given
 
 -- where there are fewer references than steps
-pub refused-fewer : (v : SheetValue) → length (touchesOf (entriesIn v)) < length (v .refs) → toForm1 v ≡ refuses IdleStep
+pub refused-fewer : (v : SheetValue) → length (touchesOf (entriesIn v)) < length (v .entries) → toForm1 v ≡ refuses IdleStep
 refused-fewer v l = go (hasIdle v) refl
   where
     go : (b : Bool) → hasIdle v ≡ b → toForm1 v ≡ refuses IdleStep
     go true e = rw e
-    go false e = absurd (omega (arith, l, touches-all (marksOf (v .marks)) (v .refs) 0 e))
+    go false e = absurd (omega (arith, l, touches-all (marksOf (v .marks)) (v .entries) 0 e))
 
 -- and not where there are as many
-pub given-all : (v : SheetValue) → length (touchesOf (entriesIn v)) ≡ length (v .refs) → toForm1 v ≡ gives (sheetText (inForm 1 v))
+pub given-all : (v : SheetValue) → length (touchesOf (entriesIn v)) ≡ length (v .entries) → toForm1 v ≡ gives (sheetText (inForm 1 v))
 given-all v l = go (hasIdle v) refl
   where
     go : (b : Bool) → hasIdle v ≡ b → toForm1 v ≡ gives (sheetText (inForm 1 v))
-    go true e = absurd (omega (arith, l, touches-fewer (marksOf (v .marks)) (v .refs) 0 e))
+    go true e = absurd (omega (arith, l, touches-fewer (marksOf (v .marks)) (v .entries) 0 e))
     go false e = rw e
 
 -- ---- there and back
@@ -97,7 +97,7 @@ given-all v l = go (hasIdle v) refl
 in-and-back : (k form : ℕ) (v : SheetValue) → v .form ≡ k → v .marks ≡ [] → inForm k (inForm form v) ≡ v
 in-and-back k form v e m =
     ap (λ n. inForm n v) (sym e)
-    ∙ ap (λ (ms : List Bool). record { form = v .form; head = v .head; refs = v .refs; marks = ms }) (sym m)
+    ∙ ap (λ (ms : List Bool). record { form = v .form; head = v .head; entries = v .entries; marks = ms }) (sym m)
 
 -- the form of a sheet that a call for one form alone accepts
 form-1 : (s : List ℕ) (v : SheetValue) → readForms 1 1 s ≡ accepted v → v .form ≡ 1

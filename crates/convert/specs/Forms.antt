@@ -10,7 +10,7 @@ use Rattle.sheet.specs.Writing.{sheetText}
 
 -- the same head and entries in another form, 1 or 2: these have no marks
 abbrev pub inForm : ℕ → SheetValue → SheetValue
-inForm form v = record { form = form; head = v .head; refs = v .refs; marks = [] }
+inForm form v = record { form = form; head = v .head; entries = v .entries; marks = [] }
 
 -- some entry is that of a step without a touch
 unfoldable pub someIdle : List ℕ → Bool
@@ -18,7 +18,7 @@ someIdle [] = false
 someIdle (x ∷ xs) = cond (eqb x idle) true (someIdle xs)
 
 abbrev pub hasIdle : SheetValue → Bool
-hasIdle v = someIdle (v .refs)
+hasIdle v = someIdle (v .entries)
 
 -- to form 2: its text
 abbrev pub toForm2 : SheetValue → Result

@@ -31,7 +31,7 @@ numbered (accepted v) = 0
 numbered (rejected r) = numberOf r
 
 comesTo : Outcome → ℕ → List ℕ → Bool
-comesTo (accepted v) segs refs = eqb (v .form) 1 && (sameBytes (v .head .sizes) (replicate segs 1) && sameBytes (v .refs) refs)
+comesTo (accepted v) segs refs = eqb (v .form) 1 && (sameBytes (v .head .sizes) (replicate segs 1) && sameBytes (v .entries) refs)
 comesTo (rejected r) segs refs = false
 
 pub holds : Example → Bool

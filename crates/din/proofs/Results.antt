@@ -175,10 +175,10 @@ module _ (k : ℕ) (trace : List ℕ) (rows : List PriceRow) (v : SheetValue) wh
     all-reached : Reached k [] (linesOf trace) (taken e .ps)
     all-reached = touched-reached k trace (taken e .ps) (taken e .lines)
 
-    refs-are : v .refs ≡ segmentsOf (taken e .ps)
-    refs-are = ap (λ (w : SheetValue). w .refs) (taken e .value)
+    refs-are : v .entries ≡ segmentsOf (taken e .ps)
+    refs-are = ap (λ (w : SheetValue). w .entries) (taken e .value)
 
-    refs-long : length (v .refs) ≡ length (taken e .ps)
+    refs-long : length (v .entries) ≡ length (taken e .ps)
     refs-long = ap length refs-are ∙ segments-length (taken e .ps)
 
     -- it is the sheet of the pages of the lines
@@ -196,12 +196,12 @@ module _ (k : ℕ) (trace : List ℕ) (rows : List PriceRow) (v : SheetValue) wh
         let c = imported-valid rows-within in written-then-read 1 newestForm v (c .some-form) (c .form-within) c
 
     -- there is one reference for each line
-    pub imported-refs : length (v .refs) ≡ lineCount (linesOf trace)
+    pub imported-refs : length (v .entries) ≡ lineCount (linesOf trace)
     unfolding pagesOf
     imported-refs =
         refs-long ∙ ap length (all-reached .pages-are) ∙ length-map (addresses (linesOf trace)) (pageOf k) ∙ all-reached .counted
 
-    module _ (t : ℕ) (lt : t < length (v .refs)) where
+    module _ (t : ℕ) (lt : t < length (v .entries)) where
       inside : t < length (taken e .ps)
       inside = omega (arith, refs-long)
 
@@ -209,7 +209,7 @@ module _ (k : ℕ) (trace : List ℕ) (rows : List PriceRow) (v : SheetValue) wh
       unfolding pageAt pagesIn
       page-at = ap (λ (l : List ℕ). getD l t 0) (all-reached .pages-are)
 
-      segment-is : getD (v .refs) t 0 ≡ placeIn (firsts (taken e .ps)) (pageAt k trace t)
+      segment-is : getD (v .entries) t 0 ≡ placeIn (firsts (taken e .ps)) (pageAt k trace t)
       segment-is =
           ap (λ (l : List ℕ). getD l t 0) refs-are
           ∙ segment-at (taken e .ps) t 0 inside ∙ ap (placeIn (firsts (taken e .ps))) page-at
@@ -218,7 +218,7 @@ module _ (k : ℕ) (trace : List ℕ) (rows : List PriceRow) (v : SheetValue) wh
       page-known = rw page-at at (known (taken e .ps) t inside)
 
       -- the segment of a line is the number of its page among those of the lines before it, by first appearance
-      pub imported-number : getD (v .refs) t 0 ≡ placeIn (firsts (pagesBefore k trace t)) (pageAt k trace t)
+      pub imported-number : getD (v .entries) t 0 ≡ placeIn (firsts (pagesBefore k trace t)) (pageAt k trace t)
       unfolding pagesBefore pagesIn
       imported-number =
           ap (λ (l : List ℕ). getD l t 0) refs-are
@@ -228,7 +228,7 @@ module _ (k : ℕ) (trace : List ℕ) (rows : List PriceRow) (v : SheetValue) wh
 
       -- a page that no line before touches gets the number of pages so far
       pub imported-new : ((u : ℕ) → u < t → pageAt k trace u ≡ pageAt k trace t → ⊥)
-          → getD (v .refs) t 0 ≡ length (firsts (pagesBefore k trace t))
+          → getD (v .entries) t 0 ≡ length (firsts (pagesBefore k trace t))
       unfolding firsts pagesBefore pageAt
       imported-new others =
           imported-number
@@ -243,13 +243,13 @@ module _ (k : ℕ) (trace : List ℕ) (rows : List PriceRow) (v : SheetValue) wh
               others i early (sym (getD-take t P i 0 early) ∙ f)
 
     -- the first line gets segment 0
-    pub imported-first : 0 < length (v .refs) → getD (v .refs) 0 0 ≡ 0
+    pub imported-first : 0 < length (v .entries) → getD (v .entries) 0 0 ≡ 0
     unfolding firsts firstsAfter placeIn pagesBefore
     imported-first lt = imported-number 0 lt
 
     -- two lines get the same segment exactly where their addresses lie in one page
-    pub imported-same : (t u : ℕ) → t < length (v .refs) → u < length (v .refs)
-        → (getD (v .refs) t 0 ≡ getD (v .refs) u 0) ↔ (pageAt k trace t ≡ pageAt k trace u)
+    pub imported-same : (t u : ℕ) → t < length (v .entries) → u < length (v .entries)
+        → (getD (v .entries) t 0 ≡ getD (v .entries) u 0) ↔ (pageAt k trace t ≡ pageAt k trace u)
     imported-same t u lt lu =
         let F = firsts (taken e .ps) in (
           λ same.

@@ -14,7 +14,7 @@ sheetOfPages ps rows =
     record {
       form = 1;
       head = record { kind = Time; a = 0; sizes = replicate (segmentCount ps) 1; rows = rows; warm = [] };
-      refs = segmentsOf ps;
+      entries = segmentsOf ps;
       marks = [];
     }
 

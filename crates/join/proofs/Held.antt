@@ -48,8 +48,8 @@ module _ (first second : Sheet) (p : Standing first) (q : Standing second) where
       ≡ jointRefs (valueOf first) (valueOf second)
   unfolding jointRefs valueOf
   entries-joint steps e =
-      ap (λ n. entriesOf n (valueOf first .refs) (valueOf second .refs) steps) (sym (segs-counted first p))
-      ∙ ap (λ k. entriesOf (length (valueOf first .head .sizes)) (valueOf first .refs) (valueOf second .refs) k) (e ∙ sym steps-joint)
+      ap (λ n. entriesOf n (valueOf first .entries) (valueOf second .entries) steps) (sym (segs-counted first p))
+      ∙ ap (λ k. entriesOf (length (valueOf first .head .sizes)) (valueOf first .entries) (valueOf second .entries) k) (e ∙ sym steps-joint)
 
   -- as many entries as the counts say
   steps-held : max (length (take (first .steps) (first .touches))) (length (take (second .steps) (second .touches)))

@@ -29,10 +29,10 @@ module _ (first second : Sheet) (p : Standing first) (q : Standing second) (b : 
 
   module _ (same : b ≡ true) (n : ℕ) (steps : n ≡ max (first .steps) (second .steps)) (t : Bool)
       (touches : t ≡ bothTouch (take (first .steps) (first .touches)) (take (second .steps) (second .touches)) n) where
-    touches-told : bothTouch (valueOf first .refs) (valueOf second .refs) (jointSteps (valueOf first) (valueOf second)) ≡ t
+    touches-told : bothTouch (valueOf first .entries) (valueOf second .entries) (jointSteps (valueOf first) (valueOf second)) ≡ t
     unfolding valueOf
     touches-told =
-        ap (bothTouch (valueOf first .refs) (valueOf second .refs)) (steps-joint first second p q ∙ sym steps) ∙ sym touches
+        ap (bothTouch (valueOf first .entries) (valueOf second .entries)) (steps-joint first second p q ∙ sym steps) ∙ sym touches
 
     pub told-both : t ≡ true → joinOf (valueOf first) (valueOf second) ≡ rejected BothTouch
     told-both e = join-both (valueOf first) (valueOf second) (heads-told ∙ same) (touches-told ∙ e)

@@ -24,7 +24,7 @@ sum-longer n (suc k) f nothing =
 module _ (T : Trace) where
   -- beyond the last step there is no entry
   entry-beyond : (t : ℕ) → steps T ≤ t → segs T ≤ entry T t
-  entry-beyond t le = omega (arith, List·getD-eq-default (T .refs) (segs T) le)
+  entry-beyond t le = omega (arith, List·getD-eq-default (T .entries) (segs T) le)
 
   pub untouched-beyond : (t i : ℕ) → steps T ≤ t → touched T t i ≡ false
   untouched-beyond t i le = idle-touched T t i (entry-beyond t le)

@@ -18,10 +18,10 @@ use Rattle.joint.specs.Joint.{bothTouch, jointSteps, jointEntry, jointRe
 
 -- the entry at place t; beyond the last step idle
 abbrev pub entryOf : SheetValue → ℕ → ℕ
-entryOf v t = getD (v .refs) t idle
+entryOf v t = getD (v .entries) t idle
 
-pub entry-beyond : (v : SheetValue) (t : ℕ) → length (v .refs) ≤ t → entryOf v t ≡ idle
-entry-beyond v t le = List·getD-eq-default (v .refs) idle le
+pub entry-beyond : (v : SheetValue) (t : ℕ) → length (v .entries) ≤ t → entryOf v t ≡ idle
+entry-beyond v t le = List·getD-eq-default (v .entries) idle le
 
 -- a place is one of the first n or beyond them
 pub below-or-beyond : (t n : ℕ) → (t < n) ⊎ (n ≤ t)
@@ -33,24 +33,24 @@ below-or-beyond t n = go (ltb t n) refl
 
 module _ (v : SheetValue) (ok : Valid v) where
   -- within the steps it is the entry of the run
-  entry-run : (t : ℕ) → t < length (v .refs) → entryOf v t ≡ entry (traceOf v) t
-  entry-run t lt = getD-any (v .refs) t idle (segs (traceOf v)) lt
+  entry-run : (t : ℕ) → t < length (v .entries) → entryOf v t ≡ entry (traceOf v) t
+  entry-run t lt = getD-any (v .entries) t idle (segs (traceOf v)) lt
 
   -- it is a segment or idle
   pub entry-within : (t : ℕ) → (entryOf v t < segs (traceOf v)) ⊎ (entryOf v t ≡ idle)
   entry-within t =
       ⊎-elim (λ lt. rw (entry-run t lt) (ok .run .entry-within t lt)) (λ le. inr (entry-beyond v t le))
-      (below-or-beyond t (length (v .refs)))
+      (below-or-beyond t (length (v .entries)))
 
   -- what it touches
   pub touched-by : (t i : ℕ) → i < segs (traceOf v) → touched (traceOf v) t i ≡ eqb (entryOf v t) i
   touched-by t i l =
       touched-entry (traceOf v) t i l
-      ∙ ⊎-elim (λ lt. rw (entry-run t lt)) (λ le. beyond le) (below-or-beyond t (length (v .refs)))
+      ∙ ⊎-elim (λ lt. rw (entry-run t lt)) (λ le. beyond le) (below-or-beyond t (length (v .entries)))
     where
-      beyond : length (v .refs) ≤ t → eqb (entry (traceOf v) t) i ≡ eqb (entryOf v t) i
+      beyond : length (v .entries) ≤ t → eqb (entry (traceOf v) t) i ≡ eqb (entryOf v t) i
       beyond le =
-          rw (List·getD-eq-default (v .refs) (segs (traceOf v)) le, entry-beyond v t le, ne-eqb (segs (traceOf v)) i (λ same. omega arith))
+          rw (List·getD-eq-default (v .entries) (segs (traceOf v)) le, entry-beyond v t le, ne-eqb (segs (traceOf v)) i (λ same. omega arith))
           (sym (ne-eqb idle i (λ same. omega (arith, ok .run .segs-within))))
 
 -- where no step has touches of both, one of the two entries is idle
@@ -123,7 +123,7 @@ module _ (v w : SheetValue) where
   pub joint-length : length (jointRefs v w) ≡ jointSteps v w
   unfolding jointRefs
   joint-length =
-      length-tabulate (jointSteps v w) (λ t. jointEntry (length (v .head .sizes)) (getD (v .refs) t idle) (getD (w .refs) t idle))
+      length-tabulate (jointSteps v w) (λ t. jointEntry (length (v .head .sizes)) (getD (v .entries) t idle) (getD (w .entries) t idle))
 
   -- the entry of every step, and beyond
   pub joint-entry : (t : ℕ) → getD (jointRefs v w) t idle ≡ jointEntry (segs (traceOf v)) (entryOf v t) (entryOf w t)
@@ -137,7 +137,7 @@ module _ (v w : SheetValue) where
       (below-or-beyond t (jointSteps v w))
 
   -- one of the two entries is idle at every place
-  pub one-idle : bothTouch (v .refs) (w .refs) (jointSteps v w) ≡ false → (t : ℕ) → (entryOf v t ≡ idle) ⊎ (entryOf w t ≡ idle)
+  pub one-idle : bothTouch (v .entries) (w .entries) (jointSteps v w) ≡ false → (t : ℕ) → (entryOf v t ≡ idle) ⊎ (entryOf w t ≡ idle)
   one-idle apart t =
-      ⊎-elim (λ lt. not-both (v .refs) (w .refs) (jointSteps v w) apart t lt) (λ le. inl (entry-beyond v t (omega arith)))
+      ⊎-elim (λ lt. not-both (v .entries) (w .entries) (jointSteps v w) apart t lt) (λ le. inl (entry-beyond v t (omega arith)))
       (below-or-beyond t (jointSteps v w))

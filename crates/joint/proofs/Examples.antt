@@ -29,7 +29,7 @@ row h d = record { h = h; d = d }
 -- a sheet of form 3
 abbrev pub sheet : Kind → ℕ → List ℕ → List PriceRow → List ℕ → List ℕ → SheetValue
 sheet kind a sizes rows warm refs =
-    record { form = 3; head = record { kind = kind; a = a; sizes = sizes; rows = rows; warm = warm }; refs = refs; marks = [] }
+    record { form = 3; head = record { kind = kind; a = a; sizes = sizes; rows = rows; warm = warm }; entries = refs; marks = [] }
 
 abbrev pub rows : List PriceRow
 rows = row 1 2 ∷ row 3 1 ∷ []
@@ -40,7 +40,7 @@ first =
     record {
       form = 2;
       head = record { kind = Space; a = 1; sizes = 2 ∷ 3 ∷ []; rows = rows; warm = [] };
-      refs = 0 ∷ idle ∷ 1 ∷ idle ∷ 0 ∷ [];
+      entries = 0 ∷ idle ∷ 1 ∷ idle ∷ 0 ∷ [];
       marks = [];
     }
 

@@ -22,12 +22,12 @@ module _ (v w : SheetValue) where
   unfolding joinOf
   join-differs e = rw e
 
-  pub join-both : sameHeads (v .head) (w .head) ≡ true → bothTouch (v .refs) (w .refs) (jointSteps v w) ≡ true
+  pub join-both : sameHeads (v .head) (w .head) ≡ true → bothTouch (v .entries) (w .entries) (jointSteps v w) ≡ true
       → joinOf v w ≡ rejected BothTouch
   unfolding joinOf
   join-both e f = rw (e, f)
 
-  pub join-many : sameHeads (v .head) (w .head) ≡ true → bothTouch (v .refs) (w .refs) (jointSteps v w) ≡ false
+  pub join-many : sameHeads (v .head) (w .head) ≡ true → bothTouch (v .entries) (w .entries) (jointSteps v w) ≡ false
       → leb (length (v .head .sizes) + length (w .head .sizes)) mostSegs ≡ false → joinOf v w ≡ rejected TooManySegments
   unfolding joinOf
   join-many e f g = rw (e, f, g)
@@ -42,19 +42,19 @@ module _ (v w : SheetValue) where
   join-accepted u = heads (sameHeads (v .head) (w .head)) refl
     where
       segments : (b : Bool) → leb (length (v .head .sizes) + length (w .head .sizes)) mostSegs ≡ b → sameHeads (v .head) (w .head) ≡ true
-          → bothTouch (v .refs) (w .refs) (jointSteps v w) ≡ false
+          → bothTouch (v .entries) (w .entries) (jointSteps v w) ≡ false
           → cond b (accepted (joined v w)) (rejected TooManySegments) ≡ accepted u → Joins v w × (joined v w ≡ u)
       segments true few same apart is = (record { same = same; apart = apart; few = few }, cc)
       segments false few same apart is = absurd (let z : _≡_ {A = ℕ} 0 1 = cc in omega arith)
 
-      steps : (b : Bool) → bothTouch (v .refs) (w .refs) (jointSteps v w) ≡ b → sameHeads (v .head) (w .head) ≡ true
+      steps : (b : Bool) → bothTouch (v .entries) (w .entries) (jointSteps v w) ≡ b → sameHeads (v .head) (w .head) ≡ true
           → cond b (rejected BothTouch) (joinCounted v w) ≡ accepted u → Joins v w × (joined v w ≡ u)
       steps true apart same is = absurd (let z : _≡_ {A = ℕ} 0 1 = cc in omega arith)
       steps false apart same is = segments (leb (length (v .head .sizes) + length (w .head .sizes)) mostSegs) refl same apart is
 
       heads : (b : Bool) → sameHeads (v .head) (w .head) ≡ b → cond b (joinApart v w) (rejected HeadsDiffer) ≡ accepted u
           → Joins v w × (joined v w ≡ u)
-      heads true same is = steps (bothTouch (v .refs) (w .refs) (jointSteps v w)) refl same is
+      heads true same is = steps (bothTouch (v .entries) (w .entries) (jointSteps v w)) refl same is
       heads false same is = absurd (let z : _≡_ {A = ℕ} 0 1 = cc in omega arith)
 
   -- and it is valid

@@ -24,8 +24,8 @@ pub record JointFigures (v w : SheetValue) (h d : ℕ) : Type 0 where
   pub optocc-add : optocc (jointRun v w) h d ≡ optocc (traceOf v) h d + optocc (traceOf w) h d
   pub wsmem-least : wsmem (traceOf v) h d + wsmem (traceOf w) h d ≤ wsmem (jointRun v w) h d
   pub wsocc-least : wsocc (traceOf v) h d + wsocc (traceOf w) h d ≤ wsocc (jointRun v w) h d
-  pub wsmem-add : length (v .refs) ≡ length (w .refs) → wsmem (jointRun v w) h d ≡ wsmem (traceOf v) h d + wsmem (traceOf w) h d
-  pub wsocc-add : length (v .refs) ≡ length (w .refs) → wsocc (jointRun v w) h d ≡ wsocc (traceOf v) h d + wsocc (traceOf w) h d
+  pub wsmem-add : length (v .entries) ≡ length (w .entries) → wsmem (jointRun v w) h d ≡ wsmem (traceOf v) h d + wsmem (traceOf w) h d
+  pub wsocc-add : length (v .entries) ≡ length (w .entries) → wsocc (jointRun v w) h d ≡ wsocc (traceOf v) h d + wsocc (traceOf w) h d
 
 -- step by step, the joint optimal schedule holds what the two schedules hold side by side, and nothing of a sheet after its last step
 pub record SideBySide (v w : SheetValue) (h d : ℕ) : Type 0 where

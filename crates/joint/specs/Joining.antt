@@ -14,7 +14,7 @@ joinCounted v w = cond (leb (length (v .head .sizes) + length (w .head .sizes)) 
 
 -- 21, before it, where both touch in one step
 abbrev pub joinApart : SheetValue → SheetValue → Outcome
-joinApart v w = cond (bothTouch (v .refs) (w .refs) (jointSteps v w)) (rejected BothTouch) (joinCounted v w)
+joinApart v w = cond (bothTouch (v .entries) (w .entries) (jointSteps v w)) (rejected BothTouch) (joinCounted v w)
 
 -- 20, before all, where kind, a or a row line differs
 unfoldable pub joinOf : SheetValue → SheetValue → Outcome

@@ -42,7 +42,7 @@ bothTouch xs ys (suc n) = bothTouch xs ys n || (touchesAt xs n && touchesAt ys n
 
 -- the steps of the joint sheet: the greater number of the two
 abbrev pub jointSteps : SheetValue → SheetValue → ℕ
-jointSteps v w = max (length (v .refs)) (length (w .refs))
+jointSteps v w = max (length (v .entries)) (length (w .entries))
 
 -- ---- the joint sheet
 
@@ -53,7 +53,7 @@ jointEntry n x y = cond (eqb x idle) (cond (eqb y idle) idle (n + y)) x
 -- the entries, step by step on the same clock; the shorter record has no touch after its last step
 unfoldable pub jointRefs : SheetValue → SheetValue → List ℕ
 jointRefs v w =
-    tabulate (jointSteps v w) (λ t. jointEntry (length (v .head .sizes)) (getD (v .refs) t idle) (getD (w .refs) t idle))
+    tabulate (jointSteps v w) (λ t. jointEntry (length (v .head .sizes)) (getD (v .entries) t idle) (getD (w .entries) t idle))
 
 -- the segments and warm segments of the second after those of the first
 unfoldable pub jointHead : HeadValue → HeadValue → HeadValue
@@ -68,10 +68,10 @@ jointHead p q =
 
 -- the joint sheet, of form 3
 unfoldable pub joined : SheetValue → SheetValue → SheetValue
-joined v w = record { form = 3; head = jointHead (v .head) (w .head); refs = jointRefs v w; marks = [] }
+joined v w = record { form = 3; head = jointHead (v .head) (w .head); entries = jointRefs v w; marks = [] }
 
 -- the two sheets join: the same kind, a and row lines (else 20), no step in which both touch (else 21), at most 256 segments (else 22)
 pub record Joins (v w : SheetValue) : Type 0 where
   pub same : sameHeads (v .head) (w .head) ≡ true
-  pub apart : bothTouch (v .refs) (w .refs) (jointSteps v w) ≡ false
+  pub apart : bothTouch (v .entries) (w .entries) (jointSteps v w) ≡ false
   pub few : leb (length (v .head .sizes) + length (w .head .sizes)) mostSegs ≡ true

@@ -206,8 +206,8 @@ module _ (v : SheetValue) (c : Valid v) where
       λ i lt. let here : i < n = omega arith in
       rw (getD-tabulate n (figuresAt v) i zeroFigures here, getD-tabulate n (rowModtotal v) i 0 here)
       (marked-most (v .form) (figuresAt v i) (rowModtotal v i) (row-digits i here) (row-modtotal-within i here)) in
-      all-most (v .form) (refsOf (traceOf v)) (length (v .refs)) (length (v .head .sizes)) fs ms
-      (omega (arith, refs-most (traceOf v) (length (v .refs)), c .run .steps-within)) (omega (arith, c .run .steps-within))
+      all-most (v .form) (refsOf (traceOf v)) (length (v .entries)) (length (v .head .sizes)) fs ms
+      (omega (arith, refs-most (traceOf v) (length (v .entries)), c .run .steps-within)) (omega (arith, c .run .steps-within))
       (omega (arith, c .run .segs-within)) (omega (arith, c .rows .rows-within)) row
 
   -- of whatever form

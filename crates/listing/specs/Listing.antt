@@ -34,7 +34,7 @@ listing form refs steps segs fs ms =
 -- the listing of a sheet: refs= is the number of its references, steps= that of its steps
 unfoldable pub listingOf : SheetValue → List ℕ
 listingOf v =
-    listing (v .form) (refsOf (traceOf v)) (length (v .refs)) (length (v .head .sizes)) (tabulate (length (v .head .rows)) (figuresAt v))
+    listing (v .form) (refsOf (traceOf v)) (length (v .entries)) (length (v .head .sizes)) (tabulate (length (v .head .rows)) (figuresAt v))
     (tabulate (length (v .head .rows)) (rowModtotal v))
 
 -- no listing of an accepted sheet has more bytes: 64 rows, each figure with as many digits as it can have; below form 4 none has modtotal=

@@ -319,7 +319,7 @@ module _ (T : Trace) (fresh : (i : ℕ) → T .start i ≡ false) where
 
 -- the run without them
 abbrev cold : Trace → Trace
-cold T = record { kind = T .kind; a = T .a; sizes = T .sizes; start = λ i. false; refs = T .refs }
+cold T = record { kind = T .kind; a = T .a; sizes = T .sizes; start = λ i. false; entries = T .entries }
 
 cold-time : (T : Trace) (t i m : ℕ) → unreferenced (cold T) t i ≡ some m → unreferenced T t i ≡ some m
 unfolding unreferenced later

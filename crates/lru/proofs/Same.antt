@@ -12,7 +12,7 @@ use Rattle.lru.specs.Recency.{recency, distance, missBeyond, lruMisses, 
 use Rattle.lru.specs.Memory.{simulatedCurve}
 use Rattle.lru.proofs.Agree.{curves-agree}
 
-module _ (T U : Trace) (sizes : segs T ≡ segs U) (refs : T .refs ≡ U .refs) where
+module _ (T U : Trace) (sizes : segs T ≡ segs U) (refs : T .entries ≡ U .entries) where
   entry-same : (t : ℕ) → entry T t ≡ entry U t
   entry-same t = rw (sizes, refs)
 

@@ -64,7 +64,7 @@ module _ (v : SheetValue) (place : List ℕ) where
 
     -- the list is written, of n numbers
     module _ (place' : List ℕ) (room : length (v .head .sizes) ≤ length place) where
-      curve-fits : (looked : ℕ) → EveryRun (v .head .sizes) (v .refs) (λ T. ByDistances T place place' looked)
+      curve-fits : (looked : ℕ) → EveryRun (v .head .sizes) (v .entries) (λ T. ByDistances T place place' looked)
           → CurveLeft v place place' (record { placed = record { verdict = Accepted; length = length (v .head .sizes) }; looked = looked })
       curve-fits looked every =
           let d = every-run v (λ T. ByDistances T place place' looked) ones every in
@@ -76,11 +76,11 @@ module _ (v : SheetValue) (place : List ℕ) where
           }
 
       pub curve-placed : (n : ℕ) → n ≡ length (v .head .sizes) → (looked : ℕ)
-          → EveryRun (v .head .sizes) (v .refs) (λ T. ByDistances T place place' looked)
+          → EveryRun (v .head .sizes) (v .entries) (λ T. ByDistances T place place' looked)
           → CurveLeft v place place' (record { placed = record { verdict = Accepted; length = n }; looked = looked })
       curve-placed n counted looked every = rw counted (curve-fits looked every)
 
-      pub plain-placed : (n : ℕ) → n ≡ length (v .head .sizes) → EveryRun (v .head .sizes) (v .refs) (λ T. BySimulation T place place')
+      pub plain-placed : (n : ℕ) → n ≡ length (v .head .sizes) → EveryRun (v .head .sizes) (v .entries) (λ T. BySimulation T place place')
           → PlaceLeft (plainFor v) place place' (record { verdict = Accepted; length = n })
       plain-placed n counted every =
           let e = every-run v (λ T. BySimulation T place place') ones every in

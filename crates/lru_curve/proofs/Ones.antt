@@ -63,7 +63,7 @@ module _ (sizes : List ℕ) (warm : ℕ) where
 
 -- so what holds of every run with its sizes and entries holds of that of the sheet
 pub every-run : (v : SheetValue) (P : Trace → Type 0) → onesVerdict (v .head .sizes) (length (v .head .warm)) ≡ Accepted
-    → EveryRun (v .head .sizes) (v .refs) P → P (traceOf v)
+    → EveryRun (v .head .sizes) (v .entries) P → P (traceOf v)
 every-run v P e all =
     let empty : v .head .warm ≡ [] = length-zero (v .head .warm) (accepted-ones (v .head .sizes) (length (v .head .warm)) e .1) in
     rw empty (all (v .head .kind) (v .head .a))

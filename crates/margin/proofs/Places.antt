@@ -22,7 +22,7 @@ pub record Ahead (T : Trace) (n left t : ℕ) : Type 0 where
 pub record Looking (k : ℕ) (refs : List ℕ) (n left t : ℕ) : Type 0 where
   pub within : t ≤ length refs
   pub some-left : 1 ≤ left
-  pub ahead : (T : Trace) → T .refs ≡ refs → segs T ≡ k → Ahead T n left t
+  pub ahead : (T : Trace) → T .entries ≡ refs → segs T ≡ k → Ahead T n left t
 
 module _ (T : Trace) (n left t : ℕ) (l : Ahead T n left t) (some : 1 ≤ left) (lt : t < steps T) where
   -- the search from place t on
@@ -59,7 +59,7 @@ module _ (T : Trace) (n left t : ℕ) (l : Ahead T n left t) (some : 1 ≤ left)
   ahead-found false e f = absurd (false≢true f)
 
 -- the place found has a touch
-pub found-touch : (T : Trace) (n p : ℕ) → 1 ≤ n → p < steps T → PlaceFound T n p → getD (T .refs) p 0 < segs T
+pub found-touch : (T : Trace) (n p : ℕ) → 1 ≤ n → p < steps T → PlaceFound T n p → getD (T .entries) p 0 < segs T
 found-touch T n p pos lt f =
     let (le, is) = f .found lt in
     rw (← entry-ref T p lt, is) (place-is T n pos le .touches)
@@ -83,10 +83,10 @@ module _ (k : ℕ) (refs : List ℕ) (n : ℕ) where
   module _ (left t : ℕ) (l : Looking k refs n left t) where
     module _ (lt : t < length refs) where
       -- the step is one of a run, and the test of the code is the run's
-      in-run : (T : Trace) → T .refs ≡ refs → t < steps T
+      in-run : (T : Trace) → T .entries ≡ refs → t < steps T
       in-run T is = rw is lt
 
-      test-is : (T : Trace) → T .refs ≡ refs → segs T ≡ k → ltb (entry T t) (segs T) ≡ ltb (getD refs t 0) k
+      test-is : (T : Trace) → T .entries ≡ refs → segs T ≡ k → ltb (entry T t) (segs T) ≡ ltb (getD refs t 0) k
       test-is T is many = rw (entry-ref T t (in-run T is), is, many)
 
       -- one step more, which is not that of the reference
@@ -100,12 +100,12 @@ module _ (k : ℕ) (refs : List ℕ) (n : ℕ) where
           }
 
       -- the step of the reference
-      pub look-found : ltb (getD refs t 0) k && eqb left 1 ≡ true → (T : Trace) → T .refs ≡ refs → segs T ≡ k → PlaceFound T n t
+      pub look-found : ltb (getD refs t 0) k && eqb left 1 ≡ true → (T : Trace) → T .entries ≡ refs → segs T ≡ k → PlaceFound T n t
       look-found f T is many =
           ahead-found T n left t (l .ahead T is many) (l .some-left) (in-run T is) _ (test-is T is many) f
 
     -- no step is left
-    pub look-end : length refs ≤ t → (T : Trace) → T .refs ≡ refs → segs T ≡ k → PlaceFound T n t
+    pub look-end : length refs ≤ t → (T : Trace) → T .entries ≡ refs → segs T ≡ k → PlaceFound T n t
     look-end h T is many =
         let e : t ≡ steps T = rw is (omega (arith, l .within)) in
         record {

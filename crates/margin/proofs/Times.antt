@@ -48,7 +48,7 @@ later-zero n = let e : 0 + n ≡ n = omega arith in ap (λ k. record { reuse = t
 -- none of the steps after the first n, up to t, touches segment i: its time after t steps is that after n, and t - n more
 pub record Since (i : ℕ) (refs : List ℕ) (t n : ℕ) : Type 0 where
   pub within : n ≤ t
-  pub same : (T : Trace) → T .refs ≡ refs → i < segs T → timeOf (unreferenced T t i) ≡ laterBy (t - n) (timeOf (unreferenced T n i))
+  pub same : (T : Trace) → T .entries ≡ refs → i < segs T → timeOf (unreferenced T t i) ≡ laterBy (t - n) (timeOf (unreferenced T n i))
 
 module _ (i : ℕ) (refs : List ℕ) (t : ℕ) where
   pub since-start : Since i refs t t
@@ -60,7 +60,7 @@ module _ (i : ℕ) (refs : List ℕ) (t : ℕ) where
 
   -- the step before, which is one of the run's
   module _ (n m : ℕ) (one : n ≡ suc m) (lt : m < length refs) (s : Since i refs t n) where
-    entry-is : (T : Trace) → T .refs ≡ refs → entry T m ≡ getD refs m 0
+    entry-is : (T : Trace) → T .entries ≡ refs → entry T m ≡ getD refs m 0
     entry-is T is = entry-ref T m (rw is lt) ∙ ap (λ (l : List ℕ). getD l m 0) is
 
     -- it does not touch the segment
@@ -75,14 +75,14 @@ module _ (i : ℕ) (refs : List ℕ) (t : ℕ) where
         }
 
     -- it touches the segment
-    pub since-found : getD refs m 0 ≡ i → (T : Trace) → T .refs ≡ refs → i < segs T
+    pub since-found : getD refs m 0 ≡ i → (T : Trace) → T .entries ≡ refs → i < segs T
         → _≡_ {A = Unreferenced} (record { reuse = true; time = t - n }) (timeOf (unreferenced T t i))
     since-found f T is seg =
         let met : touched T m i ≡ true = touched-entry T m i seg ∙ ap (λ x. eqb x i) (entry-is T is) ∙ eq-eqb (getD refs m 0) i f in
         rw (s .same T is seg, one, unreferenced-touched T m i met) (later-zero (t - suc m))
 
   -- no step touches it
-  pub since-none : Since i refs t 0 → (warm : Bool) (T : Trace) → T .refs ≡ refs → i < segs T → T .start i ≡ warm
+  pub since-none : Since i refs t 0 → (warm : Bool) (T : Trace) → T .entries ≡ refs → i < segs T → T .start i ≡ warm
       → untouchedTime warm t ≡ timeOf (unreferenced T t i)
   since-none s warm T is seg start =
       let all : t - 0 ≡ t = omega arith in

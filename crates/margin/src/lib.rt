@@ -71,7 +71,7 @@ fn untouched_time(warm: bool, t: u16) -> Unreferenced
 fn unreferenced_time(warm: bool, segment: u16, refs: &[u16], t: usize) -> Unreferenced
     requires { ⌜ (t ≤ length (now refs)) × (t ≤ mostSteps) ⌝ }
     ensures { λ r.
-        ⌜ ((T : Trace) → T .refs ≡ now (refs .entry) → segment < length (T .sizes) → T .start segment ≡ warm
+        ⌜ ((T : Trace) → T .entries ≡ now (refs .entry) → segment < length (T .sizes) → T .start segment ≡ warm
         → r ≡ timeOf (unreferenced T t segment)) ⌝ }
 {
     let mut i = t;
@@ -138,7 +138,7 @@ fn left_after(touched: bool, left: usize) -> usize
 // many segments.
 fn reference_place(segs: usize, refs: &[u16], n: usize) -> usize
     requires { ⌜ 1 ≤ n ⌝ }
-    ensures { λ r. ⌜ ((T : Trace) → T .refs ≡ now (refs .entry) → length (T .sizes) ≡ segs → PlaceFound T n r) ⌝ }
+    ensures { λ r. ⌜ ((T : Trace) → T .entries ≡ now (refs .entry) → length (T .sizes) ≡ segs → PlaceFound T n r) ⌝ }
 {
     let mut left = n;
     let mut t = 0;

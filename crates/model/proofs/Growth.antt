@@ -15,11 +15,11 @@ use Rattle.model.proofs.Sums.{sum-suc, sum-eq}
 
 -- the run T with the references l; kind, a, sizes and start are those of T
 abbrev pub withRefs : Trace → List ℕ → Trace
-withRefs T l = record { kind = T .kind; a = T .a; sizes = T .sizes; start = T .start; refs = l }
+withRefs T l = record { kind = T .kind; a = T .a; sizes = T .sizes; start = T .start; entries = l }
 
 -- the run with one more entry x at the end
 abbrev pub grown : Trace → ℕ → Trace
-grown T x = withRefs T (T .refs ++ (x ∷ []))
+grown T x = withRefs T (T .entries ++ (x ∷ []))
 
 -- the references l give the same entries as T at the places below n
 abbrev pub Agree : ℕ → Trace → List ℕ → Type 0
@@ -37,14 +37,14 @@ unreferenced-past T l n same (suc t) i le = rw (touched-agree T l n same t i le,
 
 module _ (T : Trace) (x : ℕ) where
   pub steps-grown : steps (grown T x) ≡ suc (steps T)
-  steps-grown = omega (arith, length-append (T .refs) (x ∷ []))
+  steps-grown = omega (arith, length-append (T .entries) (x ∷ []))
 
   pub entry-grown : entry (grown T x) (steps T) ≡ x
-  entry-grown = getD-at (T .refs) x [] (segs T) (steps T) refl
+  entry-grown = getD-at (T .entries) x [] (segs T) (steps T) refl
 
   -- the entries of the old places stay
-  pub grown-agree : Agree (steps T) T (T .refs ++ (x ∷ []))
-  grown-agree t lt = List·getD-append (T .refs) (x ∷ []) (segs T) t lt
+  pub grown-agree : Agree (steps T) T (T .entries ++ (x ∷ []))
+  grown-agree t lt = List·getD-append (T .entries) (x ∷ []) (segs T) t lt
 
   -- the new step adds what a touch of x adds, where f of a segment is added for each touch; nothing where x is no segment number
   grown-adds : (f : ℕ → ℕ) → overTouches (grown T x) (λ t i. f i) ≡ overTouches T (λ t i. f i) + cond (ltb x (segs T)) (f x) 0

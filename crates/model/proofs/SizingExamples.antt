@@ -20,7 +20,7 @@ h over d = record { h = h; d = d }
 -- the listing's run, whose ratios R/w are 0, 1/2, 3/4 and 1, or another one of its segments, at these rows
 sheetOf : List ℕ → List PriceRow → SheetValue
 sheetOf refs rows = record
-    { form = 1; head = record { kind = Space; a = 1; sizes = 1 ∷ 3 ∷ []; rows = rows; warm = [] }; refs = refs; marks = [] }
+    { form = 1; head = record { kind = Space; a = 1; sizes = 1 ∷ 3 ∷ []; rows = rows; warm = [] }; entries = refs; marks = [] }
 
 listing : List PriceRow → SheetValue
 listing rows = sheetOf (0 ∷ 1 ∷ 0 ∷ 1 ∷ 1 ∷ 0 ∷ []) rows

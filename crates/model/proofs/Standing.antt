@@ -25,7 +25,7 @@ module _ (s : Sheet) (c : Standing s) where
   unfolding valueOf headValueOf
   warm-counted = length-take-le (s .head .warm) (s .head .holds) (omega arith)
 
-  pub steps-counted : length (valueOf s .refs) ≡ s .steps
+  pub steps-counted : length (valueOf s .entries) ≡ s .steps
   unfolding valueOf
   steps-counted = length-take-le (s .steps) (s .touches) (omega arith)
 
@@ -62,7 +62,7 @@ module _ (s : Sheet) (c : Standing s) where
     pub entry-of : entry (traceOf (valueOf s)) t ≡ getD (s .touches) t 0
     unfolding valueOf
     entry-of =
-        getD-any (valueOf s .refs) t (length (valueOf s .head .sizes)) 0 (omega (arith, steps-counted))
+        getD-any (valueOf s .entries) t (length (valueOf s .head .sizes)) 0 (omega (arith, steps-counted))
         ∙ getD-take (s .steps) (s .touches) t 0 lt
 
   module _ (i : ℕ) (lt : i < s .head .segs) where

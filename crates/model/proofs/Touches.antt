@@ -57,8 +57,8 @@ idle-touched T t i le = go (ltb i (segs T)) refl
     go false e = refl
 
 -- the entry of a step is its reference
-pub entry-ref : (T : Trace) (t : ℕ) → t < steps T → entry T t ≡ getD (T .refs) t 0
-entry-ref T t lt = getD-any (T .refs) t (segs T) 0 lt
+pub entry-ref : (T : Trace) (t : ℕ) → t < steps T → entry T t ≡ getD (T .entries) t 0
+entry-ref T t lt = getD-any (T .entries) t (segs T) 0 lt
 
 -- what a step adds whose entry is a segment, and one whose entry is none
 pub touching-at : (T : Trace) (f : ℕ → ℕ → ℕ) (t : ℕ) → entry T t < segs T → touching T f t ≡ f t (entry T t)

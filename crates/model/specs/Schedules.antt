@@ -9,6 +9,7 @@ use Rattle.model.specs.Costs.{totalCost}
 use Rattle.model.specs.Sums.{sum, tabulate}
 use Rattle.model.specs.Traces.{Trace, steps, touched, swapOf, unitOf, overTouches, overSegments}
 use Rattle.model.specs.Figures.{refCost, kept}
+use Rattle.model.specs.Sheets.{mostSegs}
 
 -- bit k of a byte
 abbrev pub bit : ℕ → ℕ → Bool
@@ -24,7 +25,7 @@ held T p (suc t) i = bit (getD p (32 * t + i / 8) 0) (i % 8)
 pub record Permitted (T : Trace) (p : List ℕ) : Type 0 where
   pub whole : length p ≡ 32 * steps T
   pub touched-held : (t i : ℕ) → t < steps T → touched T t i ≡ true → held T p (suc t) i ≡ true
-  pub others-stay : (t i : ℕ) → t < steps T → i < 256 → touched T t i ≡ false → held T p (suc t) i ≡ true → held T p t i ≡ true
+  pub others-stay : (t i : ℕ) → t < steps T → i < mostSegs → touched T t i ≡ false → held T p (suc t) i ≡ true → held T p t i ≡ true
 
 -- memory of a schedule: Q, and in each step 1 (time) or z (space) for every held untouched segment
 unfoldable pub scheduleMemory : Trace → List ℕ → ℕ

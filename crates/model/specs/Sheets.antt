@@ -24,7 +24,7 @@ pub record HeadValue : Type 0 where
 pub record SheetValue : Type 0 where
   pub form : ℕ
   pub head : HeadValue
-  pub refs : List ℕ
+  pub entries : List ℕ
   pub marks : List Bool
 
 -- the entry of a step without a touch
@@ -63,18 +63,18 @@ unfoldable pub listed : List ℕ → ℕ → Bool
 listed [] i = false
 listed (x ∷ xs) i = cond (eqb x i) true (listed xs i)
 
--- the run of a kind, a weight a, sizes, warm segments and references: a warm segment counts as touched and held at step 0 without cost
--- (F-6, in place of document 01's empty memory)
+-- the run of a kind, a weight a, sizes, warm segments and the entry of each step: a warm segment counts as touched and held at step 0
+-- without cost (F-6, in place of document 01's empty memory)
 abbrev pub runOf : Kind → ℕ → List ℕ → List ℕ → List ℕ → Trace
-runOf kind a sizes warm refs = record { kind = kind; a = a; sizes = sizes; start = listed warm; refs = refs }
+runOf kind a sizes warm entries = record { kind = kind; a = a; sizes = sizes; start = listed warm; entries = entries }
 
 -- the run of a head and the entry of each step
 abbrev pub headRun : HeadValue → List ℕ → Trace
-headRun head refs = runOf (head .kind) (head .a) (head .sizes) (head .warm) refs
+headRun head entries = runOf (head .kind) (head .a) (head .sizes) (head .warm) entries
 
 -- the run that a sheet records
 abbrev pub traceOf : SheetValue → Trace
-traceOf s = headRun (s .head) (s .refs)
+traceOf s = headRun (s .head) (s .entries)
 
 -- the marks of a list with one for each step: the touch in the step at place t modifies; a step beyond the list has none
 abbrev pub marksOf : List Bool → ℕ → Bool
@@ -122,10 +122,10 @@ pub record Valid (s : SheetValue) : Type 0 where
   pub form-within : s .form ≤ newestForm
   pub rows : RowsWithin (s .head .rows)
   pub run : RunWithin (traceOf s)
-  pub whole : s .form ≡ 1 → (t : ℕ) → t < length (s .refs) → entry (traceOf s) t < length (s .head .sizes)
+  pub whole : s .form ≡ 1 → (t : ℕ) → t < length (s .entries) → entry (traceOf s) t < length (s .head .sizes)
   pub warm : WarmWithin (length (s .head .sizes)) (s .head .warm)
   pub cold : s .form ≤ 2 → s .head .warm ≡ []
-  pub marked : 4 ≤ s .form → length (s .marks) ≡ length (s .refs)
+  pub marked : 4 ≤ s .form → length (s .marks) ≡ length (s .entries)
   pub modifying : (t : ℕ) → marksOf (s .marks) t ≡ true → entry (traceOf s) t < length (s .head .sizes)
   pub unmarked : s .form ≤ 3 → s .marks ≡ []
 

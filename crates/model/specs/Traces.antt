@@ -17,7 +17,7 @@ pub record Trace : Type 0 where
   pub a : ℕ
   pub sizes : List ℕ
   pub start : ℕ → Bool
-  pub refs : List ℕ
+  pub entries : List ℕ
 
 -- how many segments there are
 abbrev pub segs : Trace → ℕ
@@ -25,7 +25,7 @@ segs T = length (T .sizes)
 
 -- how many steps there are
 abbrev pub steps : Trace → ℕ
-steps T = length (T .refs)
+steps T = length (T .entries)
 
 -- z: the size of segment i
 abbrev pub sizeOf : Trace → ℕ → ℕ
@@ -41,7 +41,7 @@ unitOf T i = unitCost (T .kind) (sizeOf T i)
 
 -- the entry of the step at place t
 abbrev pub entry : Trace → ℕ → ℕ
-entry T t = getD (T .refs) t (segs T)
+entry T t = getD (T .entries) t (segs T)
 
 -- segment i is touched in the step at place t; an entry that is no segment number touches nothing
 abbrev pub touched : Trace → ℕ → ℕ → Bool

@@ -77,8 +77,8 @@ sheetOf v =
     record {
       form = v .form;
       head = headOf (v .head);
-      steps = length (v .refs);
-      touches = padded (v .refs) (idles mostSteps);
+      steps = length (v .entries);
+      touches = padded (v .entries) (idles mostSteps);
       marked = length (v .marks);
       marks = padded (v .marks) (blankMarks mostSteps);
     }
@@ -89,7 +89,7 @@ valueOf s =
     record {
       form = s .form;
       head = headValueOf (s .head);
-      refs = take (s .steps) (s .touches);
+      entries = take (s .steps) (s .touches);
       marks = take (s .marked) (s .marks);
     }
 

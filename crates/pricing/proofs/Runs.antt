@@ -86,7 +86,7 @@ module _ (T : Trace) (p : List ℕ) (t : ℕ) where
   -- the run up to that bit, and the bit
   pub passes-on : (e i old new s : ℕ) (c r : Changes) → t < steps T → Passes e i old new c → (bitXor old new ≡ 0 → ⊥)
       → e ≤ 256 → s ≡ trailingZeros 64 (bitXor old new)
-      → Passing (bit old s) (not (bit old s)) (segmentOf (segs T) (getD (T .refs) t 0)) (i + s) (unitAt (T .kind) (T .sizes) (i + s)) c r
+      → Passing (bit old s) (not (bit old s)) (segmentOf (segs T) (getD (T .entries) t 0)) (i + s) (unitAt (T .kind) (T .sizes) (i + s)) c r
       → Passes e (i + s + 1) (old / 2 ^ s / 2) (new / 2 ^ s / 2) r
   unfolding enters
   passes-on e i old new s c r place w ne few first one =

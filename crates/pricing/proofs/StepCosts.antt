@@ -159,7 +159,7 @@ loaded-told false h b w e = rw e
 
 -- a step whose segment is x, 256 where it touches none
 module _ (T : Trace) (ok : RunWithin T) (p : List ℕ) (t : ℕ) (lt : t < steps T) (x : ℕ)
-    (is : x ≡ segmentOf (segs T) (getD (T .refs) t 0)) where
+    (is : x ≡ segmentOf (segs T) (getD (T .entries) t 0)) where
   missing-told : missing T p t ≡ cond (ltb x 256) (not (held T p (suc t) x)) false
   unfolding missing
   missing-told =

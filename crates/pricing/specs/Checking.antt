@@ -14,7 +14,7 @@ use Rattle.model.specs.declared.Verdict.the-variants.{Accepted, Refused}
 use Rattle.pricing.specs.StepVerdicts.{stepsVerdict}
 use Rattle.pricing.specs.declared.PriceAnswer.{PriceAnswer}
 
--- a whole schedule: 8 where it does not have 32 × refs bytes, then its steps
+-- a whole schedule: 8 where it does not have 32 bytes for each step, then its steps
 unfoldable pub scheduleVerdict : Trace → List ℕ → Verdict
 scheduleVerdict T p = cond (eqb (length p) (32 * steps T)) (stepsVerdict T p (steps T)) (Refused ScheduleLength)
 

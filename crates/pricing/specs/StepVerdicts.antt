@@ -5,6 +5,7 @@ use mathlib.Core.List.{List}
 use lib.Dec.{ltb}
 use Rattle.model.specs.Traces.{Trace, segs, entry, touched}
 use Rattle.model.specs.Schedules.{held}
+use Rattle.model.specs.Sheets.{mostSegs}
 use Rattle.model.specs.declared.Refusal.the-variants.{TouchedNotHeld, HeldNotBefore}
 use Rattle.model.specs.declared.Verdict.{Verdict}
 use Rattle.model.specs.declared.Verdict.the-variants.{Accepted, Refused}
@@ -25,7 +26,7 @@ someEnters T p t (suc n) = someEnters T p t n || enters T p t n
 -- the step at place t by itself: 9 where the touched segment is not held, else 10 where another enters
 unfoldable pub stepVerdict : Trace → List ℕ → ℕ → Verdict
 stepVerdict T p t =
-    cond (missing T p t) (Refused TouchedNotHeld) (cond (someEnters T p t 256) (Refused HeldNotBefore) Accepted)
+    cond (missing T p t) (Refused TouchedNotHeld) (cond (someEnters T p t mostSegs) (Refused HeldNotBefore) Accepted)
 
 -- the first refusal of two stands
 abbrev pub firstOf : Verdict → Verdict → Verdict

@@ -3,7 +3,7 @@
 use crate::held_bits::StartWords;
 use model::Kind;
 use model::Refusal;
-use schedule::writing::NO_SEGMENT;
+use model::Sheet;
 ghost use mathlib.Core.Path.{_≡_};
 ghost use mathlib.Core.Bool.{true, false, cond, not};
 ghost use lib.Dec.{ltb};
@@ -160,7 +160,7 @@ fn lacks(start: StartWords, schedule: &[u8], t: usize, x: usize) -> bool
     requires { ⌜ (32 * t + 32 ≤ length (now schedule)) × (x ≤ mostSegs) ⌝ }
     ensures { λ r. ⌜ r ≡ cond (ltb x mostSegs) (not (heldOf start (now (schedule .entry)) (t + 1) x)) false ⌝ }
 {
-    if x < NO_SEGMENT {
+    if x < Sheet::MAX_SEGS {
         return !crate::held_bits::holds(start, schedule, t + 1, x);
     }
     false
@@ -171,7 +171,7 @@ fn loads_none(start: StartWords, schedule: &[u8], t: usize, x: usize) -> bool
     requires { ⌜ (32 * t ≤ length (now schedule)) × (x ≤ mostSegs) ⌝ }
     ensures { λ r. ⌜ r ≡ cond (ltb x mostSegs) (heldOf start (now (schedule .entry)) t x) true ⌝ }
 {
-    if x < NO_SEGMENT {
+    if x < Sheet::MAX_SEGS {
         return crate::held_bits::holds(start, schedule, t, x);
     }
     true

@@ -31,7 +31,7 @@ use Rattle.prints.specs.inner.Modtotals.{firstModtotals}
 use Rattle.prints.proofs.RowTotals.{modtotals-at}
 
 -- the listing of a sheet from its form, its counts, the figures of all rows and, where the form has them, their modtotals
-pub listing-is : (v : SheetValue) (form steps segs rows : ℕ) (totals : List ℕ) → v .form ≡ form → length (v .refs) ≡ steps
+pub listing-is : (v : SheetValue) (form steps segs rows : ℕ) (totals : List ℕ) → v .form ≡ form → length (v .entries) ≡ steps
     → length (v .head .sizes) ≡ segs → length (v .head .rows) ≡ rows → length (v .head .rows) ≤ mostRows
     → (leb 4 form ≡ true → (r : ℕ) → r < rows → getD totals r 0 ≡ rowModtotal v r)
     → listing form (refsOf (traceOf v)) steps segs (take rows (allFigures v)) totals ≡ listingOf v
@@ -39,7 +39,7 @@ unfolding listingOf
 listing-is v form steps segs rows totals f a b c most each =
     let n = length (v .head .rows) in
     rw (← f, ← a, ← b, ← c, figures-front v most)
-    (listing-same (v .form) (refsOf (traceOf v)) (length (v .refs)) (length (v .head .sizes)) (tabulate n (figuresAt v)) totals
+    (listing-same (v .form) (refsOf (traceOf v)) (length (v .entries)) (length (v .head .sizes)) (tabulate n (figuresAt v)) totals
     (tabulate n (rowModtotal v))
     (λ y r lt. let here : r < n = omega (arith, length-tabulate n (figuresAt v)) in
     each (rw f at y) r (omega (arith, c)) ∙ sym (getD-tabulate n (rowModtotal v) r 0 here)))

@@ -34,7 +34,7 @@ pub entries-first : (form segs : ℕ) (s : List ℕ) (m : ℕ) (l : LinesRead) (
     → parsedLines s l (entriesWith (leb 4 form) xs ms) ≡ entriesPart (leb 2 form) (leb 4 form) segs .reads s
 unfolding plainPart refsPart
 entries-first form segs s m l xs ms t e d =
-    let g : List ℕ → Entries = λ ys. record { refs = ys; marks = [] } in
+    let g : List ℕ → Entries = λ ys. record { entries = ys; marks = [] } in
     let c = sym (counted-most refsKey refKey 0 0 (segs - 1) m mostSteps s (parsedLines s l xs) e d) in
     rw (lt-leb 2 form t, lt-leb 4 form (omega arith)) (made g s l xs ∙ ap (λ p. andThen p (λ ys end. read (g ys) end)) c)
 

@@ -57,7 +57,7 @@ pub finished : (form : ℕ) (h : Head) (letters : Bool) (steps marked : ℕ) (to
     ≡ answerOf (accepted (record {
       form = form;
       head = headValueOf h;
-      refs = take steps touches;
+      entries = take steps touches;
       marks = cond letters (take steps marks) [];
     }))
 unfolding answerOf sheetOf

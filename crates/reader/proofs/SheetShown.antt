@@ -75,7 +75,7 @@ refs-plain segs xs =
 steps-plain : (letters : Bool) (segs : ℕ) (e : Entries) → AllPlain (stepsPart letters segs .lines e)
 unfolding stepsPart splitAt
 steps-plain letters segs e = (
-  (refl, refl, plain-number (length (e .refs))),
+  (refl, refl, plain-number (length (e .entries))),
   (
     (refl, refl, plain-number (length (touchesOf e))),
     plain-map (λ x. (refKey, touchWord x)) (λ x. (refl, refl, plain-touch x)) (touchesOf e),
@@ -86,7 +86,7 @@ steps-plain letters segs e = (
 entries-plain : (later letters : Bool) (segs : ℕ) (e : Entries) → AllPlain (entriesPart later letters segs .lines e)
 unfolding plainPart
 entries-plain true letters segs e = steps-plain letters segs e
-entries-plain false letters segs e = plain-append (refsPart segs .lines (e .refs)) [] (refs-plain segs (e .refs)) tt
+entries-plain false letters segs e = plain-append (refsPart segs .lines (e .entries)) [] (refs-plain segs (e .entries)) tt
 
 form-plain : (form : ℕ) → AllPlain (formLines form)
 unfolding splitAt
@@ -153,10 +153,10 @@ warm-count : (segs : ℕ) (xs : List ℕ) → length (warmPart segs .lines xs) �
 unfolding warmPart
 warm-count segs xs = counted-count (λ x. (holdKey, written x)) xs
 
-refs-count : (segs : ℕ) (e : Entries) → length (plainPart segs .lines e) ≡ 1 + length (e .refs)
+refs-count : (segs : ℕ) (e : Entries) → length (plainPart segs .lines e) ≡ 1 + length (e .entries)
 unfolding plainPart refsPart
 refs-count segs e =
-    ap length (append-nil (refsPart segs .lines (e .refs))) ∙ counted-count (λ x. (refKey, written x)) (e .refs)
+    ap length (append-nil (refsPart segs .lines (e .entries))) ∙ counted-count (λ x. (refKey, written x)) (e .entries)
 
 steps-count : (letters : Bool) (segs : ℕ) (e : Entries) → length (stepsPart letters segs .lines e) ≡ 2 + length (touchesOf e)
 unfolding stepsPart
@@ -164,7 +164,7 @@ steps-count letters segs e = omega (arith, length-map {B = Line} (touchesOf e) (
 
 -- beside those of the sizes and the rows, form 1 has 5 lines and one for each reference
 pub lines-count : (v : SheetValue) → leb 2 (v .form) ≡ false
-    → length (sheetShown v) ≡ 5 + (length (v .head .sizes) + (length (v .head .rows) + length (v .refs)))
+    → length (sheetShown v) ≡ 5 + (length (v .head .sizes) + (length (v .head .rows) + length (v .entries)))
 lines-count v e =
     let f = lt-leb 3 (v .form) (omega (arith, leb-false 2 (v .form) e)) in
     let segs = length (v .head .sizes) in

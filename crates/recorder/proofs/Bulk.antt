@@ -139,7 +139,7 @@ takable-accepted segs count (x ∷ xs) s =
 -- the recorder that stands for a sheet stands for it with no reference more
 pub none-appended : (v : SheetValue) (xs : List ℕ) → length xs ≡ 0 → recorderOf v ≡ recorderOf (appended v xs)
 unfolding recorderOf
-none-appended v [] none = rw (append-nil (v .refs)) refl
+none-appended v [] none = rw (append-nil (v .entries)) refl
 none-appended v (x ∷ xs) none = absurd (omega arith)
 
 -- references that can be taken are within the number that a sheet has
@@ -149,7 +149,7 @@ takable-few segs count (x ∷ xs) s le = omega (arith, s .room (length xs) (omeg
 
 -- the verdict of a recorder that stands for a sheet
 pub verdict-of : (R : Recorder) (xs : List ℕ) (v : SheetValue) → Valid v → R ≡ recorderOf v
-    → touchAllVerdict R xs ≡ refsVerdict (length (v .head .sizes)) (length (v .refs)) xs
+    → touchAllVerdict R xs ≡ refsVerdict (length (v .head .sizes)) (length (v .entries)) xs
 unfolding recorderOf headOf
 verdict-of R xs v valid e =
     let all : min (length (v .head .sizes)) mostSegs ≡ length (v .head .sizes) = omega (arith, valid .run .segs-within) in
@@ -157,8 +157,8 @@ verdict-of R xs v valid e =
 
 -- references that such a recorder accepts can be taken after the sheet
 pub takable-of : (R : Recorder) (xs : List ℕ) → touchAllVerdict R xs ≡ Accepted
-    → (v : SheetValue) → Valid v → R ≡ recorderOf v → Takable (length (v .head .sizes)) (length (v .refs)) xs
-takable-of R xs a v valid e = takable (length (v .head .sizes)) (length (v .refs)) xs (sym (verdict-of R xs v valid e) ∙ a)
+    → (v : SheetValue) → Valid v → R ≡ recorderOf v → Takable (length (v .head .sizes)) (length (v .entries)) xs
+takable-of R xs a v valid e = takable (length (v .head .sizes)) (length (v .entries)) xs (sym (verdict-of R xs v valid e) ∙ a)
 
 -- the touches after one, by the verdict on that one
 rest-touched : SheetValue → ℕ → List ℕ → Verdict → TouchAnswer
@@ -174,23 +174,23 @@ record OneByOne (v : SheetValue) (xs : List ℕ) (r : TouchAnswer) (w : Verdict)
   all-taken : r .verdict ≡ Accepted → r .recorder ≡ recorderOf (appended v xs)
 
 one-by-one-step : (v : SheetValue) (x : ℕ) (xs : List ℕ)
-    → OneByOne (taken v x) xs (oneByOne (taken v x) xs) (refsVerdict (min (length (v .head .sizes)) mostSegs) (suc (length (v .refs))) xs)
+    → OneByOne (taken v x) xs (oneByOne (taken v x) xs) (refsVerdict (min (length (v .head .sizes)) mostSegs) (suc (length (v .entries))) xs)
     → (w : Verdict)
-    → OneByOne v (x ∷ xs) (rest-touched v x xs w) (rest-verdict (min (length (v .head .sizes)) mostSegs) (length (v .refs)) xs w)
+    → OneByOne v (x ∷ xs) (rest-touched v x xs w) (rest-verdict (min (length (v .head .sizes)) mostSegs) (length (v .entries)) xs w)
 unfolding rest-touched rest-verdict
 one-by-one-step v x xs rest Accepted =
     record {
       verdict-is = rest .verdict-is;
-      all-taken = λ a. rest .all-taken a ∙ ap recorderOf (rw (append-assoc (v .refs) (x ∷ []) xs) refl);
+      all-taken = λ a. rest .all-taken a ∙ ap recorderOf (rw (append-assoc (v .entries) (x ∷ []) xs) refl);
     }
 one-by-one-step v x xs rest (Refused why) = record { verdict-is = refl; all-taken = λ a. refused-accepted why a }
 
 one-by-one : (v : SheetValue) (xs : List ℕ)
-    → OneByOne v xs (oneByOne v xs) (refsVerdict (min (length (v .head .sizes)) mostSegs) (length (v .refs)) xs)
+    → OneByOne v xs (oneByOne v xs) (refsVerdict (min (length (v .head .sizes)) mostSegs) (length (v .entries)) xs)
 unfolding oneByOne rest-touched refsVerdict rest-verdict recorderOf headOf
 one-by-one v [] = record { verdict-is = refl; all-taken = λ a. none-appended v [] refl }
 one-by-one v (x ∷ xs) =
-    let one : length (v .refs ++ (x ∷ [])) ≡ suc (length (v .refs)) = omega (arith, length-append (v .refs) (x ∷ [])) in
+    let one : length (v .entries ++ (x ∷ [])) ≡ suc (length (v .entries)) = omega (arith, length-append (v .entries) (x ∷ [])) in
     one-by-one-step v x xs (rw one at (one-by-one (taken v x) xs)) (touchVerdict (recorderOf v) x)
 
 -- taking all at once is touching one by one: the verdict is the same, and where it accepts so is the whole answer
@@ -209,11 +209,11 @@ touched-one-by-one R xs r t v valid e =
 
 -- references that a recorder that stands for a sheet accepts leave the sheet's run within the limits, and a sheet of forms 1 to 3
 module _ (R : Recorder) (xs : List ℕ) (a : touchAllVerdict R xs ≡ Accepted) (v : SheetValue) (valid : Valid v) (e : R ≡ recorderOf v) where
-  can : Takable (length (v .head .sizes)) (length (v .refs)) xs
+  can : Takable (length (v .head .sizes)) (length (v .entries)) xs
   can = takable-of R xs a v valid e
 
-  few : length (v .refs) + length xs ≤ mostSteps
-  few = takable-few (length (v .head .sizes)) (length (v .refs)) xs can (valid .run .steps-within)
+  few : length (v .entries) + length xs ≤ mostSteps
+  few = takable-few (length (v .head .sizes)) (length (v .entries)) xs can (valid .run .steps-within)
 
   pub all-run : RunWithin (traceOf (appended v xs))
   all-run = appended-run v valid xs (can .segments) few

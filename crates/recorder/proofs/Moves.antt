@@ -32,8 +32,8 @@ moves-append v (m ∷ ms) ns = moves-append (moved v m) ms ns
 pub moves-touch : (v : SheetValue) → v .marks ≡ [] → (xs : List ℕ) → afterMoves v (map touching xs) ≡ appended v xs
 unfolding afterMoves
 moves-touch v none [] =
-    rw (append-nil (v .refs)) (ap (λ (m : List Bool). record { form = v .form; head = v .head; refs = v .refs; marks = m }) none)
-moves-touch v none (x ∷ xs) = moves-touch (taken v x) refl xs ∙ rw (append-assoc (v .refs) (x ∷ []) xs) refl
+    rw (append-nil (v .entries)) (ap (λ (m : List Bool). record { form = v .form; head = v .head; entries = v .entries; marks = m }) none)
+moves-touch v none (x ∷ xs) = moves-touch (taken v x) refl xs ∙ rw (append-assoc (v .entries) (x ∷ []) xs) refl
 
 -- the head stays, and each move is one entry more
 pub moves-head : (v : SheetValue) (ms : List Move) → afterMoves v ms .head ≡ v .head
@@ -42,11 +42,11 @@ moves-head v [] = refl
 moves-head v (touching x ∷ ms) = moves-head (taken v x) ms
 moves-head v (resting ∷ ms) = moves-head (rested v) ms
 
-pub moves-entries : (v : SheetValue) (ms : List Move) → afterMoves v ms .refs ≡ v .refs ++ map entryOf ms
+pub moves-entries : (v : SheetValue) (ms : List Move) → afterMoves v ms .entries ≡ v .entries ++ map entryOf ms
 unfolding afterMoves
-moves-entries v [] = sym (append-nil (v .refs))
-moves-entries v (touching x ∷ ms) = moves-entries (taken v x) ms ∙ append-assoc (v .refs) (x ∷ []) (map entryOf ms)
-moves-entries v (resting ∷ ms) = moves-entries (rested v) ms ∙ append-assoc (v .refs) (idle ∷ []) (map entryOf ms)
+moves-entries v [] = sym (append-nil (v .entries))
+moves-entries v (touching x ∷ ms) = moves-entries (taken v x) ms ∙ append-assoc (v .entries) (x ∷ []) (map entryOf ms)
+moves-entries v (resting ∷ ms) = moves-entries (rested v) ms ∙ append-assoc (v .entries) (idle ∷ []) (map entryOf ms)
 
 -- a move that is accepted leaves a sheet of forms 1 to 3 within the limits, and one of these forms
 pub moved-valid : (R : Recorder) (m : Move) → moveVerdict R m ≡ Accepted
@@ -94,8 +94,8 @@ entries-again segs (x ∷ xs) known =
     rw (entry-again segs x (known 0 (omega arith)), entries-again segs xs (λ t lt. known (suc t) (omega arith))) refl
 
 -- a recorder depends on the head and the entries of its sheet alone
-recorder-same : (v : SheetValue) (form : ℕ) (head : HeadValue) (refs : List ℕ) (marks : List Bool) → head ≡ v .head → refs ≡ v .refs
-    → recorderOf (record { form = form; head = head; refs = refs; marks = marks }) ≡ recorderOf v
+recorder-same : (v : SheetValue) (form : ℕ) (head : HeadValue) (refs : List ℕ) (marks : List Bool) → head ≡ v .head → refs ≡ v .entries
+    → recorderOf (record { form = form; head = head; entries = refs; marks = marks }) ≡ recorderOf v
 unfolding recorderOf
 recorder-same v form head refs marks h r = rw (h, r) refl
 
@@ -103,8 +103,8 @@ recorder-same v form head refs marks h r = rw (h, r) refl
 pub sheet-moves : (v : SheetValue) → Valid v → recorderOf (afterMoves (started v) (movesOf v)) ≡ recorderOf v
 sheet-moves v valid =
     let after = afterMoves (started v) (movesOf v) in
-    recorder-same v (after .form) (after .head) (after .refs) (after .marks) (moves-head (started v) (movesOf v))
-    (moves-entries (started v) (movesOf v) ∙ entries-again (length (v .head .sizes)) (v .refs) (valid .run .entry-within))
+    recorder-same v (after .form) (after .head) (after .entries) (after .marks) (moves-head (started v) (movesOf v))
+    (moves-entries (started v) (movesOf v) ∙ entries-again (length (v .head .sizes)) (v .entries) (valid .run .entry-within))
 
 -- one move that is accepted, and then the rest
 first-move : (v : SheetValue) (m : Move) (ms : List Move) → moveVerdict (recorderOf v) m ≡ Accepted → movesVerdict (moved v m) ms ≡ Accepted
@@ -121,16 +121,16 @@ first-move v m ms a rest =
     ∙ rest
 
 -- where there is room, a touch of a segment is accepted, and an idle step
-module _ (v : SheetValue) (few : length (v .head .sizes) ≤ mostSegs) (room : length (v .refs) < mostSteps) where
+module _ (v : SheetValue) (few : length (v .head .sizes) ≤ mostSegs) (room : length (v .entries) < mostSteps) where
   touch-accepted : (x : ℕ) → x < length (v .head .sizes) → touchVerdict (recorderOf v) x ≡ Accepted
   unfolding recorderOf headOf
   touch-accepted x lt =
       let all : min (length (v .head .sizes)) mostSegs ≡ length (v .head .sizes) = omega arith in
-      rw (all, lt-ltb x (length (v .head .sizes)) lt, lt-ltb (length (v .refs)) mostSteps room) refl
+      rw (all, lt-ltb x (length (v .head .sizes)) lt, lt-ltb (length (v .entries)) mostSteps room) refl
 
   rest-accepted : idleVerdict (recorderOf v) ≡ Accepted
   unfolding recorderOf
-  rest-accepted = rw (lt-ltb (length (v .refs)) mostSteps room) refl
+  rest-accepted = rw (lt-ltb (length (v .entries)) mostSteps room) refl
 
   -- an entry is accepted as a move, and then the rest
   entry-accepted : (x : ℕ) (ms : List Move)
@@ -145,15 +145,15 @@ module _ (v : SheetValue) (few : length (v .head .sizes) ≤ mostSegs) (room : l
       go false e = first-move v resting ms rest-accepted after-rest
 
 -- entries, not too many, are all accepted as moves after a sheet
-entries-accepted : (v : SheetValue) → length (v .head .sizes) ≤ mostSegs → (xs : List ℕ) → length (v .refs) + length xs ≤ mostSteps
+entries-accepted : (v : SheetValue) → length (v .head .sizes) ≤ mostSegs → (xs : List ℕ) → length (v .entries) + length xs ≤ mostSteps
     → movesVerdict v (map (moveOf (length (v .head .sizes))) xs) ≡ Accepted
 unfolding movesVerdict
 entries-accepted v few [] room = refl
 entries-accepted v few (x ∷ xs) room =
     entry-accepted v few (omega arith) x (map (moveOf (length (v .head .sizes))) xs)
-    (λ lt. entries-accepted (taken v x) few xs (omega (arith, length-append (v .refs) (x ∷ []))))
-    (entries-accepted (rested v) few xs (omega (arith, length-append (v .refs) (idle ∷ []))))
+    (λ lt. entries-accepted (taken v x) few xs (omega (arith, length-append (v .entries) (x ∷ []))))
+    (entries-accepted (rested v) few xs (omega (arith, length-append (v .entries) (idle ∷ []))))
 
 -- so are those that a sheet records, from its head on
 pub moves-accepted : (v : SheetValue) → Valid v → movesVerdict (started v) (movesOf v) ≡ Accepted
-moves-accepted v valid = entries-accepted (started v) (valid .run .segs-within) (v .refs) (omega (arith, valid .run .steps-within))
+moves-accepted v valid = entries-accepted (started v) (valid .run .segs-within) (v .entries) (omega (arith, valid .run .steps-within))

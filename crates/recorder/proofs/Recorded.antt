@@ -21,12 +21,12 @@ unfolding recorderOf tallyOf
 counts-are v valid = counts-add-up (v .head .rows) (valid .rows) (traceOf v)
 
 -- a sheet's references are all accepted, from its head on, where every step has one
-pub sheet-accepted : (v : SheetValue) → Valid v → ((t : ℕ) → t < length (v .refs) → entry (traceOf v) t < segs (traceOf v))
-    → touchAllVerdict (recorderOf (started v)) (v .refs) ≡ Accepted
+pub sheet-accepted : (v : SheetValue) → Valid v → ((t : ℕ) → t < length (v .entries) → entry (traceOf v) t < segs (traceOf v))
+    → touchAllVerdict (recorderOf (started v)) (v .entries) ≡ Accepted
 sheet-accepted v valid whole =
-    verdict-of (recorderOf (started v)) (v .refs) (started v) (started-valid v valid) refl
-    ∙ takable-accepted (length (v .head .sizes)) 0 (v .refs)
+    verdict-of (recorderOf (started v)) (v .entries) (started v) (started-valid v valid) refl
+    ∙ takable-accepted (length (v .head .sizes)) 0 (v .entries)
     (record {
-      segments = λ t lt. rw (getD-any (v .refs) t 0 (length (v .head .sizes)) lt) (whole t lt);
+      segments = λ t lt. rw (getD-any (v .entries) t 0 (length (v .head .sizes)) lt) (whole t lt);
       room = λ t lt. omega (arith, valid .run .steps-within);
     })

@@ -37,9 +37,9 @@ ends-of : (v : SheetValue) → Valid v → (rows segs steps : ℕ) (hs ds : List
     → b ≡ tallyOf (v .head .rows) (traceOf v) .ends
 unfolding recorderOf headOf
 ends-of v valid rows segs steps hs ds b rows-are segs-are steps-are priced ended =
-    let all : length (v .refs) ≡ steps = omega (arith, valid .run .steps-within) in
+    let all : length (v .entries) ≡ steps = omega (arith, valid .run .steps-within) in
     let sizes = front (v .head .sizes) (zeros mostSegs) segs mostSegs (valid .run .segs-within) segs-are in
-    (rw sizes at ended) (v .head .rows) (head-rows (v .head) (valid .rows) rows rows-are hs ds priced) (v .head .warm) (v .refs) all
+    (rw sizes at ended) (v .head .rows) (head-rows (v .head) (valid .rows) rows rows-are hs ds priced) (v .head .warm) (v .entries) all
     (valid .run)
     (ap (lastTable (traceOf v)) all)
 
@@ -62,7 +62,7 @@ starts-of v valid =
     rw (
       front (v .head .sizes) (zeros mostSegs) (min (length (v .head .sizes)) mostSegs) mostSegs (valid .run .segs-within) refl,
       front (v .head .warm) (zeros mostSegs) (min (length (v .head .warm)) mostSegs) mostSegs (few-warm v valid) refl,
-    ) (starts-are (v .head .kind) (v .head .a) (v .head .sizes) (v .head .warm) (v .refs))
+    ) (starts-are (v .head .kind) (v .head .a) (v .head .sizes) (v .head .warm) (v .entries))
 
 -- the figures f of a row of the recorder R as the code makes them
 pub record Swept (R : Recorder) (row : ℕ) (f : RowFigures) : Type 0 where

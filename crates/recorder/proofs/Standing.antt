@@ -76,7 +76,7 @@ pub stands-roomy : (R : Recorder) (v : SheetValue) → Valid v → R ≡ recorde
 stands-roomy R v valid e = rw e (standing-roomy v valid)
 
 -- a recorder that holds a sheet's head and what the pass has after its steps stands for the sheet
-pub recorder-passed : (v : SheetValue) (n : ℕ) → n ≡ length (v .refs) → (buckets : List Bucket) (last : List ℕ) (cost volume : ℕ)
+pub recorder-passed : (v : SheetValue) (n : ℕ) → n ≡ length (v .entries) → (buckets : List Bucket) (last : List ℕ) (cost volume : ℕ)
     → record { buckets = buckets; last = last } ≡ passedOf (v .head .rows) (traceOf v) → cost ≡ refCost (traceOf v)
     → volume ≡ refVolume (traceOf v)
     → record { head = headOf (v .head); steps = n; last = last; buckets = buckets; cost = cost; volume = volume } ≡ recorderOf v
@@ -122,7 +122,7 @@ steps-valid : (v : SheetValue) → Valid v → (form : ℕ) → v .form ≤ form
     → (refs : List ℕ) → RunWithin (headRun (v .head) refs)
     → (form ≡ 1 → (t : ℕ) → t < length refs → getD refs t (length (v .head .sizes)) < length (v .head .sizes))
     → (4 ≤ form → length refs ≡ 0)
-    → Valid (record { form = form; head = v .head; refs = refs; marks = [] })
+    → Valid (record { form = form; head = v .head; entries = refs; marks = [] })
 steps-valid v valid form least known refs within segments none =
     record {
       some-form = omega (arith, valid .some-form);
@@ -139,21 +139,21 @@ steps-valid v valid form least known refs within segments none =
 
 -- more references
 module _ (v : SheetValue) (valid : Valid v) (xs : List ℕ) (segments : (t : ℕ) → t < length xs → getD xs t 0 < length (v .head .sizes))
-    (room : length (v .refs) + length xs ≤ mostSteps) where
+    (room : length (v .entries) + length xs ≤ mostSteps) where
   pub appended-run : RunWithin (traceOf (appended v xs))
   appended-run =
-      steps-run v valid (v .refs ++ xs) (omega (arith, length-append (v .refs) xs))
-      (appended-each (Entry v) (v .refs) xs (length (v .head .sizes)) 0 (valid .run .entry-within) (λ t lt. inl (segments t lt)))
+      steps-run v valid (v .entries ++ xs) (omega (arith, length-append (v .entries) xs))
+      (appended-each (Entry v) (v .entries) xs (length (v .head .sizes)) 0 (valid .run .entry-within) (λ t lt. inl (segments t lt)))
 
   pub appended-valid : v .form ≤ 3 → Valid (appended v xs)
   appended-valid early =
       let segs = length (v .head .sizes) in
-      steps-valid v valid (v .form) (omega arith) (valid .form-within) (v .refs ++ xs) appended-run
-      (λ first. appended-each (λ x. x < segs) (v .refs) xs segs 0 (valid .whole first) segments)
+      steps-valid v valid (v .form) (omega arith) (valid .form-within) (v .entries ++ xs) appended-run
+      (λ first. appended-each (λ x. x < segs) (v .entries) xs segs 0 (valid .whole first) segments)
       (λ late. absurd (omega arith))
 
 -- one reference more
-pub taken-run : (v : SheetValue) → Valid v → (x : ℕ) → x < length (v .head .sizes) → length (v .refs) < mostSteps
+pub taken-run : (v : SheetValue) → Valid v → (x : ℕ) → x < length (v .head .sizes) → length (v .entries) < mostSteps
     → RunWithin (traceOf (taken v x))
 taken-run v valid x lt room = appended-run v valid (x ∷ []) (λ t l. one t (omega arith)) (omega arith)
   where
@@ -161,11 +161,11 @@ taken-run v valid x lt room = appended-run v valid (x ∷ []) (λ t l. one t (om
     one t e = rw e lt
 
 -- one idle step more
-pub rested-valid : (v : SheetValue) → Valid v → v .form ≤ 3 → length (v .refs) < mostSteps → Valid (rested v)
+pub rested-valid : (v : SheetValue) → Valid v → v .form ≤ 3 → length (v .entries) < mostSteps → Valid (rested v)
 rested-valid v valid early room =
-    steps-valid v valid (max 2 (v .form)) (omega arith) (omega (arith, valid .form-within)) (v .refs ++ (idle ∷ []))
-    (steps-run v valid (v .refs ++ (idle ∷ [])) (omega (arith, length-append (v .refs) (idle ∷ [])))
-    (appended-each (Entry v) (v .refs) (idle ∷ []) (length (v .head .sizes)) 0 (valid .run .entry-within)
+    steps-valid v valid (max 2 (v .form)) (omega arith) (omega (arith, valid .form-within)) (v .entries ++ (idle ∷ []))
+    (steps-run v valid (v .entries ++ (idle ∷ [])) (omega (arith, length-append (v .entries) (idle ∷ [])))
+    (appended-each (Entry v) (v .entries) (idle ∷ []) (length (v .head .sizes)) 0 (valid .run .entry-within)
     (λ t l. inr (one t (omega arith)))))
     (λ first. absurd (omega (arith, first)))
     (λ late. absurd (omega arith))
@@ -175,20 +175,20 @@ rested-valid v valid early room =
 
 -- the same steps in form 2 or 3
 pub later-valid : (v : SheetValue) → Valid v → v .form ≤ 3
-    → Valid (record { form = max 2 (v .form); head = v .head; refs = v .refs; marks = [] })
+    → Valid (record { form = max 2 (v .form); head = v .head; entries = v .entries; marks = [] })
 later-valid v valid early =
-    steps-valid v valid (max 2 (v .form)) (omega arith) (omega (arith, valid .form-within)) (v .refs) (valid .run)
+    steps-valid v valid (max 2 (v .form)) (omega arith) (omega (arith, valid .form-within)) (v .entries) (valid .run)
     (λ first. absurd (omega (arith, first))) (λ late. absurd (omega arith))
 
 -- a recorder that takes an idle step has room for it
-pub idle-room : (R : Recorder) (v : SheetValue) → R ≡ recorderOf v → idleVerdict R ≡ Accepted → length (v .refs) < mostSteps
+pub idle-room : (R : Recorder) (v : SheetValue) → R ≡ recorderOf v → idleVerdict R ≡ Accepted → length (v .entries) < mostSteps
 unfolding recorderOf
 idle-room R v e a =
-    go (ltb (length (v .refs)) mostSteps) refl (ap (λ (Q : Recorder). stepVerdict (Q .steps)) (sym e) ∙ a)
+    go (ltb (length (v .entries)) mostSteps) refl (ap (λ (Q : Recorder). stepVerdict (Q .steps)) (sym e) ∙ a)
   where
-    go : (b : Bool) → ltb (length (v .refs)) mostSteps ≡ b → cond b Accepted (Refused RecorderFull) ≡ Accepted
-        → length (v .refs) < mostSteps
-    go true l w = ltb-true (length (v .refs)) mostSteps l
+    go : (b : Bool) → ltb (length (v .entries)) mostSteps ≡ b → cond b Accepted (Refused RecorderFull) ≡ Accepted
+        → length (v .entries) < mostSteps
+    go true l w = ltb-true (length (v .entries)) mostSteps l
     go false l w = let z : _≡_ {A = ℕ} 0 1 = cc in omega arith
 
 -- no steps

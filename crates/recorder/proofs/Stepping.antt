@@ -60,12 +60,12 @@ pub record Stepped (R : Recorder) (x : ℕ) (N : Recorder) : Type 0 where
   }
 
 -- a step of the code from the recorder of v
-stepped-of : (v : SheetValue) → Valid v → (x : ℕ) → x < length (v .head .sizes) → length (v .refs) < mostSteps
+stepped-of : (v : SheetValue) → Valid v → (x : ℕ) → x < length (v .head .sizes) → length (v .entries) < mostSteps
     → (N : Recorder) → Stepped (recorderOf v) x N → N ≡ recorderOf (taken v x)
 unfolding recorderOf headOf
 stepped-of v valid x lt room N s =
     let T = traceOf v in
-    let n = length (v .refs) in
+    let n = length (v .entries) in
     let rows = v .head .rows in
     let sizes = v .head .sizes in
     let run = valid .run in
@@ -82,7 +82,7 @@ stepped-of v valid x lt room N s =
     let all : passedAfter rows (grown T x) (n + 1) ≡ passedOf rows (grown T x) = ap (passedAfter rows (grown T x)) end in
     let passed =
     pass-step rows (grown T x) n (recorderOf v .buckets) (recorderOf v .last)
-    (standing v ∙ passed-agree rows T (v .refs ++ (x ∷ [])) n (grown-agree T x)) (taken-run v valid x lt room)
+    (standing v ∙ passed-agree rows T (v .entries ++ (x ∷ [])) n (grown-agree T x)) (taken-run v valid x lt room)
     (omega (arith, steps-grown T x)) x (entry-grown T x) lt (s .touch) (s .limited) y-is (s .bucket) b-is in
     s .next-is
     ∙ recorder-passed (taken v x) (n + 1) end (set (recorderOf v .buckets) (s .touch .bucket) (s .bucket))
@@ -103,14 +103,14 @@ rested-of : (v : SheetValue) → Valid v → withStep (recorderOf v) ≡ recorde
 unfolding recorderOf
 rested-of v valid =
     let T = traceOf v in
-    let n = length (v .refs) in
+    let n = length (v .entries) in
     let rows = v .head .rows in
     let none : segs T ≤ idle = omega (arith, valid .run .segs-within) in
     let end : n + 1 ≡ steps (grown T idle) = omega (arith, steps-grown T idle) in
     let all : passedAfter rows (grown T idle) (n + 1) ≡ passedOf rows (grown T idle) = ap (passedAfter rows (grown T idle)) end in
     let passed =
     pass-idle rows (grown T idle) n (recorderOf v .buckets) (recorderOf v .last)
-    (standing v ∙ passed-agree rows T (v .refs ++ (idle ∷ [])) n (grown-agree T idle)) (rw (entry-grown T idle) none) in
+    (standing v ∙ passed-agree rows T (v .entries ++ (idle ∷ [])) n (grown-agree T idle)) (rw (entry-grown T idle) none) in
     let cost : refCost T ≡ refCost (grown T idle) = omega (arith, rw (le-ltb idle (segs T) none) at (cost-grown T idle)) in
     let volume : refVolume T ≡ refVolume (grown T idle) = omega (arith, rw (le-ltb idle (segs T) none) at (volume-grown T idle)) in
     recorder-passed (rested v) (n + 1) end (recorderOf v .buckets) (recorderOf v .last) (refCost T) (refVolume T) (passed ∙ all) cost volume
@@ -124,16 +124,16 @@ passed-of : (v : SheetValue) (rows segs : ℕ) (hs ds : List ℕ) (p : Passed) (
     → rows ≡ min (headOf (v .head) .rows) mostRows → segs ≡ min (headOf (v .head) .segs) mostSegs
     → PricedBy hs ds rows (headOf (v .head) .prices)
     → PassedOn (headOf (v .head) .kind) (headOf (v .head) .a) (take segs (headOf (v .head) .sizes)) rows hs ds n xs p r
-    → RowsWithin (v .head .rows) → RunWithin (traceOf (appended v xs)) → length (v .refs) ≡ n → p ≡ passedOf (v .head .rows) (traceOf v)
+    → RowsWithin (v .head .rows) → RunWithin (traceOf (appended v xs)) → length (v .entries) ≡ n → p ≡ passedOf (v .head .rows) (traceOf v)
     → r ≡ passedOf (v .head .rows) (traceOf (appended v xs))
 unfolding headOf
 passed-of v rows segs hs ds p n xs r rows-are segs-are priced on up run all is =
     let T = traceOf v in
-    let U = withRefs T (v .refs ++ xs) in
+    let U = withRefs T (v .entries ++ xs) in
     let sizes = front (v .head .sizes) (zeros mostSegs) segs mostSegs (run .segs-within) segs-are in
-    (rw sizes at on) (v .head .rows) (head-rows (v .head) up rows rows-are hs ds priced) (v .head .warm) (v .refs) all run
-    (rw (← all) (is ∙ passed-agree (v .head .rows) T (v .refs ++ xs) (length (v .refs))
-    (λ t lt. List·getD-append (v .refs) xs (length (v .head .sizes)) t lt)))
+    (rw sizes at on) (v .head .rows) (head-rows (v .head) up rows rows-are hs ds priced) (v .head .warm) (v .entries) all run
+    (rw (← all) (is ∙ passed-agree (v .head .rows) T (v .entries ++ xs) (length (v .entries))
+    (λ t lt. List·getD-append (v .entries) xs (length (v .head .sizes)) t lt)))
 
 pub passed-on : (head : Head) (rows segs : ℕ) (hs ds : List ℕ) (p : Passed) (n : ℕ) (xs : List ℕ) (r : Passed)
     → rows ≡ min (head .rows) mostRows → segs ≡ min (head .segs) mostSegs
@@ -165,7 +165,7 @@ taken-of v xs up run p all cost on all-is cost-is =
     let given : Tallied rows T tally =
     record { rows-ok = up; run-ok = run; is-tally = rw (ap (λ (q : Passed). q .buckets) passed) refl } in
     let sums = all-is (tallied-buckets rows T tally given) in
-    recorder-passed (appended v xs) (length (v .refs) + length xs) (sym (length-append (v .refs) xs)) (p .buckets) (p .last) cost
+    recorder-passed (appended v xs) (length (v .entries) + length xs) (sym (length-append (v .entries) xs)) (p .buckets) (p .last) cost
     (all .volume) passed (cost-is ∙ tallied-cost rows T tally given sums) (tallied-volume rows T tally given sums)
 
 -- from any recorder that stands for v

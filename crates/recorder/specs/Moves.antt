@@ -61,4 +61,4 @@ abbrev pub moveOf : ℕ → ℕ → Move
 moveOf segs x = cond (ltb x segs) (touching x) resting
 
 abbrev pub movesOf : SheetValue → List Move
-movesOf v = map (moveOf (length (v .head .sizes))) (v .refs)
+movesOf v = map (moveOf (length (v .head .sizes))) (v .entries)

@@ -27,9 +27,9 @@ unfoldable pub recorderOf : SheetValue → Recorder
 recorderOf v =
     record {
       head = headOf (v .head);
-      steps = length (v .refs);
-      last = lastTable (traceOf v) (length (v .refs));
-      buckets = tabulate bucketCount (bucketAfter (v .head .rows) (traceOf v) (length (v .refs)));
+      steps = length (v .entries);
+      last = lastTable (traceOf v) (length (v .entries));
+      buckets = tabulate bucketCount (bucketAfter (v .head .rows) (traceOf v) (length (v .entries)));
       cost = refCost (traceOf v);
       volume = refVolume (traceOf v);
     }
@@ -40,11 +40,11 @@ emptyRecorder = record { head = emptyHead; steps = 0; last = startTable []; buck
 
 -- the form and the head of a sheet, its warm segments among it, with no steps. A recorder takes forms 1 to 3, which have no marks
 abbrev pub started : SheetValue → SheetValue
-started v = record { form = v .form; head = v .head; refs = []; marks = [] }
+started v = record { form = v .form; head = v .head; entries = []; marks = [] }
 
 -- a sheet's value with the references xs after its own
 abbrev pub appended : SheetValue → List ℕ → SheetValue
-appended v xs = record { form = v .form; head = v .head; refs = v .refs ++ xs; marks = [] }
+appended v xs = record { form = v .form; head = v .head; entries = v .entries ++ xs; marks = [] }
 
 -- one reference more
 abbrev pub taken : SheetValue → ℕ → SheetValue
@@ -52,7 +52,7 @@ taken v x = appended v (x ∷ [])
 
 -- one idle step more: form 1 has none, so the form is then 2 or more
 abbrev pub rested : SheetValue → SheetValue
-rested v = record { form = max 2 (v .form); head = v .head; refs = v .refs ++ (idle ∷ []); marks = [] }
+rested v = record { form = max 2 (v .form); head = v .head; entries = v .entries ++ (idle ∷ []); marks = [] }
 
 -- a recorder with one step more, and all else as it was
 abbrev pub withStep : Recorder → Recorder

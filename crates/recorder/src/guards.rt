@@ -1,10 +1,10 @@
 // Sums and tests with which a recorder put together by hand, with any numbers in it, makes no sum exceed 64 bits. A recorder that stands
 // for a sheet passes every test. Nothing is assumed.
+use crate::Recorder;
 use buckets::Bucket;
 use buckets::Tally;
 use buckets::pass::Touch;
 use figures::rows::StartSwaps;
-use model::Sheet;
 ghost use mathlib.Core.Path.{_≡_};
 ghost use Prim.Native.Nat.{ℕ, _+_, _≤_, _^_, min};
 ghost use Rattle.buckets.specs.Buckets.{bucketCount};
@@ -17,24 +17,17 @@ ghost use Rattle.recorder.specs.inner.Tests.{Tells};
 // What a sum holds at most before something is added to it.
 const ROOM: u64 = 1_152_921_504_606_846_976;
 
-// The most steps and segments of a sheet, and both together: the items of all buckets with those of the warm segments.
-pub const STEPS: u64 = Sheet::MAX_STEPS as u64;
+// The items of all buckets with those of the warm segments.
+pub const ITEMS: u64 = (Recorder::MAX_STEPS + Recorder::MAX_SEGS) as u64;
 
-pub const SEGS: u64 = Sheet::MAX_SEGS as u64;
+// A number that no retention exceeds, and neither Q nor V, and the largest swap cost; and both times the largest size.
+pub const RETENTION: u64 = Recorder::MAX_STEPS as u64 * Recorder::MAX_SIZE;
 
-pub const ITEMS: u64 = STEPS + SEGS;
+const SWAP: u64 = 1 + Recorder::MAX_A * Recorder::MAX_SIZE;
 
-// The largest size of a segment, a number that no retention exceeds, and neither Q nor V, and the largest swap cost; and the last two
-// times the largest size.
-const SIZE: u64 = Sheet::MAX_SIZE as u64;
+const RETENTIONZ: u64 = RETENTION * Recorder::MAX_SIZE;
 
-pub const RETENTION: u64 = STEPS * SIZE;
-
-const SWAP: u64 = 1 + Sheet::MAX_A as u64 * SIZE;
-
-const RETENTIONZ: u64 = RETENTION * SIZE;
-
-const SWAPZ: u64 = SWAP * SIZE;
+const SWAPZ: u64 = SWAP * Recorder::MAX_SIZE;
 
 // The smaller of two numbers.
 pub fn least(x: usize, y: usize) -> usize
@@ -170,7 +163,7 @@ pub fn holds(b: Bucket, n: u64) -> bool
     if n < b.count {
         return false;
     }
-    if n * SIZE < b.volume {
+    if n * Recorder::MAX_SIZE < b.volume {
         return false;
     }
     if n * RETENTION < b.retention {

@@ -23,10 +23,24 @@ ghost use Rattle.recorder.specs.Recorders.{recorderOf, emptyRecorder, st
 pub struct Recorder {
     pub head: Head,
     pub steps: usize,
-    pub last: [u16; Sheet::MAX_SEGS],
+    pub last: [u16; Recorder::MAX_SEGS],
     pub buckets: [Bucket; Tally::BUCKETS],
     pub cost: u64,
     pub volume: u64,
+}
+
+// Its limits, which are those of the sheet that it stands for.
+impl Recorder {
+    // The most steps, 13 beyond them, segments and rows.
+    pub const MAX_STEPS: usize = Sheet::MAX_STEPS;
+
+    pub const MAX_SEGS: usize = Sheet::MAX_SEGS;
+
+    pub const MAX_ROWS: usize = Sheet::MAX_ROWS;
+    // The largest a and the largest size, as wide as the sums.
+    pub const MAX_A: u64 = Sheet::MAX_A as u64;
+
+    pub const MAX_SIZE: u64 = Sheet::MAX_SIZE as u64;
 }
 
 // What a touch answers, of one reference or of several, and an idle step: the recorder with them taken, or the refusal and the recorder
@@ -40,7 +54,7 @@ pub struct TouchAnswer {
 fn begin(head: Head) -> Recorder
     ensures { λ r. ⌜ r ≡ begun head ⌝ }
 {
-    let count = guards::least(head.warm, Sheet::MAX_SEGS);
+    let count = guards::least(head.warm, Recorder::MAX_SEGS);
     let holds = head.holds;
     let last = model::start_table(&holds[..count]);
     let buckets = buckets::pass::empty_buckets();
@@ -76,14 +90,14 @@ impl Recorder {
         ensures { λ r. ⌜ Touched self segment r ⌝ }
     {
         let head = self.head;
-        let segs = guards::least(head.segs, Sheet::MAX_SEGS);
+        let segs = guards::least(head.segs, Recorder::MAX_SEGS);
         if segs <= segment {
             return TouchAnswer {
                 verdict: Verdict::Refused(Refusal::OutOfRange),
                 recorder: self,
             };
         }
-        if Sheet::MAX_STEPS <= self.steps {
+        if Recorder::MAX_STEPS <= self.steps {
             return TouchAnswer {
                 verdict: Verdict::Refused(Refusal::RecorderFull),
                 recorder: self,
@@ -100,7 +114,7 @@ impl Recorder {
         ensures { λ r. ⌜ TouchedAll self (now (refs .entry)) r ⌝ }
     {
         let head = self.head;
-        let segs = guards::least(head.segs, Sheet::MAX_SEGS);
+        let segs = guards::least(head.segs, Recorder::MAX_SEGS);
         let verdict = taking::acceptable(refs, segs, self.steps);
         if let Verdict::Refused(why) = verdict {
             return TouchAnswer {
@@ -138,7 +152,7 @@ impl Recorder {
         ensures { λ r. ⌜ Figured self row r ⌝ }
     {
         let head = self.head;
-        let rows = guards::least(head.rows, Sheet::MAX_ROWS);
+        let rows = guards::least(head.rows, Recorder::MAX_ROWS);
         if rows <= row {
             return FiguresAnswer {
                 verdict: Verdict::Refused(Refusal::NoSuchRow),

@@ -1,12 +1,12 @@
 // The figures of a row from the sums of a recorder that may be put together by hand, zeros where one would exceed 64 bits; and the swap
 // costs of the warm segments of its head. Nothing is assumed.
+use crate::Recorder;
 use buckets::Bucket;
 use figures::rows::StartSwaps;
 use model::Head;
 use model::Kind;
 use model::PriceRow;
 use model::RowFigures;
-use model::Sheet;
 ghost use mathlib.Core.Path.{_≡_};
 ghost use Rattle.figures.specs.inner.OneRow.{Summable, RowFits, wsoccFrom, rowFrom};
 ghost use Rattle.recorder.specs.inner.Heads.{headSwaps};
@@ -45,10 +45,10 @@ fn summable(cost: u64, volume: u64, all: Bucket, kept: Bucket, ends: Bucket) -> 
     if !crate::guards::holds(all, crate::guards::ITEMS) {
         return false;
     }
-    if !crate::guards::holds(kept, crate::guards::STEPS) {
+    if !crate::guards::holds(kept, Recorder::MAX_STEPS as u64) {
         return false;
     }
-    if !crate::guards::holds(ends, crate::guards::SEGS) {
+    if !crate::guards::holds(ends, Recorder::MAX_SEGS as u64) {
         return false;
     }
     crate::guards::within(all, kept, ends)
@@ -68,7 +68,7 @@ pub fn row_of(
 ) -> RowFigures
     ensures { λ r. ⌜ (RowFits kind row steps cost volume all kept ends → r ≡ rowFrom kind a row steps cost volume all kept ends) ⌝ }
 {
-    if Sheet::MAX_STEPS < steps {
+    if Recorder::MAX_STEPS < steps {
         return RowFigures::zero();
     }
     if row.d == 0 {
@@ -87,8 +87,8 @@ pub fn row_of(
 pub fn start_now(head: Head) -> StartSwaps
     ensures { λ r. ⌜ r ≡ headSwaps head ⌝ }
 {
-    let segs = crate::guards::least(head.segs, Sheet::MAX_SEGS);
-    let count = crate::guards::least(head.warm, Sheet::MAX_SEGS);
+    let segs = crate::guards::least(head.segs, Recorder::MAX_SEGS);
+    let count = crate::guards::least(head.warm, Recorder::MAX_SEGS);
     let all_sizes = head.sizes;
     let holds = head.holds;
     figures::rows::start_swaps(head.a, &all_sizes[..segs], &holds[..count])

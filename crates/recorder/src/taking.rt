@@ -5,7 +5,6 @@ use buckets::Tally;
 use buckets::pass::Passed;
 use model::Head;
 use model::Refusal;
-use model::Sheet;
 use model::Verdict;
 ghost use mathlib.Core.Path.{_≡_};
 ghost use Prim.Native.Nat.{_<_, min};
@@ -26,7 +25,7 @@ pub fn take_one(mut recorder: Recorder, segment: usize) -> Recorder
     let kind = head.kind;
     let sizes = head.sizes;
     let prices = head.prices;
-    let rows = crate::guards::least(head.rows, Sheet::MAX_ROWS);
+    let rows = crate::guards::least(head.rows, Recorder::MAX_ROWS);
     let z = sizes[segment];
     let t = recorder.steps;
     let mut x = buckets::pass::touch_of(kind, head.a, z, recorder.last[segment], t as u16);
@@ -45,7 +44,7 @@ pub fn take_one(mut recorder: Recorder, segment: usize) -> Recorder
 pub fn idle_verdict(steps: usize) -> Verdict
     ensures { λ r. ⌜ r ≡ stepVerdict steps ⌝ }
 {
-    if steps < Sheet::MAX_STEPS {
+    if steps < Recorder::MAX_STEPS {
         return Verdict::Accepted;
     }
     Verdict::Refused(Refusal::RecorderFull)
@@ -60,7 +59,7 @@ pub fn acceptable(refs: &[u16], segs: usize, count: usize) -> Verdict
         if segs <= refs[n] as usize {
             return Verdict::Refused(Refusal::OutOfRange);
         }
-        if Sheet::MAX_STEPS - n <= count {
+        if Recorder::MAX_STEPS - n <= count {
             return Verdict::Refused(Refusal::RecorderFull);
         }
         n += 1;
@@ -75,8 +74,8 @@ fn pass_on(head: Head, from: Passed, count: usize, refs: &[u16]) -> Passed
 {
     let kind = head.kind;
     let a = head.a;
-    let rows = crate::guards::least(head.rows, Sheet::MAX_ROWS);
-    let segs = crate::guards::least(head.segs, Sheet::MAX_SEGS);
+    let rows = crate::guards::least(head.rows, Recorder::MAX_ROWS);
+    let segs = crate::guards::least(head.segs, Recorder::MAX_SEGS);
     let prices = head.prices;
     let all_sizes = head.sizes;
     let sizes = &all_sizes[..segs];

@@ -40,7 +40,7 @@ withRow v q =
     record {
       form = v .form;
       head = record { kind = v .head .kind; a = v .head .a; sizes = v .head .sizes; rows = q ∷ []; warm = v .head .warm };
-      refs = v .refs;
+      entries = v .entries;
       marks = v .marks;
     }
 

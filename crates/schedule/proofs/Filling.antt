@@ -70,7 +70,7 @@ module _ (T : Trace) (decisions : List Bool) where
 
   -- the segment of the step at place t
   abbrev at : ℕ → ℕ
-  at t = segmentOf (segs T) (getD (T .refs) t 0)
+  at t = segmentOf (segs T) (getD (T .entries) t 0)
 
   -- a step holds the touched segment, if it has one, and each other that waits
   held-step : (t : ℕ) → t < steps T → stepWith (bytesOf (waiting (suc t))) (at t) 255 ≡ bytesOf (holding t)
@@ -121,7 +121,7 @@ module _ (T : Trace) (decisions : List Bool) (old : List ℕ) (room : 32 * steps
 
   -- a turn: it writes the step at place t - 1, whose segment is i, and `on` tells its decision
   pub filled-turn : (next out next′ out′ : List ℕ) (t i on : ℕ) → Filled T decisions old next out t → 0 < t → t ≤ steps T
-      → i ≡ segmentOf (segs T) (getD (T .refs) (t - 1) 0) → on ≡ cond (getD decisions (t - 1) false) 255 0
+      → i ≡ segmentOf (segs T) (getD (T .entries) (t - 1) 0) → on ≡ cond (getD decisions (t - 1) false) 255 0
       → next′ ≡ stepWith next i on → out′ ≡ paste out (32 * (t - 1)) (stepWith next i 255) 32 → Filled T decisions old next′ out′ (t - 1)
   filled-turn next out next′ out′ t i on v some le ei eo en ep =
       let k = t - 1 in
@@ -145,7 +145,7 @@ pub record Filling (segments : ℕ) (refs : List ℕ) (decisions : List Bool) (o
   pub within : t ≤ length refs
   pub next-whole : length next ≡ 32
   pub out-whole : length out ≡ length old
-  pub filled-of : (T : Trace) → segs T ≡ segments → T .refs ≡ refs → Filled T decisions old next out t
+  pub filled-of : (T : Trace) → segs T ≡ segments → T .entries ≡ refs → Filled T decisions old next out t
 
 module _ (segments : ℕ) (refs : List ℕ) (decisions : List Bool) (old : List ℕ) (room : 32 * length refs ≤ length old) where
   pub filling-start : Filling segments refs decisions old noSegments old (length refs)
@@ -156,7 +156,7 @@ module _ (segments : ℕ) (refs : List ℕ) (decisions : List Bool) (old : List 
         next-whole = length-replicate {A = ℕ} 32 0;
         out-whole = refl;
         filled-of = λ T es er.
-            let n : length (T .refs) ≡ length refs = ap length er in
+            let n : length (T .entries) ≡ length refs = ap length er in
             rw n at (filled-start T decisions old (omega arith));
       }
 
@@ -174,14 +174,14 @@ module _ (segments : ℕ) (refs : List ℕ) (decisions : List Bool) (old : List 
             (omega (arith, length-stepWith next i 255))
             ∙ v .out-whole;
         filled-of = λ T es er.
-            let n : length (T .refs) ≡ length refs = ap length er in
+            let n : length (T .entries) ≡ length refs = ap length er in
             filled-turn T decisions old (omega arith) next out next′ out′ t i on (v .filled-of T es er) some (omega (arith, v .within))
-            (ei ∙ sym (ap (λ (m : ℕ). segmentOf m (getD (T .refs) (t - 1) 0)) es
+            (ei ∙ sym (ap (λ (m : ℕ). segmentOf m (getD (T .entries) (t - 1) 0)) es
             ∙ ap (λ (l : List ℕ). segmentOf segments (getD l (t - 1) 0)) er)) eo en ep;
       }
 
   pub filling-end : (next out : List ℕ) (t : ℕ) → t ≡ 0 → Filling segments refs decisions old next out t
-      → (T : Trace) → segs T ≡ segments → T .refs ≡ refs → out ≡ decidedSchedule T (decisionsOf decisions) ++ drop (32 * length refs) old
+      → (T : Trace) → segs T ≡ segments → T .entries ≡ refs → out ≡ decidedSchedule T (decisionsOf decisions) ++ drop (32 * length refs) old
   filling-end next out t e v T es er =
-      let n : length (T .refs) ≡ length refs = ap length er in
+      let n : length (T .entries) ≡ length refs = ap length er in
       rw (n, e) at (v .filled-of T es er .out-is)

@@ -5,3 +5,4 @@ pub mod Masks
 pub mod Segments
 pub mod StartMasks
 pub mod StepBytes
+pub mod Steps

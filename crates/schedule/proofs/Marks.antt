@@ -60,7 +60,7 @@ module _ (T : Trace) (row : PriceRow) (few : segs T ≤ 256) (short : steps T �
       }
 
   pub marked-step : (marks : List Bool) (last : List ℕ) (t i : ℕ) (x : Bool) → Marked T row marks last t → t < steps T
-      → i ≡ getD (T .refs) t 0 → i < segs T → x ≡ keptBy (T .kind) (T .a) row (sizeOf T i) (getD last i 0) t
+      → i ≡ getD (T .entries) t 0 → i < segs T → x ≡ keptBy (T .kind) (T .a) row (sizeOf T i) (getD last i 0) t
       → Marked T row (set marks t x) (set last i (t + 1)) (t + 1)
   marked-step marks last t i x v lt ei is-segment ex =
       let e : entry T t ≡ i = entry-ref T t lt ∙ sym ei in
@@ -81,9 +81,9 @@ module _ (T : Trace) (row : PriceRow) (few : segs T ≤ 256) (short : steps T �
 
   -- a step that touches nothing
   pub marked-idle : (marks : List Bool) (last : List ℕ) (t : ℕ) → Marked T row marks last t → t < steps T
-      → segs T ≤ getD (T .refs) t 0 → Marked T row marks last (t + 1)
+      → segs T ≤ getD (T .entries) t 0 → Marked T row marks last (t + 1)
   marked-idle marks last t v lt idle =
-      let e : entry T t ≡ getD (T .refs) t 0 = entry-ref T t lt in
+      let e : entry T t ≡ getD (T .entries) t 0 = entry-ref T t lt in
       record {
         within = omega arith;
         whole = v .whole;

@@ -5,7 +5,9 @@ pub mod writing;
 
 use model::Sheet;
 ghost use mathlib.Core.Path.{_≡_};
+ghost use mathlib.Core.Bool.{cond};
 ghost use Prim.Native.Nat.{_*_, _≤_};
+ghost use lib.Dec.{leb};
 ghost use Rattle.model.specs.Sheets.{mostSteps};
 
 // The shape of a schedule of so many steps: 32 bytes a step, segment i at bit i % 8 of byte i / 8.
@@ -16,16 +18,17 @@ pub struct Schedule {
 impl Schedule {
     // The bytes of a step, a bit for each segment.
     pub const STEP_BYTES: usize = Sheet::MAX_SEGS / 8;
-    // The most steps.
-    pub const MAX_STEPS: usize = Sheet::MAX_STEPS;
     // The bytes of the largest schedule.
-    pub const MAX_BYTES: usize = Schedule::STEP_BYTES * Schedule::MAX_STEPS;
+    pub const MAX_BYTES: usize = Schedule::STEP_BYTES * Sheet::MAX_STEPS;
 
-    // The schedule of a run of so many steps.
+    // The schedule of a run of so many steps; of none where there are more than a run has.
     pub fn of_steps(steps: usize) -> Schedule
-        requires { ⌜ steps ≤ mostSteps ⌝ }
-        ensures { λ r. ⌜ r .steps ≡ steps ⌝ }
+        ensures exact { λ r. ⌜ r .steps ≡ cond (leb steps mostSteps) steps 0 ⌝ }
+        ensures within { λ r. ⌜ r .steps ≤ mostSteps ⌝ }
     {
+        if Sheet::MAX_STEPS < steps {
+            return Schedule { steps: 0 };
+        }
         Schedule { steps }
     }
 

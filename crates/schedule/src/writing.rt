@@ -17,9 +17,6 @@ ghost use Rattle.model.specs.Decisions.{decidedSchedule, decisionsOf};
 ghost use Rattle.schedule.specs.inner.Segments.{segmentOf};
 ghost use Rattle.schedule.specs.inner.Writing.{noMarks, noSegments, noMasks, maskTable, masked, stepWith, keptBy, KeptMarks};
 
-// The number that stands for no segment.
-pub const NO_SEGMENT: usize = Sheet::MAX_SEGS;
-
 // The bytes of the table of masks: those of a step for each segment and for none.
 const MASK_BYTES: usize = Schedule::STEP_BYTES * (Sheet::MAX_SEGS + 1);
 
@@ -104,12 +101,12 @@ pub fn masked(byte: u8, mask: u8, on: u8) -> u8
     byte - (byte & mask) + (mask & on)
 }
 
-// The segment of an entry of so many segments, 256 where it is none.
+// The segment of an entry of so many segments; where it is none, the number after the largest that a segment can have.
 pub fn segment_of(segs: usize, entry: u16) -> usize
     ensures { λ r. ⌜ r ≡ segmentOf segs entry ⌝ }
 {
     let i = entry as usize;
-    if i < segs { i } else { NO_SEGMENT }
+    if i < segs { i } else { Sheet::MAX_SEGS }
 }
 
 // All bits, or none.
@@ -147,7 +144,7 @@ fn put_step(
 pub fn write_decided(segments: usize, refs: &[u16], decisions: &[bool], out: &mut [u8])
     requires { ⌜ (segments ≤ mostSegs) × (length (now decisions) ≡ length (now refs)) × (32 * length (now refs) ≤ length (now out)) ⌝ }
     ensures { λ _.
-        ⌜ ((T : Trace) → segs T ≡ segments → T .refs ≡ now (refs .entry)
+        ⌜ ((T : Trace) → segs T ≡ segments → T .entries ≡ now (refs .entry)
         → now (out .exit) ≡ decidedSchedule T (decisionsOf (now (decisions .entry)))
         ++ drop (32 * length (now (refs .entry))) (now (out .entry))) ⌝ }
 {

@@ -92,7 +92,7 @@ pub readable-valid : (lo hi : ℕ) → hi ≤ newestForm → (v : SheetValue) �
 unfolding zeroRow
 readable-valid lo hi new v c =
     let size = each-at (From 1 largestSize) 0 none (v .head .sizes) (c .sizes-fit) in
-    let (steps, entry) = entries-within (leb 2 (v .form)) (length (v .head .sizes)) (v .refs) (c .segs-fit .0) (c .entries-fit) in
+    let (steps, entry) = entries-within (leb 2 (v .form)) (length (v .head .sizes)) (v .entries) (c .segs-fit .0) (c .entries-fit) in
     let row = each-at RowFits zeroRow none (v .head .rows) (c .prices-fit) in
     let price : (r : ℕ) → r < length (v .head .rows) → (rowAt v r .h ≤ largestPrice) × (1 ≤ rowAt v r .d) × (rowAt v r .d ≤ largestPrice) =
     λ r l. prices-within (rowAt v r .h) (rowAt v r .d) (row r l .0) in
@@ -118,17 +118,17 @@ readable-valid lo hi new v c =
             steps-within = steps;
             entry-within = entry;
           };
-      whole = λ e. entries-whole (leb 2 (v .form)) (length (v .head .sizes)) (v .refs) (ap (λ k. leb 2 k) e) (c .segs-fit .0)
+      whole = λ e. entries-whole (leb 2 (v .form)) (length (v .head .sizes)) (v .entries) (ap (λ k. leb 2 k) e) (c .segs-fit .0)
           (c .entries-fit);
       warm = warm-within (leb 3 (v .form)) (length (v .head .sizes)) (v .head .warm) (c .segs-fit .0) (c .warm-fits);
       cold = λ l. warm-none (leb 3 (v .form)) (length (v .head .sizes)) (v .head .warm) (lt-leb 3 (v .form) (omega arith)) (c .warm-fits);
       marked = λ l. marks (le-leb 4 (v .form) l) .0;
-      modifying = marks-touched (leb 4 (v .form)) (length (v .head .sizes)) (v .refs) (v .marks) (c .marks-fit);
+      modifying = marks-touched (leb 4 (v .form)) (length (v .head .sizes)) (v .entries) (v .marks) (c .marks-fit);
       unmarked = λ l. marks (lt-leb 4 (v .form) (omega arith));
     }
   where
-    marks : {b : Bool} → leb 4 (v .form) ≡ b → MarksFit b (length (v .head .sizes)) (v .refs) (v .marks)
-    marks e = subst (λ b. MarksFit b (length (v .head .sizes)) (v .refs) (v .marks)) e (c .marks-fit)
+    marks : {b : Bool} → leb 4 (v .form) ≡ b → MarksFit b (length (v .head .sizes)) (v .entries) (v .marks)
+    marks e = subst (λ b. MarksFit b (length (v .head .sizes)) (v .entries) (v .marks)) e (c .marks-fit)
 
     form : v .form ≤ newestForm
     form = go (leb 2 (v .form)) refl
@@ -153,12 +153,12 @@ valid-readable lo hi v l h c =
           (λ r l. (within-prices _ _ (c .rows .h-within r l) (c .rows .some-d r l) (c .rows .d-within r l), ascends r l));
       warm-fits = within-warm (leb 3 (v .form)) (length (v .head .sizes)) (v .head .warm) (c .warm)
           (λ e. c .cold (omega (arith, leb-false 3 (v .form) e)));
-      entries-fit = within-entries (leb 2 (v .form)) (length (v .head .sizes)) (v .refs) (c .run .steps-within) (c .run .entry-within)
+      entries-fit = within-entries (leb 2 (v .form)) (length (v .head .sizes)) (v .entries) (c .run .steps-within) (c .run .entry-within)
           (λ e. c .whole (omega (arith, c .some-form, leb-false 2 (v .form) e)));
       marks-fit = marks (leb 4 (v .form)) refl;
     }
   where
-    marks : (b : Bool) → leb 4 (v .form) ≡ b → MarksFit b (length (v .head .sizes)) (v .refs) (v .marks)
+    marks : (b : Bool) → leb 4 (v .form) ≡ b → MarksFit b (length (v .head .sizes)) (v .entries) (v .marks)
     marks true e = (c .marked (leb-true 4 (v .form) e), c .modifying)
     marks false e = c .unmarked (omega (arith, leb-false 4 (v .form) e))
 

@@ -67,7 +67,7 @@ held-stands v c =
       prices-whole = padded-length (v .head .rows) (zeroRows mostRows) (omega (arith, zero-rows-length mostRows))
           ∙ zero-rows-length mostRows;
       holds-whole = padded-length (v .head .warm) (zeros mostSegs) (omega (arith, zeros-length mostSegs)) ∙ zeros-length mostSegs;
-      touches-whole = padded-length (v .refs) (idles mostSteps) (omega (arith, idles-length mostSteps)) ∙ idles-length mostSteps;
+      touches-whole = padded-length (v .entries) (idles mostSteps) (omega (arith, idles-length mostSteps)) ∙ idles-length mostSteps;
       marked-within = marks;
       marks-whole = padded-length (v .marks) (blankMarks mostSteps) (omega (arith, blank)) ∙ blank;
     }

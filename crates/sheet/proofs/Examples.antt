@@ -46,7 +46,7 @@ value-of-listing =
             rows = record { h = 1; d = 2 } ∷ record { h = 1; d = 1 } ∷ [];
             warm = [];
           };
-      refs = 0 ∷ 1 ∷ 0 ∷ 1 ∷ 1 ∷ 0 ∷ [];
+      entries = 0 ∷ 1 ∷ 0 ∷ 1 ∷ 1 ∷ 0 ∷ [];
       marks = [];
     }
 
@@ -88,7 +88,7 @@ price h d = record { h = h; d = d }
 -- the text of a sheet of kind time with a, the sizes, the rows and the references
 textOf : ℕ → List ℕ → List PriceRow → List ℕ → List ℕ
 textOf a sizes rows refs =
-    sheetText (record { form = 1; head = record { kind = Time; a = a; sizes = sizes; rows = rows; warm = [] }; refs = refs; marks = [] })
+    sheetText (record { form = 1; head = record { kind = Time; a = a; sizes = sizes; rows = rows; warm = [] }; entries = refs; marks = [] })
 
 -- the lines of such a sheet up to segs=, up to rows= and up to refs= with these numbers, and nothing after them. Where the number is
 -- within its range the refusal is 2, of the missing next line
@@ -169,7 +169,7 @@ warmed warm =
     record {
       form = 3;
       head = record { kind = Time; a = 0; sizes = 1 ∷ 1 ∷ 1 ∷ []; rows = price 0 1 ∷ []; warm = warm };
-      refs = idle ∷ 1 ∷ [];
+      entries = idle ∷ 1 ∷ [];
       marks = [];
     }
 
@@ -265,7 +265,7 @@ marked refs marks =
     record {
       form = 4;
       head = record { kind = Time; a = 0; sizes = 1 ∷ 1 ∷ 1 ∷ []; rows = price 0 1 ∷ []; warm = [] };
-      refs = refs;
+      entries = refs;
       marks = marks;
     }
 

@@ -23,7 +23,7 @@ held v =
       front (v .head .sizes) (zeros mostSegs),
       front (v .head .rows) (zeroRows mostRows),
       front (v .head .warm) (zeros mostSegs),
-      front (v .refs) (idles mostSteps),
+      front (v .entries) (idles mostSteps),
       front (v .marks) (blankMarks mostSteps),
     )
 

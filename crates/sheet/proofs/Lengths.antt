@@ -70,7 +70,7 @@ head-length later h =
 -- a sheet of form 1: its head and its references
 first-length : (v : SheetValue) → v .form ≡ 1 → length (sheetText v)
     ≡ length (textOf (headPart true false .lines (v .head)))
-    + (length (numberText refsKey (length (v .refs))) + length (linesText (numberText refKey) (v .refs)))
+    + (length (numberText refsKey (length (v .entries))) + length (linesText (numberText refKey) (v .entries)))
 unfolding entriesText linesText
 first-length v e =
     ap length (sheet-text v)
@@ -84,14 +84,14 @@ form-text form e = rw e (append-nil (numberText formKey form))
 -- a sheet of a later form: its form line, its head and its touches
 later-length : (v : SheetValue) → leb 2 (v .form) ≡ true → length (sheetText v)
     ≡ length (numberText formKey (v .form)) + (length (textOf (headPart true (leb 3 (v .form)) .lines (v .head)))
-    + (length (numberText stepsKey (length (v .refs)))
+    + (length (numberText stepsKey (length (v .entries)))
     + (length (numberText refsKey (length (touchesOf (entriesIn v)))) + length (touchesText (touchesOf (entriesIn v))))))
 unfolding entriesText
 later-length v e =
     ap length (sheet-text v)
     ∙ rw (form-text (v .form) e, e, steps-text (leb 4 (v .form)) (length (v .head .sizes)) (entriesIn v))
     (five (numberText formKey (v .form)) (textOf (headPart true (leb 3 (v .form)) .lines (v .head)))
-    (numberText stepsKey (length (v .refs)))
+    (numberText stepsKey (length (v .entries)))
     (numberText refsKey (length (touchesOf (entriesIn v)))) (touchesText (touchesOf (entriesIn v))))
   where
     five : (a b c d e : List ℕ) → length (a ++ (b ++ (c ++ (d ++ e)))) ≡ length a + (length b + (length c + (length d + length e)))
@@ -168,16 +168,16 @@ letters-within true n h = omega arith
 letters-within false n h = omega arith
 
 -- the touches of form 2 on
-later-within : (letters : Bool) (segs : ℕ) (e : Entries) → segs ≤ mostSegs → EntriesFit true segs (e .refs)
-    → MarksFit letters segs (e .refs) (e .marks)
-    → length (numberText stepsKey (length (e .refs)))
+later-within : (letters : Bool) (segs : ℕ) (e : Entries) → segs ≤ mostSegs → EntriesFit true segs (e .entries)
+    → MarksFit letters segs (e .entries) (e .marks)
+    → length (numberText stepsKey (length (e .entries)))
     + (length (numberText refsKey (length (touchesOf e))) + length (touchesText (touchesOf e))) ≤ 25538 + cond letters 2048 0
 later-within letters segs e h (l, c) f =
-    let steps = length (e .refs) in
-    let w = marks-letter letters segs (e .refs) (e .marks) f in
+    let steps = length (e .entries) in
+    let w = marks-letter letters segs (e .entries) (e .marks) f in
     let (n, m) =
     touches-within letters segs steps (omega arith) (omega arith) (touchesOf e)
-    (touches-fit letters segs steps (marksOf (e .marks)) w (e .refs) none none 0 (omega arith) (omega arith) c) in
+    (touches-fit letters segs steps (marksOf (e .marks)) w (e .entries) none none 0 (omega arith) (omega arith) c) in
     omega (
       arith,
       m,
@@ -194,8 +194,8 @@ text-within v c = go (v .form) refl
     r : Readable 1 newestForm v
     r = valid-readable 1 newestForm v (c .some-form) (c .form-within) c
 
-    entries : (b : Bool) → leb 2 (v .form) ≡ b → EntriesFit b (length (v .head .sizes)) (v .refs)
-    entries b e = subst (λ b. EntriesFit b (length (v .head .sizes)) (v .refs)) e (r .entries-fit)
+    entries : (b : Bool) → leb 2 (v .form) ≡ b → EntriesFit b (length (v .head .sizes)) (v .entries)
+    entries b e = subst (λ b. EntriesFit b (length (v .head .sizes)) (v .entries)) e (r .entries-fit)
 
     later : (form : ℕ) → v .form ≡ form → leb 2 form ≡ true → length (sheetText v)
         ≤ length (numberText formKey form) + (3618 + cond (leb 3 form) 2203 0 + (25538 + cond (leb 4 form) 2048 0))
@@ -209,7 +209,7 @@ text-within v c = go (v .form) refl
     go zero e = absurd (omega (arith, c .some-form))
     go (suc zero) e =
         let h = rw e at (head-within v c) in
-        let w = first-within (length (v .head .sizes)) (v .refs) (c .run .segs-within) (entries false (ap (λ f. leb 2 f) e)) in
+        let w = first-within (length (v .head .sizes)) (v .entries) (c .run .segs-within) (entries false (ap (λ f. leb 2 f) e)) in
         rw (first-length v e) (omega (arith, h, w))
     go (suc (suc zero)) e = omega (arith, later 2 e refl, number-within formKey 0 2 (omega arith))
     go (suc (suc (suc zero))) e = omega (arith, later 3 e refl, number-within formKey 0 3 (omega arith))
@@ -247,7 +247,7 @@ filled form n m k =
     record {
       form = form;
       head = record { kind = Space; a = largestA; sizes = replicate n largestSize; rows = wideRows 0 m; warm = warmest (leb 3 form) n };
-      refs = replicate k 255;
+      entries = replicate k 255;
       marks = marking (leb 4 form) k;
     }
 
@@ -477,7 +477,7 @@ touches-long letters m (suc k) before f h =
 
 -- the length of the lines of k touches
 touches-length : (letters : Bool) (k : ℕ) → k < 10000
-    → length (touchesText (touchesOf (record { refs = replicate k 255; marks = marking letters k })))
+    → length (touchesText (touchesOf (record { entries = replicate k 255; marks = marking letters k })))
     ≡ touchWidth letters * k + (digitsBelow (suc k) - 1)
 touches-length letters k h =
     let z : 0 + k ≡ k = omega arith in

@@ -59,13 +59,13 @@ refs-text segs xs = counted-text refsKey refKey written xs
 
 -- as the entries of form 1
 pub plain-text : (segs : ℕ) (e : Entries)
-    → textOf (plainPart segs .lines e) ≡ numberText refsKey (length (e .refs)) ++ linesText (numberText refKey) (e .refs)
+    → textOf (plainPart segs .lines e) ≡ numberText refsKey (length (e .entries)) ++ linesText (numberText refKey) (e .entries)
 unfolding plainPart
-plain-text segs e = rw (append-nil (refsPart segs .lines (e .refs))) (refs-text segs (e .refs))
+plain-text segs e = rw (append-nil (refsPart segs .lines (e .entries))) (refs-text segs (e .entries))
 
 -- steps=, refs= and the touches of form 2 on
 pub steps-text : (letters : Bool) (segs : ℕ) (e : Entries) → textOf (stepsPart letters segs .lines e)
-    ≡ numberText stepsKey (length (e .refs)) ++ (numberText refsKey (length (touchesOf e)) ++ touchesText (touchesOf e))
+    ≡ numberText stepsKey (length (e .entries)) ++ (numberText refsKey (length (touchesOf e)) ++ touchesText (touchesOf e))
 unfolding stepsPart linesText
 steps-text letters segs e = rw (lines-map lineOf (λ x. (refKey, touchWord x)) (touchesOf e))
 
@@ -86,7 +86,7 @@ entriesText form head e = textOf (entriesPart (leb 2 form) (leb 4 form) (length 
 
 -- the entries of a sheet's value
 abbrev pub entriesIn : SheetValue → Entries
-entriesIn v = record { refs = v .refs; marks = v .marks }
+entriesIn v = record { entries = v .entries; marks = v .marks }
 
 -- the whole
 pub sheet-text : (v : SheetValue)

@@ -62,8 +62,8 @@ pub record Readable (lo hi : ℕ) (v : SheetValue) : Type 0 where
   pub rows-fit : (1 ≤ length (v .head .rows)) × (length (v .head .rows) ≤ mostRows)
   pub prices-fit : Each RowFits none (v .head .rows)
   pub warm-fits : WarmFits (leb 3 (v .form)) (length (v .head .sizes)) (v .head .warm)
-  pub entries-fit : EntriesFit (leb 2 (v .form)) (length (v .head .sizes)) (v .refs)
-  pub marks-fit : MarksFit (leb 4 (v .form)) (length (v .head .sizes)) (v .refs) (v .marks)
+  pub entries-fit : EntriesFit (leb 2 (v .form)) (length (v .head .sizes)) (v .entries)
+  pub marks-fit : MarksFit (leb 4 (v .form)) (length (v .head .sizes)) (v .entries) (v .marks)
 
 -- ---- the parts
 
@@ -131,16 +131,16 @@ refs-kept segs = then-kept (number-kept refsKey 0 mostSteps refl) (λ n _. numbe
 
 -- the entries of form 1
 plain-kept : (segs : ℕ) → Kept (plainPart segs)
-    (λ e. Counted 0 mostSteps (From 0 (segs - 1)) (e .refs) × (e ≡ record { refs = e .refs; marks = [] }))
+    (λ e. Counted 0 mostSteps (From 0 (segs - 1)) (e .entries) × (e ≡ record { entries = e .entries; marks = [] }))
 unfolding plainPart
 plain-kept segs =
-    then-kept (refs-kept segs) (λ refs _. whole-kept (record { refs = refs; marks = [] })) (λ refs e f g. ap (λ (w : Entries). w .refs) g)
+    then-kept (refs-kept segs) (λ refs _. whole-kept (record { entries = refs; marks = [] })) (λ refs e f g. ap (λ (w : Entries). w .entries) g)
 
 -- what n lines of touches ask of entries and marks
 abbrev TouchesFit : Bool → ℕ → ℕ → ℕ → Entries → Type 0
 TouchesFit letters segs steps n e =
-    (length (e .refs) ≡ steps)
-    × ((length (touchesOf e) ≡ n) × (Each (EntryFits segs) none (e .refs) × MarksFit letters segs (e .refs) (e .marks)))
+    (length (e .entries) ≡ steps)
+    × ((length (touchesOf e) ≡ n) × (Each (EntryFits segs) none (e .entries) × MarksFit letters segs (e .entries) (e .marks)))
 
 -- n lines of touches, where an idle entry is no segment
 touches-kept : (letters : Bool) (segs steps n : ℕ) → segs ≤ idle → Kept (touchesPart letters segs steps n) (TouchesFit letters segs steps n)
@@ -155,8 +155,8 @@ touches-kept letters segs steps n h = record { both = record { forth = forth; ba
     forth : (e : Entries) (rest : List ℕ) → TouchesFit letters segs steps n e
         → entryLines letters segs steps n (textOf (lines e) ++ rest) ≡ read e rest
     forth e rest (l, (k, (c, m))) =
-        let w = marks-letter letters segs (e .refs) (e .marks) m in
-        let t = touches-fit letters segs steps (marksOf (e .marks)) w (e .refs) none none 0 (omega arith) (omega (arith, l)) c in
+        let w = marks-letter letters segs (e .entries) (e .marks) m in
+        let t = touches-fit letters segs steps (marksOf (e .marks)) w (e .entries) none none 0 (omega arith) (omega (arith, l)) c in
         rw (text e, touches-reads letters segs steps n .forth (touchesOf e) rest (k, t))
         (ap (λ x. read x rest) (ap (λ i. entriesOf letters i (touchesOf e)) (sym l) ∙ entries-again letters segs h e m))
 
@@ -172,10 +172,10 @@ touches-kept letters segs steps n h = record { both = record { forth = forth; ba
         rw (text e, o) (
           t ∙ rw m,
           (
-            ap (λ (x : Entries). length (x .refs)) (sym q) ∙ (l ∙ sub-zero steps),
+            ap (λ (x : Entries). length (x .entries)) (sym q) ∙ (l ∙ sub-zero steps),
             (
               k,
-              subst (λ x. Each (EntryFits segs) none (x .refs) × MarksFit letters segs (x .refs) (x .marks)) q
+              subst (λ x. Each (EntryFits segs) none (x .entries) × MarksFit letters segs (x .entries) (x .marks)) q
                   (entries-fit letters segs steps ts none none c, marks-fit letters segs steps ts c),
             ),
           ),
@@ -183,9 +183,9 @@ touches-kept letters segs steps n h = record { both = record { forth = forth; ba
 
 -- steps=, refs= and the touches
 steps-kept : (letters : Bool) (segs : ℕ) → segs ≤ idle → Kept (stepsPart letters segs)
-    (λ e. ((0 ≤ length (e .refs)) × (length (e .refs) ≤ mostSteps))
-    × (((0 ≤ length (touchesOf e)) × (length (touchesOf e) ≤ length (e .refs)))
-    × TouchesFit letters segs (length (e .refs)) (length (touchesOf e)) e))
+    (λ e. ((0 ≤ length (e .entries)) × (length (e .entries) ≤ mostSteps))
+    × (((0 ≤ length (touchesOf e)) × (length (touchesOf e) ≤ length (e .entries)))
+    × TouchesFit letters segs (length (e .entries)) (length (touchesOf e)) e))
 unfolding stepsPart
 steps-kept letters segs h =
     then-kept (number-kept stepsKey 0 mostSteps refl)
@@ -210,10 +210,10 @@ touches-few m (x ∷ xs) before = go (eqb x idle) (touches-few m xs (suc before)
 
 -- the entries of a form; one with the letter is no form 1
 entries-kept : (later letters : Bool) (segs : ℕ) → (letters ≡ true → later ≡ true) → segs ≤ idle → Kept (entriesPart later letters segs)
-    (λ e. EntriesFit later segs (e .refs) × MarksFit letters segs (e .refs) (e .marks))
+    (λ e. EntriesFit later segs (e .entries) × MarksFit letters segs (e .entries) (e .marks))
 entries-kept true letters segs w h = record {
   both = reads-as (steps-kept letters segs h .both) (λ e f. ((f .0 .1, f .1 .1 .1 .1 .0), f .1 .1 .1 .1 .1))
-      (λ e f. ((omega arith, f .0 .0), ((omega arith, touches-few (marksOf (e .marks)) (e .refs) 0), (refl, (refl, (f .0 .1, f .1))))));
+      (λ e f. ((omega arith, f .0 .0), ((omega arith, touches-few (marksOf (e .marks)) (e .entries) 0), (refl, (refl, (f .0 .1, f .1))))));
 }
 entries-kept false true segs w h = absurd (false≢true (w refl))
 entries-kept false false segs w h = record {
@@ -285,16 +285,16 @@ head-segs taken later s h rest e = head-kept taken later .both .back s h rest e 
 abbrev BodyFits : ℕ → ℕ → SheetValue → Type 0
 BodyFits lo form v =
     HeadFits (leb lo form) (leb 3 form) (v .head)
-    × ((EntriesFit (leb 2 form) (length (v .head .sizes)) (v .refs) × MarksFit (leb 4 form) (length (v .head .sizes)) (v .refs) (v .marks))
-    × (v ≡ record { form = form; head = v .head; refs = v .refs; marks = v .marks }))
+    × ((EntriesFit (leb 2 form) (length (v .head .sizes)) (v .entries) × MarksFit (leb 4 form) (length (v .head .sizes)) (v .entries) (v .marks))
+    × (v ≡ record { form = form; head = v .head; entries = v .entries; marks = v .marks }))
 
 body-kept : (lo form : ℕ) → Kept (bodyPart lo form) (BodyFits lo form)
 unfolding bodyPart runPart
 body-kept lo form =
     then-kept (head-kept (leb lo form) (leb 3 form))
     (λ head f. then-kept (entries-kept (leb 2 form) (leb 4 form) (length (head .sizes)) with-letters (omega (arith, f .1 .1 .0 .0 .1)))
-    (λ e _. whole-kept (record { form = form; head = head; refs = e .refs; marks = e .marks }))
-    (λ e v f g. ap (λ (w : SheetValue). record { refs = w .refs; marks = w .marks }) g))
+    (λ e _. whole-kept (record { form = form; head = head; entries = e .entries; marks = e .marks }))
+    (λ e v f g. ap (λ (w : SheetValue). record { entries = w .entries; marks = w .marks }) g))
     (λ head v f g. ap (λ (w : SheetValue). w .head) (g .1))
   where
     with-letters : leb 4 form ≡ true → leb 2 form ≡ true

@@ -346,17 +346,17 @@ marks-touched true segs xs ms c = c .1
 marks-touched false segs xs ms c = λ t e. absurd (false≢true (marks-letter false segs xs ms c t e))
 
 -- the entries and marks of the touches of entries are these entries, with marks that fit
-pub entries-again : (letters : Bool) (segs : ℕ) → segs ≤ idle → (e : Entries) → MarksFit letters segs (e .refs) (e .marks)
-    → entriesOf letters (length (e .refs)) (touchesOf e) ≡ e
+pub entries-again : (letters : Bool) (segs : ℕ) → segs ≤ idle → (e : Entries) → MarksFit letters segs (e .entries) (e .marks)
+    → entriesOf letters (length (e .entries)) (touchesOf e) ≡ e
 entries-again letters segs h e c =
-    let z : 0 + length (e .refs) ≡ length (e .refs) = omega arith in
-    let a : entriesFrom 0 (length (e .refs)) (touchesOf e) ≡ e .refs = rw z at (entries-back (marksOf (e .marks)) (e .refs) 0) in
+    let z : 0 + length (e .entries) ≡ length (e .entries) = omega arith in
+    let a : entriesFrom 0 (length (e .entries)) (touchesOf e) ≡ e .entries = rw z at (entries-back (marksOf (e .marks)) (e .entries) 0) in
     rw (a, go letters c)
   where
-    go : (b : Bool) → MarksFit b segs (e .refs) (e .marks) → cond b (marksFrom 0 (length (e .refs)) (touchesOf e)) [] ≡ e .marks
+    go : (b : Bool) → MarksFit b segs (e .entries) (e .marks) → cond b (marksFrom 0 (length (e .entries)) (touchesOf e)) [] ≡ e .marks
     go true (l, t) =
-        let z : 0 + length (e .refs) ≡ length (e .refs) = omega arith in
-        rw z at (marks-back segs h (marksOf (e .marks)) (e .refs) (e .marks) 0 l (λ k. ap (marksOf (e .marks)) (zero-add k)) t)
+        let z : 0 + length (e .entries) ≡ length (e .entries) = omega arith in
+        rw z at (marks-back segs h (marksOf (e .marks)) (e .entries) (e .marks) 0 l (λ k. ap (marksOf (e .marks)) (zero-add k)) t)
     go false c = sym c
 
 -- an entry is a segment below segs, or idle
@@ -403,7 +403,7 @@ placed-touched letters segs steps (x ∷ xs) prev (f, c) =
 
 -- and those of a form fit
 pub marks-fit : (letters : Bool) (segs steps : ℕ) (xs : List Touch) → Each (TouchFits letters segs steps) none xs
-    → MarksFit letters segs (entriesOf letters steps xs .refs) (entriesOf letters steps xs .marks)
+    → MarksFit letters segs (entriesOf letters steps xs .entries) (entriesOf letters steps xs .marks)
 marks-fit true segs steps xs c = (
   placed-length false (λ x. x .modifies) true segs steps xs none (omega arith) c
       ∙ sym (placed-length idle (λ x. x .segment) true segs steps xs none (omega arith) c),

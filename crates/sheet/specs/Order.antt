@@ -84,7 +84,7 @@ refsPart segs = counted (numberPart refsKey 0 mostSteps) (numbersPart refKey 0 (
 
 -- the entries of form 1: it has no marks
 unfoldable pub plainPart : ℕ → Part Entries
-plainPart segs = then (refsPart segs) (λ e. e .refs) λ refs. whole (record { refs = refs; marks = [] })
+plainPart segs = then (refsPart segs) (λ e. e .entries) λ refs. whole (record { entries = refs; marks = [] })
 
 -- n lines ref= of form 2 on, segment and step, as the entries of the steps and, in a form that has the letter, their marks
 abbrev pub touchesPart : Bool → ℕ → ℕ → ℕ → Part Entries
@@ -94,7 +94,7 @@ touchesPart letters segs steps n =
 -- steps=, refs= and the touches of form 2 on
 unfoldable pub stepsPart : Bool → ℕ → Part Entries
 stepsPart letters segs =
-    then (numberPart stepsKey 0 mostSteps) (λ e. length (e .refs)) λ steps.
+    then (numberPart stepsKey 0 mostSteps) (λ e. length (e .entries)) λ steps.
     then (numberPart refsKey 0 steps) (λ e. length (touchesOf e)) λ n.
     touchesPart letters segs steps n
 
@@ -105,8 +105,8 @@ entriesPart later letters segs = cond later (stepsPart letters segs) (plainPart 
 -- the entries of a sheet of a form, after its head
 unfoldable pub runPart : ℕ → HeadValue → Part SheetValue
 runPart form head =
-    then (entriesPart (leb 2 form) (leb 4 form) (length (head .sizes))) (λ v. record { refs = v .refs; marks = v .marks }) λ e.
-    whole (record { form = form; head = head; refs = e .refs; marks = e .marks })
+    then (entriesPart (leb 2 form) (leb 4 form) (length (head .sizes))) (λ v. record { entries = v .entries; marks = v .marks }) λ e.
+    whole (record { form = form; head = head; entries = e .entries; marks = e .marks })
 
 -- the lines after the form line: the head, then the entries. A call takes forms from lo on
 unfoldable pub bodyPart : ℕ → ℕ → Part SheetValue

@@ -20,7 +20,7 @@ pub record Touch : Type 0 where
 
 -- for each step its entry, and for each its mark, or no marks
 pub record Entries : Type 0 where
-  pub refs : List ℕ
+  pub entries : List ℕ
   pub marks : List Bool
 
 -- ---- reading
@@ -80,7 +80,7 @@ marksFrom before steps xs = placedFrom false (λ x. x .modifies) before steps xs
 
 -- the entries of touches and, in a form that has the letter, the marks
 abbrev pub entriesOf : Bool → ℕ → List Touch → Entries
-entriesOf letters steps xs = record { refs = entriesFrom 0 steps xs; marks = cond letters (marksFrom 0 steps xs) [] }
+entriesOf letters steps xs = record { entries = entriesFrom 0 steps xs; marks = cond letters (marksFrom 0 steps xs) [] }
 
 -- those of n lines ref=
 abbrev pub entryLines : Bool → ℕ → ℕ → ℕ → List ℕ → Parsed Entries
@@ -97,7 +97,7 @@ touchesFrom marks before (x ∷ xs) =
 
 -- the touches of all entries
 abbrev pub touchesOf : Entries → List Touch
-touchesOf e = touchesFrom (marksOf (e .marks)) 0 (e .refs)
+touchesOf e = touchesFrom (marksOf (e .marks)) 0 (e .entries)
 
 -- the digits of a step, and the letter w of a touch that modifies
 abbrev pub stepWord : Bool → ℕ → List ℕ

@@ -31,19 +31,19 @@ room-test steps size = go (ltb size (32 * steps)) refl
     go false e = le-ltb (size / 32) steps (omega (arith, ltb-false size (32 * steps) e)) ∙ sym e
 
 -- the optimal schedule has 32 bytes for each step
-pub schedule-length : (v : SheetValue) (r : ℕ) → length (rowSchedule v r) ≡ 32 * length (v .refs)
+pub schedule-length : (v : SheetValue) (r : ℕ) → length (rowSchedule v r) ≡ 32 * length (v .entries)
 unfolding optimalSchedule
 schedule-length v r =
-    length-tabulate (32 * length (v .refs)) (optimalByte (traceOf v) (rowAt v r .h) (rowAt v r .d))
+    length-tabulate (32 * length (v .entries)) (optimalByte (traceOf v) (rowAt v r .h) (rowAt v r .d))
 
 -- and so has that of the least total with stores counted
-pub modified-length : (v : SheetValue) (r : ℕ) → length (rowModSchedule v r) ≡ 32 * length (v .refs)
+pub modified-length : (v : SheetValue) (r : ℕ) → length (rowModSchedule v r) ≡ 32 * length (v .entries)
 unfolding modSchedule
 modified-length v r =
-    length-heldBytes (length (v .refs)) (modHeld (traceOf v) (marksOf (v .marks)) (rowAt v r .h) (rowAt v r .d))
+    length-heldBytes (length (v .entries)) (modHeld (traceOf v) (marksOf (v .marks)) (rowAt v r .h) (rowAt v r .d))
 
 -- a schedule of 32 bytes a step for a row: 7 where there is no such row, then 11, and else the schedule is placed
-module _ (v : SheetValue) (r : ℕ) (p place : List ℕ) (whole : length p ≡ 32 * length (v .refs)) where
+module _ (v : SheetValue) (r : ℕ) (p place : List ℕ) (whole : length p ≡ 32 * length (v .entries)) where
   -- what a call with it answers, and what it leaves in the place
   abbrev Leaves : PlaceAnswer → List ℕ → Type 0
   Leaves answer after = PlaceLeft (cond (ltb r (length (v .head .rows))) (gives p) (refuses NoSuchRow)) place after answer
@@ -51,11 +51,11 @@ module _ (v : SheetValue) (r : ℕ) (p place : List ℕ) (whole : length p ≡ 3
   no-row : length (v .head .rows) ≤ r → Leaves (nothingPlaced NoSuchRow) place
   no-row le = rw (le-ltb r (length (v .head .rows)) le) (refusal-left NoSuchRow place)
 
-  short : r < length (v .head .rows) → length place < 32 * length (v .refs) → Leaves (nothingPlaced PlaceTooShort) place
+  short : r < length (v .head .rows) → length place < 32 * length (v .entries) → Leaves (nothingPlaced PlaceTooShort) place
   short lt less = rw (lt-ltb r (length (v .head .rows)) lt) (text-short p place (omega (arith, whole)))
 
-  put : r < length (v .head .rows) → 32 * length (v .refs) ≤ length place
-      → Leaves (record { verdict = Accepted; length = 32 * length (v .refs) }) (p ++ drop (32 * length (v .refs)) place)
+  put : r < length (v .head .rows) → 32 * length (v .entries) ≤ length place
+      → Leaves (record { verdict = Accepted; length = 32 * length (v .entries) }) (p ++ drop (32 * length (v .entries)) place)
   put lt fits = rw (lt-ltb r (length (v .head .rows)) lt) (text-fits p place whole fits)
 
 -- the optimal schedule
@@ -64,14 +64,14 @@ module _ (v : SheetValue) (r : ℕ) (place : List ℕ) where
   unfolding scheduleFor
   schedule-no-row = no-row v r (rowSchedule v r) place (schedule-length v r)
 
-  pub schedule-short : r < length (v .head .rows) → length place < 32 * length (v .refs)
+  pub schedule-short : r < length (v .head .rows) → length place < 32 * length (v .entries)
       → PlaceLeft (scheduleFor v r) place place (nothingPlaced PlaceTooShort)
   unfolding scheduleFor
   schedule-short = short v r (rowSchedule v r) place (schedule-length v r)
 
-  pub schedule-placed : r < length (v .head .rows) → 32 * length (v .refs) ≤ length place
-      → PlaceLeft (scheduleFor v r) place (rowSchedule v r ++ drop (32 * length (v .refs)) place)
-      (record { verdict = Accepted; length = 32 * length (v .refs) })
+  pub schedule-placed : r < length (v .head .rows) → 32 * length (v .entries) ≤ length place
+      → PlaceLeft (scheduleFor v r) place (rowSchedule v r ++ drop (32 * length (v .entries)) place)
+      (record { verdict = Accepted; length = 32 * length (v .entries) })
   unfolding scheduleFor
   schedule-placed = put v r (rowSchedule v r) place (schedule-length v r)
 
@@ -80,14 +80,14 @@ module _ (v : SheetValue) (r : ℕ) (place : List ℕ) where
   unfolding modifiedFor
   modified-no-row = no-row v r (rowModSchedule v r) place (modified-length v r)
 
-  pub modified-short : r < length (v .head .rows) → length place < 32 * length (v .refs)
+  pub modified-short : r < length (v .head .rows) → length place < 32 * length (v .entries)
       → PlaceLeft (modifiedFor v r) place place (nothingPlaced PlaceTooShort)
   unfolding modifiedFor
   modified-short = short v r (rowModSchedule v r) place (modified-length v r)
 
-  pub modified-placed : r < length (v .head .rows) → 32 * length (v .refs) ≤ length place
-      → PlaceLeft (modifiedFor v r) place (rowModSchedule v r ++ drop (32 * length (v .refs)) place)
-      (record { verdict = Accepted; length = 32 * length (v .refs) })
+  pub modified-placed : r < length (v .head .rows) → 32 * length (v .entries) ≤ length place
+      → PlaceLeft (modifiedFor v r) place (rowModSchedule v r ++ drop (32 * length (v .entries)) place)
+      (record { verdict = Accepted; length = 32 * length (v .entries) })
   unfolding modifiedFor
   modified-placed = put v r (rowModSchedule v r) place (modified-length v r)
 

@@ -44,7 +44,7 @@ module _ (T : Trace) (marks : ℕ → Bool) (row : PriceRow) (ok : RunWithin T) 
     more = sum-suc t (touching T (addedAt T marks row))
 
     -- a touch of segment i
-    pub adding-touch : (i : ℕ) (x : Touched) → i ≡ getD (T .refs) t 0 → i < segs T
+    pub adding-touch : (i : ℕ) (x : Touched) → i ≡ getD (T .entries) t 0 → i < segs T
         → x ≡ touchBy (T .kind) (T .a) row (sizeOf T i) (getD last i 0) (getD since i 0) t (marks t)
         → Adding T marks row (set last i (t + 1)) (set since i (x .since)) (total + x .added) (t + 1)
     adding-touch i x ei li ex =
@@ -57,9 +57,9 @@ module _ (T : Trace) (marks : ℕ → Bool) (row : PriceRow) (ok : RunWithin T) 
         }
 
     -- a step without a touch
-    pub adding-idle : segs T ≤ getD (T .refs) t 0 → Adding T marks row last since total (t + 1)
+    pub adding-idle : segs T ≤ getD (T .entries) t 0 → Adding T marks row last since total (t + 1)
     adding-idle idle =
-        let e : entry T t ≡ getD (T .refs) t 0 = entry-ref T t lt in
+        let e : entry T t ≡ getD (T .entries) t 0 = entry-ref T t lt in
         record {
           tables = tables-idle T marks row ok last since t (v .tables) lt idle;
           total-is =
@@ -72,7 +72,7 @@ module _ (T : Trace) (marks : ℕ → Bool) (row : PriceRow) (ok : RunWithin T) 
         }
 
     -- what is added next does not pass 64 bits
-    pub adding-small : (i : ℕ) (x : Touched) → i ≡ getD (T .refs) t 0 → i < segs T → (row .h < 2 ^ 16) × (row .d < 2 ^ 16)
+    pub adding-small : (i : ℕ) (x : Touched) → i ≡ getD (T .entries) t 0 → i < segs T → (row .h < 2 ^ 16) × (row .d < 2 ^ 16)
         → x ≡ touchBy (T .kind) (T .a) row (sizeOf T i) (getD last i 0) (getD since i 0) t (marks t) → total + x .added < 2 ^ 64
     adding-small i x ei li prices ex =
         let most = added-within T ok marks (row .h) (row .d) (omega (arith, prices .0)) (t + 1) in

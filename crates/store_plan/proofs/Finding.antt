@@ -60,7 +60,7 @@ module _ (T : Trace) (marks : ℕ → Bool) (row : PriceRow) (ok : RunWithin T) 
   module _ (keeps joins : List Bool) (last since : List ℕ) (t : ℕ) (v : Finding T marks row keeps joins last since t)
       (lt : t < steps T) where
     -- a touch of segment i
-    pub finding-touch : (i : ℕ) (x : Touched) → i ≡ getD (T .refs) t 0 → i < segs T
+    pub finding-touch : (i : ℕ) (x : Touched) → i ≡ getD (T .entries) t 0 → i < segs T
         → x ≡ touchBy (T .kind) (T .a) row (sizeOf T i) (getD last i 0) (getD since i 0) t (marks t)
         → Finding T marks row (set keeps t (x .kept)) (set joins t (x .joined)) (set last i (t + 1)) (set since i (x .since)) (t + 1)
     finding-touch i x ei li ex =
@@ -82,9 +82,9 @@ module _ (T : Trace) (marks : ℕ → Bool) (row : PriceRow) (ok : RunWithin T) 
         }
 
     -- a step without a touch
-    pub finding-idle : segs T ≤ getD (T .refs) t 0 → Finding T marks row keeps joins last since (t + 1)
+    pub finding-idle : segs T ≤ getD (T .entries) t 0 → Finding T marks row keeps joins last since (t + 1)
     finding-idle idle =
-        let e : entry T t ≡ getD (T .refs) t 0 = entry-ref T t lt in
+        let e : entry T t ≡ getD (T .entries) t 0 = entry-ref T t lt in
         let none : segs T ≤ entry T t = omega (arith, e) in
         record {
           tables = tables-idle T marks row ok last since t (v .tables) lt idle;

@@ -94,7 +94,7 @@ pub record Folding (segments : ℕ) (refs : List ℕ) (marks : ℕ → Bool) (fo
   pub within : t ≤ length refs
   pub flags-whole : length flags ≡ 256
   pub on-whole : length on ≡ 2048
-  pub flagged-of : (T : Trace) → segs T ≡ segments → T .refs ≡ refs → Flagged T marks found flags on t
+  pub flagged-of : (T : Trace) → segs T ≡ segments → T .entries ≡ refs → Flagged T marks found flags on t
 
 module _ (segments : ℕ) (refs : List ℕ) (marks : ℕ → Bool) (found : Found) (few : segments ≤ 256) (short : length refs ≤ 2048) where
   pub folding-start : (flags on : List Bool) → flags ≡ noFlags → on ≡ noDecisions → Folding segments refs marks found flags on (length refs)
@@ -105,12 +105,12 @@ module _ (segments : ℕ) (refs : List ℕ) (marks : ℕ → Bool) (found : Foun
         flags-whole = rw ef (length-replicate 256 false);
         on-whole = rw eo (length-replicate 2048 false);
         flagged-of = λ T es er.
-            let n : length (T .refs) ≡ length refs = ap length er in
+            let n : length (T .entries) ≡ length refs = ap length er in
             rw (← ef, n) at (flagged-start T marks found on);
       }
 
   -- of a run of so many segments and these references
-  module _ (T : Trace) (es : segs T ≡ segments) (er : T .refs ≡ refs) where
+  module _ (T : Trace) (es : segs T ≡ segments) (er : T .entries ≡ refs) where
     steps-is : steps T ≡ length refs
     steps-is = ap length er
 
@@ -149,7 +149,7 @@ module _ (segments : ℕ) (refs : List ℕ) (marks : ℕ → Bool) (found : Foun
         }
 
   pub folding-end : (flags on : List Bool) (t : ℕ) → Folding segments refs marks found flags on t → t ≤ 0
-      → (T : Trace) → segs T ≡ segments → T .refs ≡ refs → Folded T marks found on
+      → (T : Trace) → segs T ≡ segments → T .entries ≡ refs → Folded T marks found on
   folding-end flags on t v le T es er = λ k l. v .flagged-of T es er .on-are k (omega arith)
 
 -- the decisions of what is found are those of the schedule of the least total

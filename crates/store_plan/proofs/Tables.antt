@@ -104,7 +104,7 @@ module _ (T : Trace) (marks : ℕ → Bool) (row : PriceRow) (ok : RunWithin T) 
         (omega (arith, since-within T ok marks row prices t i (v .within) li, ok .steps-within))
 
     -- a touch of segment i
-    pub tables-touch : (i : ℕ) (x : Touched) → i ≡ getD (T .refs) t 0 → i < segs T → Told T marks row t i x
+    pub tables-touch : (i : ℕ) (x : Touched) → i ≡ getD (T .entries) t 0 → i < segs T → Told T marks row t i x
         → Tables T marks row (set last i (t + 1)) (set since i (x .since)) (t + 1)
     tables-touch i x ei li told =
         let e : entry T t ≡ i = entry-ref T t lt ∙ sym ei in
@@ -115,9 +115,9 @@ module _ (T : Trace) (marks : ℕ → Bool) (row : PriceRow) (ok : RunWithin T) 
         }
 
     -- a step without a touch
-    pub tables-idle : segs T ≤ getD (T .refs) t 0 → Tables T marks row last since (t + 1)
+    pub tables-idle : segs T ≤ getD (T .entries) t 0 → Tables T marks row last since (t + 1)
     tables-idle idle =
-        let e : entry T t ≡ getD (T .refs) t 0 = entry-ref T t lt in
+        let e : entry T t ≡ getD (T .entries) t 0 = entry-ref T t lt in
         record {
           within = omega arith;
           last-is = rw (add-one t) (v .last-is ∙ lastTable-idle T t (omega (arith, e)));

@@ -92,7 +92,7 @@ fn either(kept: bool, flag: bool) -> bool
 fn fold(segments: usize, refs: &[u16], marks: &[bool], found: Found) -> [bool; Sheet::MAX_STEPS]
     requires { ⌜ (segments ≤ mostSegs) × (length (now refs) ≤ mostSteps) × (length (now marks) ≡ length (now refs)) ⌝ }
     ensures { λ r.
-        ⌜ ((T : Trace) → segs T ≡ segments → T .refs ≡ now (refs .entry) → Folded T (marksOf (now (marks .entry))) found r) ⌝ }
+        ⌜ ((T : Trace) → segs T ≡ segments → T .entries ≡ now (refs .entry) → Folded T (marksOf (now (marks .entry))) found r) ⌝ }
 {
     let mut flags = no_flags();
     let mut on = no_decisions();

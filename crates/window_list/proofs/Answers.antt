@@ -94,7 +94,7 @@ module _ (v : SheetValue) where
     ones-cold = accepted-ones (v .head .sizes) (length (v .head .warm)) (asked .1)
 
     -- so the run of the sheet is the one that the recursion is over
-    pub window-run : traceOf v ≡ windowRun (v .head .sizes) (v .refs)
+    pub window-run : traceOf v ≡ windowRun (v .head .sizes) (v .entries)
     window-run =
         let none = length-zero (v .head .warm) (ones-cold .1) in
         rw (kind-a .0, kind-a .1, none)
@@ -103,18 +103,18 @@ module _ (v : SheetValue) where
     pub windowed : Windowed (traceOf v)
     windowed = record { time = kind-a .0; no-weight = kind-a .1; unit-size = λ i lt. size-one (v .head .sizes) (ones-cold .0) i lt }
 
-    pub list-is : windowList (windowRun (v .head .sizes) (v .refs)) ≡ wsoccs (traceOf v)
+    pub list-is : windowList (windowRun (v .head .sizes) (v .entries)) ≡ wsoccs (traceOf v)
     unfolding windowList wsoccs
     list-is =
         ap windowList (sym window-run)
         ∙ tabulate-eq (steps (traceOf v)) (windowAt (traceOf v)) (λ n. wsocc (traceOf v) n 1) (λ n lt. window-wsocc (traceOf v) windowed n)
 
-    pub windows-within : RunWithin (traceOf v) → RunWithin (windowRun (v .head .sizes) (v .refs))
+    pub windows-within : RunWithin (traceOf v) → RunWithin (windowRun (v .head .sizes) (v .entries))
     windows-within r = rw window-run at r
 
     -- accepted, the list is written
     pub windows-given : {place place' : List ℕ} {answer : PlaceAnswer}
-        → PlaceLeft (gives (windowList (windowRun (v .head .sizes) (v .refs)))) place place' answer
+        → PlaceLeft (gives (windowList (windowRun (v .head .sizes) (v .entries)))) place place' answer
         → PlaceLeft (windowsFor v) place place' answer
     unfolding windowsFor
     windows-given left = rw e (rw list-is at left)

@@ -27,7 +27,7 @@ runs =
     unitRun 6 (1 ∷ 2 ∷ 3 ∷ 4 ∷ 1 ∷ 2 ∷ 4 ∷ 4 ∷ 1 ∷ 2 ∷ 1 ∷ 5 ∷ 4 ∷ 3 ∷ 1 ∷ [])
     ∷ unitRun 2 (0 ∷ 2 ∷ 2 ∷ [])
     ∷ unitRun 1 []
-    ∷ record { kind = Time; a = 0; sizes = 1 ∷ 1 ∷ []; start = eqb 1; refs = 0 ∷ 1 ∷ 1 ∷ [] }
+    ∷ record { kind = Time; a = 0; sizes = 1 ∷ 1 ∷ []; start = eqb 1; entries = 0 ∷ 1 ∷ 1 ∷ [] }
     ∷ []
 
 pub each : windowLists runs

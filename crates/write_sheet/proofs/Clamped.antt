@@ -10,7 +10,7 @@ use Rattle.write_sheet.proofs.ClampedHead.{take-min}
 -- the value of a sheet by another count of steps and of marks
 abbrev pub clamped : Sheet → ℕ → ℕ → SheetValue
 clamped s steps marked =
-    record { form = s .form; head = headValueOf (s .head); refs = take steps (s .touches); marks = take marked (s .marks) }
+    record { form = s .form; head = headValueOf (s .head); entries = take steps (s .touches); marks = take marked (s .marks) }
 
 -- it is the same with each count cut off at the length of its array
 pub value-clamped : (s : Sheet) (steps marked : ℕ) → length (s .touches) ≡ 2048 → length (s .marks) ≡ 2048 → steps ≡ min (s .steps) 2048

@@ -47,24 +47,24 @@ form-text form = go (leb 2 form)
     go false = refl
 
 -- the entries
-runs : (form : ℕ) (h : HeadValue) (e : Entries) → entriesText form h e ≡ runText form (e .refs) (e .marks)
+runs : (form : ℕ) (h : HeadValue) (e : Entries) → entriesText form h e ≡ runText form (e .entries) (e .marks)
 unfolding entriesText runText stepsText
 runs form h e = go (leb 2 form)
   where
     go : (b : Bool) → textOf (entriesPart b (leb 4 form) (length (h .sizes)) .lines e)
         ≡ cond b
-        (numberText stepsKey (length (e .refs)) ++ (numberText refsKey (length (touchesOf e)) ++ touchesText (touchesOf e)))
-        (countedText refsKey refKey (e .refs))
+        (numberText stepsKey (length (e .entries)) ++ (numberText refsKey (length (touchesOf e)) ++ touchesText (touchesOf e)))
+        (countedText refsKey refKey (e .entries))
     go true = steps-text (leb 4 form) (length (h .sizes)) e
     go false = plain-text (length (h .sizes)) e
 
 -- the whole
 pub text-parts : (v : SheetValue)
-    → formText (v .form) ++ (headText (v .form) (v .head) ++ runText (v .form) (v .refs) (v .marks)) ≡ sheetText v
+    → formText (v .form) ++ (headText (v .form) (v .head) ++ runText (v .form) (v .entries) (v .marks)) ≡ sheetText v
 text-parts v =
     rw (sheet-text v, form-text (v .form), heads (v .form) (v .head), runs (v .form) (v .head) (entriesIn v))
 
 -- and its length
 pub parts-length : (v : SheetValue) → length (sheetText v)
-    ≡ length (formText (v .form)) + (length (headText (v .form) (v .head)) + length (runText (v .form) (v .refs) (v .marks)))
+    ≡ length (formText (v .form)) + (length (headText (v .form) (v .head)) + length (runText (v .form) (v .entries) (v .marks)))
 parts-length v = rw (← text-parts v) (simp length-append)

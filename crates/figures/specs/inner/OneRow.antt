@@ -35,7 +35,7 @@ wsspaceFrom row volume all kept ends =
 abbrev pub wsoccFrom : Kind → PriceRow → ℕ → ℕ → Bucket → Bucket → Bucket → ℕ
 wsoccFrom kind row cost volume all kept ends = byKind kind (wsspaceFrom row volume all kept ends) (wsmemFrom row cost all kept ends)
 
--- mean: 1,000 × wsocc divided by d × refs, rounded down; 0 when refs is 0
+-- mean: 1,000 × wsocc divided by d × steps, rounded down; 0 when steps is 0 (request F-3)
 abbrev pub meanFrom : ℕ → ℕ → ℕ → ℕ
 meanFrom refs d wsocc = cond (eqb refs 0) 0 (1000 * wsocc / (d * refs))
 

@@ -6,7 +6,7 @@ use mathlib.Core.List.{List}
 use lib.ListN.{getD}
 use lib.Dec.{eqb}
 use Rattle.model.specs.Schedules.{bit}
-use Rattle.model.specs.Sheets.{listed}
+use Rattle.model.specs.Sheets.{mostSegs, listed}
 use Rattle.pricing.specs.declared.held_bits.StartWords.{StartWords}
 
 -- number m of the four that have the start set, and whether segment i is in it
@@ -18,7 +18,7 @@ startBit start i = bit (startWord start (i / 64)) (i % 64)
 
 -- they have the warm segments
 abbrev pub StartBits : List ℕ → StartWords → Type 0
-StartBits warm start = (i : ℕ) → i < 256 → startBit start i ≡ listed warm i
+StartBits warm start = (i : ℕ) → i < mostSegs → startBit start i ≡ listed warm i
 
 -- segment i is held in step t, counted from 1, of a schedule; before step 1 the start set is
 unfoldable pub heldOf : StartWords → List ℕ → ℕ → ℕ → Bool

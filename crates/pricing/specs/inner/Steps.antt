@@ -8,7 +8,7 @@ use lib.ListN.{length}
 use Rattle.model.specs.Sums.{sum}
 use Rattle.model.specs.Traces.{Trace, steps, unitOf, swapOf, touching, overSegments}
 use Rattle.model.specs.Schedules.{held}
-use Rattle.model.specs.Sheets.{RunWithin}
+use Rattle.model.specs.Sheets.{RunWithin, mostSegs}
 use Rattle.model.specs.declared.Verdict.the-variants.{Accepted, Refused}
 use Rattle.pricing.specs.inner.Held.{startBit}
 use Rattle.pricing.specs.declared.held_bits.StartWords.{StartWords}
@@ -20,7 +20,7 @@ use Rattle.pricing.specs.StepVerdicts.{stepVerdict, stepsVerdict}
 -- a schedule of the right length for a run that can be priced, its start set, and the place t of a step
 pub record Step (T : Trace) (start : StartWords) (p : List ℕ) (t : ℕ) : Type 0 where
   pub limits : RunWithin T
-  pub start-bits : (i : ℕ) → i < 256 → startBit start i ≡ T .start i
+  pub start-bits : (i : ℕ) → i < mostSegs → startBit start i ≡ T .start i
   pub whole : length p ≡ 32 * steps T
   pub place : t < steps T
 

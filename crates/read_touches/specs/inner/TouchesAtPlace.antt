@@ -6,7 +6,7 @@ use Rattle.sheet.specs.Touches.{Entries}
 
 -- entries and, in a form that has the letter w, marks
 abbrev pub entriesWith : Bool → List ℕ → List Bool → Entries
-entriesWith letters xs marks = record { refs = xs; marks = cond letters marks [] }
+entriesWith letters xs marks = record { entries = xs; marks = cond letters marks [] }
 
 -- how many marks n steps have: one each in a form that has the letter w
 abbrev pub markCount : Bool → ℕ → ℕ

@@ -21,5 +21,5 @@ begun head = record { head = head; steps = 0; last = startTable (headWarm head);
 -- r is what the pass has after a sheet with the references xs more, where p is what it has after the sheet's own n
 abbrev pub Continued : Head → Passed → ℕ → List ℕ → Passed → Type 0
 Continued head p n xs r =
-    (v : SheetValue) → RowsWithin (v .head .rows) → RunWithin (traceOf (appended v xs)) → head ≡ headOf (v .head) → length (v .refs) ≡ n
+    (v : SheetValue) → RowsWithin (v .head .rows) → RunWithin (traceOf (appended v xs)) → head ≡ headOf (v .head) → length (v .entries) ≡ n
     → p ≡ passedOf (v .head .rows) (traceOf v) → r ≡ passedOf (v .head .rows) (traceOf (appended v xs))

@@ -8,6 +8,7 @@ use borrow.Author.Tests.{ltb-true, ltb-false}
 use lib.ListN.{length}
 use lib.Seq.{length-take-le}
 use Rattle.model.specs.Values.{headValueOf, valueOf}
+use Rattle.schedule.proofs.Steps.{steps-taken}
 use Rattle.sheet_schedules.proofs.PlanResults.{modified-no-row, modified-short, modified-placed}
 use Rattle.model.proofs.Standing.{rows-counted, steps-counted, row-of, marks-counted, marks-steps}
 use Rattle.sheet_schedules.proofs.sheet_modified.Statement.{statement}
@@ -78,13 +79,6 @@ write-modified-requires c κs =
     let m = steps-counted (s .args .s) (s .pre .0) in
     ((ok .valid .run, marks-counted x ok ∙ marks-steps x ok (s .pre .1) ∙ sym m), omega (arith, m, room b))
 
-of-steps-requires : tie.Need-of-steps-requires
-of-steps-requires c κs = omega (arith, Entry (c .before .before .before .before .before .before .before .before) .pre .0)
-
-length-requires : tie.Need-length-requires
-length-requires c κs =
-    omega (arith, c .of-steps .ensures, Entry (c .before .before .before .before .before .before .before .before .before) .pre .0)
-
 returns-3 : tie.Need-returns-3
 unfolding valueOf headValueOf
 returns-3 c =
@@ -96,7 +90,7 @@ returns-3 c =
     let l : s .args .row < s .args .s .head .rows = omega (arith, Fits b .before .before .before .if1 .left) in
     let p = modified-placed v (s .args .row) (s .args .out .now) (omega arith) (omega (arith, room b)) in
     record {
-      answer-is = rw (c .length .ensures .0, c .before .of-steps .ensures) (rw m at (p .answer-is));
+      answer-is = rw (c .length .ensures .0, steps-taken (s .args .s .steps) _ (omega (arith, s .pre .0)) (c .before .of-steps .ensures .0)) (rw m at (p .answer-is));
       place-is =
           c .before .before .before .before .write-modified .ensures
           ∙ rw (row-of (s .args .s) (s .pre .0) (s .args .row) l) at (p .place-is);
@@ -122,7 +116,7 @@ sheet-modified-spec =
     array-share-prefix-marks
     slice-aggregate-write-modified-4
     write-modified-requires
-    of-steps-requires
-    length-requires
+    (λ c κs. search needs)
+    (λ c κs. search needs)
     (λ c. search needs)
     returns-3)

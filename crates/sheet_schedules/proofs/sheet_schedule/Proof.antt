@@ -8,6 +8,7 @@ use borrow.Author.Tests.{ltb-true, ltb-false}
 use lib.ListN.{length}
 use lib.Seq.{length-take-le}
 use Rattle.model.specs.Values.{headValueOf, valueOf}
+use Rattle.schedule.proofs.Steps.{steps-taken}
 use Rattle.sheet_schedules.proofs.PlanResults.{schedule-no-row, schedule-short, schedule-placed}
 use Rattle.model.proofs.Standing.{rows-counted, steps-counted, row-of}
 use Rattle.sheet_schedules.proofs.sheet_schedule.Statement.{statement}
@@ -70,12 +71,6 @@ write-optimal-requires c κs =
     let m = steps-counted (s .args .s) (s .pre) in
     (s .pre .valid .run, omega (arith, m, room b))
 
-of-steps-requires : tie.Need-of-steps-requires
-of-steps-requires c κs = omega (arith, Entry (c .before .before .before .before .before .before .before) .pre)
-
-length-requires : tie.Need-length-requires
-length-requires c κs = omega (arith, c .of-steps .ensures, Entry (c .before .before .before .before .before .before .before .before) .pre)
-
 returns-3 : tie.Need-returns-3
 unfolding valueOf headValueOf
 returns-3 c =
@@ -87,7 +82,7 @@ returns-3 c =
     let l : s .args .row < s .args .s .head .rows = omega (arith, Fits b .before .before .before .if1 .left) in
     let p = schedule-placed v (s .args .row) (s .args .out .now) (omega arith) (omega (arith, room b)) in
     record {
-      answer-is = rw (c .length .ensures .0, c .before .of-steps .ensures) (rw m at (p .answer-is));
+      answer-is = rw (c .length .ensures .0, steps-taken (s .args .s .steps) _ (omega (arith, s .pre)) (c .before .of-steps .ensures .0)) (rw m at (p .answer-is));
       place-is =
           c .before .before .before .before .write-optimal .ensures
           ∙ rw (row-of (s .args .s) (s .pre) (s .args .row) l) at (p .place-is);
@@ -111,7 +106,7 @@ sheet-schedule-spec =
     array-share-prefix-touches
     slice-aggregate-write-optimal-3
     write-optimal-requires
-    of-steps-requires
-    length-requires
+    (λ c κs. search needs)
+    (λ c κs. search needs)
     (λ c. search needs)
     returns-3)

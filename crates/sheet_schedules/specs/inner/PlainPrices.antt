@@ -17,7 +17,7 @@ pub record PlainOf (v : SheetValue) (n a : ℕ) (row : PriceRow) (sizes refs : L
   pub a-is : v .head .a ≡ a
   pub row-is : rowAt v n ≡ row
   pub sizes-are : v .head .sizes ≡ sizes
-  pub refs-are : v .refs ≡ refs
+  pub refs-are : v .entries ≡ refs
   pub marks-are : v .marks ≡ marks
   pub marked : length marks ≡ length refs
   pub plain-is : plain ≡ priceAnswer (traceOf v) (rowAt v n .h) (rowAt v n .d) p

@@ -21,4 +21,4 @@ heldAfter p (suc t) i = bit (getD p (32 * t + i / 8) 0) (i % 8)
 pub record SizedAs (T : Trace) (a : ℕ) (sizes refs : List ℕ) : Type 0 where
   pub a-is : T .a ≡ a
   pub sizes-are : T .sizes ≡ sizes
-  pub refs-are : T .refs ≡ refs
+  pub refs-are : T .entries ≡ refs

@@ -9,7 +9,7 @@ use Rattle.sheet.specs.Touches.{Touch, touchesOf, touchesText}
 
 -- the touches of entries and of their marks
 abbrev pub touchesWith : List ℕ → List Bool → List Touch
-touchesWith entries marks = touchesOf (record { refs = entries; marks = marks })
+touchesWith entries marks = touchesOf (record { entries = entries; marks = marks })
 
 -- the entries of form 2 on: the line that counts the steps, the line that counts the touches, and the line of each touch
 unfoldable pub stepsText : List ℕ → List Bool → List ℕ
