@@ -1,6 +1,7 @@
 // A test program: answers of the public calls, compared with what the documents say and not proved. The file stdin has the sheets and the
 // calls, as its first lines explain; the file stdout has the answers. The contracts of the C library's functions are assumed.
 mod lists;
+mod parts;
 mod show;
 mod text;
 mod texts;
@@ -73,6 +74,8 @@ fn call(word: u8, n: u64, sheet: &[u8], place: &mut [u8]) {
         b'u' => lists::used(sheet),
         b'w' => lists::windows(sheet),
         b'e' => lists::every(sheet),
+        b'v' => parts::nth(sheet, row),
+        b'k' => parts::part(sheet, row),
         _ => {}
     }
 }
