@@ -135,10 +135,10 @@ uint64_t segtrace_size(const uint8_t *sheet, size_t sheet_length, uint64_t ceili
 
 /*
  * The misses of least-recently-used replacement with 1, 2, .., segs frames, at the front of `out`, and how many numbers, segs: for a sheet
- * of any form with every size 1 and no warm segment, from stack distances in one pass. Idle steps play no part. `looked` gets how far
- * the recency list of the segments touched so far is walked, in entries: on a touch those from the most recent up to its segment, on a
- * first touch all; never more than refs times the number of distinct segments touched. The sheet's refusals, 26 where a size is not 1,
- * 27 where a warm segment is named, 11. SEGTRACE_SEGS numbers always suffice.
+ * of any form with every size 1 and no warm segment, from stack distances in one pass. Idle steps play no part. `looked` gets the
+ * entries of the recency list that the pass looks at, each counted as it is looked at: the list has the segments touched so far, and a
+ * touch looks from the most recent up to its segment, a first touch at all; never more than refs times the number of distinct segments
+ * touched. The sheet's refusals, 26 where a size is not 1, 27 where a warm segment is named, 11. SEGTRACE_SEGS numbers always suffice.
  */
 uint64_t segtrace_lru(const uint8_t *sheet, size_t sheet_length, uint64_t *out, size_t out_length, uint64_t *written, uint64_t *looked);
 
@@ -203,7 +203,7 @@ uint64_t segtrace_recorder_figures(const uint64_t *head, const uint64_t *counts,
                                    uint64_t *figures);
 
 /* A recorder with the kind, a, sizes, rows and warm segments of a sheet of forms 1 to 3 and no steps; the sheet's refusals, where form 4
-   is 4. */
+   is 4. Refused, the recorder stays as it was. */
 static inline uint64_t segtrace_start(const uint8_t *sheet, size_t sheet_length, segtrace_recorder *r)
 {
     return segtrace_recorder_start(sheet, sheet_length, r->head, r->counts, r->sizes, r->holds, r->h, r->d, r->last, r->sums);
@@ -227,7 +227,7 @@ static inline uint64_t segtrace_touch_all(segtrace_recorder *r, const uint16_t *
     return segtrace_recorder_touch_all(r->head, r->counts, r->sizes, r->holds, r->h, r->d, r->last, r->sums, segments, segments_length);
 }
 
-/* The eleven figures of a row at this moment: those of the sheet ending there: 7. */
+/* The eleven figures of a row at this moment: those of the sheet ending there: 7. Refused, the list `figures` stays as it was. */
 static inline uint64_t segtrace_figures_now(const segtrace_recorder *r, uint64_t row, uint64_t figures[SEGTRACE_FIGURES])
 {
     return segtrace_recorder_figures(r->head, r->counts, r->sizes, r->holds, r->h, r->d, r->last, r->sums, row, figures);

@@ -1,5 +1,17 @@
 //! The misses of least-recently-used replacement with every number of frames.
 
+/// Looks at the entries one after the other up to the segment and counts each: its place, where the list has it, and the count.
+fn walk(list: &[u16], segment: u16) -> (Option<usize>, u64) {
+    let mut looked = 0;
+    for (place, &other) in list.iter().enumerate() {
+        looked += 1;
+        if other == segment {
+            return (Some(place), looked);
+        }
+    }
+    (None, looked)
+}
+
 /// The misses with 1, 2, .., segs frames, from stack distances in one pass over the references. Gives the entries looked at.
 pub fn lru(segs: usize, refs: &[u16], out: &mut [u64]) -> u64 {
     let mut recent = [0; 256];
@@ -8,9 +20,9 @@ pub fn lru(segs: usize, refs: &[u16], out: &mut [u64]) -> u64 {
     let mut found = [0; 257];
     let mut looked = 0;
     for &segment in refs {
-        let place = recent[..length].iter().position(|&other| other == segment);
+        let (place, entries) = walk(&recent[..length], segment);
         found[place.unwrap_or(256)] += 1;
-        looked += place.map_or(length, |place| place + 1) as u64;
+        looked += entries;
         if place.is_none() {
             recent[length] = segment;
             length += 1;

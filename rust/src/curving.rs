@@ -7,8 +7,8 @@ use crate::{c, Refusal, SEGS};
 pub struct Lru {
     /// The misses with 1, 2, .., segs frames.
     pub misses: Vec<u64>,
-    /// How far the recency list is walked, in entries: on a touch those from the most recent up to its segment, on a first touch all. At
-    /// most refs times the number of distinct segments touched.
+    /// The entries of the recency list that the pass looks at, each counted as it is looked at: on a touch those from the most recent up
+    /// to its segment, on a first touch all. At most refs times the number of distinct segments touched.
     pub looked: u64,
 }
 

@@ -15,11 +15,11 @@ use Rattle.sheet.specs.Reading.{Outcome, accepted, rejected, readForms}
 use Rattle.sheet.proofs.Accepted.{accepted-valid, accepted-form}
 use Rattle.figures.specs.Rows.{figuresOf}
 use Rattle.figures.specs.declared.FiguresAnswer.{FiguresAnswer}
-use Rattle.recorder.specs.Recorders.{recorderOf, emptyRecorder, started, rested, withStep, touchVerdict, refsVerdict}
+use Rattle.recorder.specs.Recorders.{recorderOf, emptyRecorder, started, withIdle, withStep, touchVerdict, refsVerdict}
 use Rattle.recorder.specs.Recorders.{TouchedAll, Rested, Figured}
 use Rattle.recorder.specs.declared.Recorder.{Recorder}
 use Rattle.recorder.specs.declared.TouchAnswer.{TouchAnswer}
-use Rattle.recorder.proofs.Bulk.{takable, all-valid, one-accepted}
+use Rattle.recorder.proofs.Bulk.{takable-is, all-valid, one-accepted}
 use Rattle.recorder.proofs.Recorded.{counts-are}
 use Rattle.recorder.proofs.Standing.{started-valid, later-valid, rested-valid, idle-room}
 use Rattle.analyser.specs.Recording.{startAnswer, takenOf, Handed, begun, touched, touched-all, idled, recordedOf, emptyAfter}
@@ -44,7 +44,7 @@ module _ (v : SheetValue) (taken xs : List ℕ) (R N : Recorder) (before : Stand
   call-stands (Refused why) valid next unchanged = rw (append-nil taken, unchanged why refl) before
 
 -- one idle step more keeps the form
-rested-is : (v : SheetValue) (taken : List ℕ) → rested (recordedOf v taken) ≡ recordedOf v (taken ++ (idle ∷ []))
+rested-is : (v : SheetValue) (taken : List ℕ) → withIdle (recordedOf v taken) ≡ recordedOf v (taken ++ (idle ∷ []))
 rested-is v taken =
     let e : max 2 (max 2 (v .form)) ≡ max 2 (v .form) = omega arith in
     ap (λ (f : ℕ). record { form = f; head = v .head; entries = taken ++ (idle ∷ []); marks = [] }) e
@@ -109,7 +109,7 @@ module _ (taken : List ℕ) (R : Recorder) (before : IsEmpty taken R) where
     where
       go : (w : Verdict) → r .verdict ≡ w → IsEmpty (taken ++ takenOf (r .verdict) (x ∷ xs)) (r .recorder)
       go Accepted a =
-          let can = takable (min (R .head .segs) mostSegs) (R .steps) (x ∷ xs) (sym (t .verdict-is) ∙ a) in
+          let can = takable-is (min (R .head .segs) mostSegs) (R .steps) (x ∷ xs) (sym (t .verdict-is) ∙ a) in
           absurd (omega (arith, can .segments 0 (omega arith), no-segs))
       go (Refused why) f = refused-empty (x ∷ xs) r why f (t .unchanged why f)
 

@@ -12,7 +12,7 @@ use Rattle.sheet.specs.Writing.{sheetText}
 use Rattle.sheet.proofs.Accepted.{accepted-valid}
 use Rattle.sheet.proofs.Lengths.{text-within}
 use Rattle.din.specs.Import.{imported}
-use Rattle.din.specs.Lines.{linesOf}
+use Rattle.din.specs.Lines.{traceLines}
 use Rattle.din.specs.Traced.{lineCount}
 use Rattle.din.proofs.Results.{imported-is, imported-valid, imported-read, imported-refs, imported-number, imported-new, imported-same}
 use Rattle.analyser.specs.Importing.{importedResult, importResult, importedValue, ImportedFromBytes}
@@ -37,10 +37,10 @@ module _ (trace : List ℕ) (k : ℕ) (s text : List ℕ) (v : SheetValue) (read
   valid-import : Valid (importedValue trace k v)
   valid-import = imported-valid k trace (v .head .rows) (importedValue trace k v) (both .0) rows-within
 
-  counted : length (importedValue trace k v .entries) ≡ lineCount (linesOf trace)
+  counted : length (importedValue trace k v .entries) ≡ lineCount (traceLines trace)
   counted = imported-refs k trace (v .head .rows) (importedValue trace k v) (both .0)
 
-  inside : {t : ℕ} → t < lineCount (linesOf trace) → t < length (importedValue trace k v .entries)
+  inside : {t : ℕ} → t < lineCount (traceLines trace) → t < length (importedValue trace k v .entries)
   inside lt = rw counted lt
 
   pub imported-from-bytes : ImportedFromBytes trace k v text

@@ -12,7 +12,7 @@ use Rattle.sheet.specs.Accepting.{onSheet}
 use Rattle.sheet.specs.Reading.{accepted, readSheet}
 use Rattle.sheet.specs.Writing.{sheetText}
 use Rattle.din.specs.Import.{sheetOfPages, imported}
-use Rattle.din.specs.Lines.{linesOf}
+use Rattle.din.specs.Lines.{traceLines}
 use Rattle.din.specs.Pages.{placeIn, firsts}
 use Rattle.din.specs.Traced.{lineCount, pagesIn, pageAt, pagesBefore}
 
@@ -40,12 +40,12 @@ pub record ImportedFromBytes (trace : List ℕ) (k : ℕ) (v : SheetValue) (text
   pub valid : Valid (importedValue trace k v)
   pub within : length text ≤ formBytes 1
   -- there is one reference for each line
-  pub refs-counted : length (importedValue trace k v .entries) ≡ lineCount (linesOf trace)
+  pub refs-counted : length (importedValue trace k v .entries) ≡ lineCount (traceLines trace)
   -- two lines touch the same segment exactly where their addresses lie in one page
-  pub same-segment : (t u : ℕ) → t < lineCount (linesOf trace) → u < lineCount (linesOf trace)
+  pub same-segment : (t u : ℕ) → t < lineCount (traceLines trace) → u < lineCount (traceLines trace)
       → (importedSegment trace k v t ≡ importedSegment trace k v u) ↔ (pageAt k trace t ≡ pageAt k trace u)
   -- numbered by first appearance: the segment is the place of the page among those of the lines before, and the next number for a new page
-  pub numbered : (t : ℕ) → t < lineCount (linesOf trace)
+  pub numbered : (t : ℕ) → t < lineCount (traceLines trace)
       → importedSegment trace k v t ≡ placeIn (firsts (pagesBefore k trace t)) (pageAt k trace t)
-  pub new-page : (t : ℕ) → t < lineCount (linesOf trace) → ((u : ℕ) → u < t → pageAt k trace u ≡ pageAt k trace t → ⊥)
+  pub new-page : (t : ℕ) → t < lineCount (traceLines trace) → ((u : ℕ) → u < t → pageAt k trace u ≡ pageAt k trace t → ⊥)
       → importedSegment trace k v t ≡ length (firsts (pagesBefore k trace t))

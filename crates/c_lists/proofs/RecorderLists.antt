@@ -18,7 +18,7 @@ use Rattle.model.specs.Sums.{tabulate}
 use Rattle.buckets.specs.Buckets.{noBucket}
 use Rattle.buckets.specs.declared.Bucket.{Bucket}
 use Rattle.model.proofs.Tables.{length-tabulate, list-tabulate}
-use Rattle.recorder.specs.Recorders.{recorderOf, appended, rested, withStep, stepVerdict, Rested}
+use Rattle.recorder.specs.Recorders.{recorderOf, appended, withIdle, withStep, roomVerdict, Rested}
 use Rattle.recorder.specs.declared.Recorder.{Recorder}
 use Rattle.recorder.specs.declared.TouchAnswer.{TouchAnswer}
 use Rattle.recorder.proofs.Answers.{refused-accepted, step-room, step-full, idle-refused, idle-accepted}
@@ -95,12 +95,12 @@ unfolding withTaken listsOf recorderOf
 taken-lists v xs = refl
 
 -- the counts after an idle step, where it is accepted and where it is refused
-pub counts-more : (counts : List ℕ) → stepVerdict (getD counts 0 0) ≡ Accepted
+pub counts-more : (counts : List ℕ) → roomVerdict (getD counts 0 0) ≡ Accepted
     → (getD counts 0 0 + 1) ∷ getD counts 1 0 ∷ getD counts 2 0 ∷ [] ≡ idleCounts counts
 unfolding idleCounts
 counts-more counts a = rw (lt-ltb (getD counts 0 0) mostSteps (step-room (getD counts 0 0) a)) refl
 
-pub counts-stay : (counts : List ℕ) (why : Refusal) → stepVerdict (getD counts 0 0) ≡ Refused why → counts ≡ idleCounts counts
+pub counts-stay : (counts : List ℕ) (why : Refusal) → roomVerdict (getD counts 0 0) ≡ Refused why → counts ≡ idleCounts counts
 unfolding idleCounts
 counts-stay counts why f = rw (le-ltb (getD counts 0 0) mostSteps (step-full (getD counts 0 0) why f)) refl
 
@@ -114,10 +114,10 @@ pub record Idled (head counts sizes holds h d last sums : List ℕ) (w : Verdict
       ≡ withTaken (lists head counts sizes holds h d last sums) (answer .recorder)
   pub unchanged : (why : Refusal) → w ≡ Refused why → idleCounts counts ≡ counts
 
-pub idled : (head counts sizes holds h d last sums : List ℕ) → length sums ≡ 390 → (w : Verdict) → w ≡ stepVerdict (getD counts 0 0)
+pub idle-lists : (head counts sizes holds h d last sums : List ℕ) → length sums ≡ 390 → (w : Verdict) → w ≡ roomVerdict (getD counts 0 0)
     → Idled head counts sizes holds h d last sums w
 unfolding recorderIn withTaken listsOf
-idled head counts sizes holds h d last sums long Accepted is =
+idle-lists head counts sizes holds h d last sums long Accepted is =
     record {
       answer = record { verdict = Accepted; recorder = withStep (recorderIn (lists head counts sizes holds h d last sums)) };
       answered = idle-accepted (recorderIn (lists head counts sizes holds h d last sums)) (sym is);
@@ -125,7 +125,7 @@ idled head counts sizes holds h d last sums long Accepted is =
       taken = λ a. rw (← counts-more counts (sym is), sums-whole sums long) refl;
       unchanged = λ why f. sym (counts-stay counts why (sym is ∙ f));
     }
-idled head counts sizes holds h d last sums long (Refused why) is =
+idle-lists head counts sizes holds h d last sums long (Refused why) is =
     record {
       answer = record { verdict = Refused why; recorder = recorderIn (lists head counts sizes holds h d last sums) };
       answered = idle-refused (recorderIn (lists head counts sizes holds h d last sums)) why (sym is);
@@ -135,6 +135,6 @@ idled head counts sizes holds h d last sums long (Refused why) is =
     }
 
 -- and of a recorder that stands for a sheet they are those of the one that stands for the sheet with one idle step more
-pub rested-lists : (v : SheetValue) → withTaken (listsOf (recorderOf v)) (recorderOf (rested v)) ≡ listsOf (recorderOf (rested v))
+pub rested-lists : (v : SheetValue) → withTaken (listsOf (recorderOf v)) (recorderOf (withIdle v)) ≡ listsOf (recorderOf (withIdle v))
 unfolding withTaken listsOf recorderOf
 rested-lists v = refl

@@ -11,7 +11,7 @@ use recorder::Recorder;
 ghost use mathlib.Core.Path.{_≡_};
 ghost use Prim.Native.Nat.{min};
 ghost use lib.ListN.{getD};
-ghost use Rattle.recorder.specs.Recorders.{stepVerdict};
+ghost use Rattle.recorder.specs.Recorders.{roomVerdict};
 ghost use Rattle.c_lists.specs.Recorders.{kindIn, kindNumber, lists, recorderIn, idleCounts};
 ghost use Rattle.c_lists.specs.inner.Stored.{HeadStored, TakenStored};
 
@@ -134,7 +134,7 @@ pub fn store_taken(
 
 // One idle step, of which only the counts of a recorder tell: 13.
 pub fn idle(counts: &mut [u64; 3]) -> Verdict
-    ensures verdict { λ r. ⌜ r ≡ stepVerdict (getD (now (counts .entry)) 0 0) ⌝ }
+    ensures verdict { λ r. ⌜ r ≡ roomVerdict (getD (now (counts .entry)) 0 0) ⌝ }
     ensures counted { λ r. ⌜ now (counts .exit) ≡ idleCounts (now (counts .entry)) ⌝ }
 {
     let t = counts[0];

@@ -10,7 +10,7 @@ use lib.ListN.{replicate}
 use Rattle.model.specs.Refusals.{numberOf}
 use Rattle.sheet.specs.Lines.{sameBytes}
 use Rattle.sheet.specs.Reading.{Outcome, accepted, rejected}
-use Rattle.din.specs.Lines.{linesOf, digitOf, allDigits, valueFrom, addressOf}
+use Rattle.din.specs.Lines.{traceLines, digitOf, allDigits, valueFrom, addressOf}
 use Rattle.din.specs.Pages.{placeIn, withPage, firstsAfter, firsts, segmentsOf, tooMany, touchedFrom, touchedBy}
 use Rattle.din.specs.Pages.{touchedWith}
 use Rattle.din.specs.Import.{sheetOfTouched, imported}
@@ -37,7 +37,7 @@ comesTo (rejected r) segs refs = false
 pub holds : Example → Bool
 holds (taken k trace segs refs) = comesTo (imported k (bytes trace) []) segs refs
 holds (refusal k trace n) = eqb (numbered (imported k (bytes trace) [])) n
-holds (after ps trace n) = eqb (numbered (sheetOfTouched (touchedFrom 8 ps (linesOf (bytes trace))) [])) n
+holds (after ps trace n) = eqb (numbered (sheetOfTouched (touchedFrom 8 ps (traceLines (bytes trace))) [])) n
 
 pub allHold : List Example → Bool
 allHold [] = true
@@ -111,5 +111,5 @@ examples =
 
 pub examples-hold : allHold examples ≡ true
 unfolding bytes numbered comesTo holds allHold downFrom examples sameBytes imported touchedWith touchedBy touchedFrom tooMany segmentsOf
-    firsts firstsAfter withPage placeIn linesOf digitOf allDigits valueFrom addressOf
+    firsts firstsAfter withPage placeIn traceLines digitOf allDigits valueFrom addressOf
 examples-hold = refl

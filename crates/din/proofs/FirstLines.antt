@@ -13,14 +13,14 @@ use lib.ListN.{length, getD, drop, drop-of-length-le}
 use lib.Seq.{drop-cons, drop-drop}
 use Rattle.text.specs.Keys.{lineFeed}
 use Rattle.scan.proofs.Tails.{tail, tail-is}
-use Rattle.din.specs.Lines.{Lines, end, line, linesOf, andBefore, between, digitOf}
+use Rattle.din.specs.Lines.{Lines, end, line, traceLines, andBefore, between, digitOf}
 use Rattle.din.specs.Lines.{allDigits, valueFrom, isLabel, blank, mostDigits, addressOf}
 use Rattle.din.specs.inner.FirstLine.{malformed, address, withAddress, firstOf, firstAfter}
 use Rattle.din.proofs.Digits.{within, above}
 
 -- a byte that is no line feed stands in the first line
-lines-other : (b : ℕ) (s : List ℕ) → (b ≡ lineFeed → ⊥) → linesOf (b ∷ s) ≡ andBefore b (linesOf s)
-unfolding linesOf
+lines-other : (b : ℕ) (s : List ℕ) → (b ≡ lineFeed → ⊥) → traceLines (b ∷ s) ≡ andBefore b (traceLines s)
+unfolding traceLines
 lines-other b s ne = rw (ne-eqb b lineFeed ne) refl
 
 and-false : (t : Bool) → (t && false) ≡ false
@@ -53,7 +53,7 @@ pub record Along (s : List ℕ) (v n : ℕ) : Type 0 where
   pub few : n ≤ mostDigits
   pub place : n ≤ length s
   pub small : v < 16 ^ n
-  pub same : firstAfter 0 0 (linesOf s) ≡ firstAfter v n (linesOf (drop n s))
+  pub same : firstAfter 0 0 (traceLines s) ≡ firstAfter v n (traceLines (drop n s))
 
 pub along-start : (s : List ℕ) → Along s 0 0
 along-start s = record { few = omega arith; place = omega arith; small = omega arith; same = refl }
@@ -80,27 +80,27 @@ digit-le b = go (between 48 57 b) refl (between 65 70 b) refl (between 97 102 b)
 
 module _ (s : List ℕ) (v n : ℕ) (along : Along s v n) where
   -- the bytes end
-  pub along-end : length s ≤ n → malformed ≡ firstAfter 0 0 (linesOf s)
-  unfolding linesOf firstAfter
+  pub along-end : length s ≤ n → malformed ≡ firstAfter 0 0 (traceLines s)
+  unfolding traceLines firstAfter
   along-end le = sym (along .same ∙ rw (drop-of-length-le s le) refl)
 
   module _ (lt : n < length s) where
-    here : linesOf (drop n s) ≡ linesOf (getD s n 0 ∷ drop (suc n) s)
-    here = ap linesOf (drop-cons s n 0 lt)
+    here : traceLines (drop n s) ≡ traceLines (getD s n 0 ∷ drop (suc n) s)
+    here = ap traceLines (drop-cons s n 0 lt)
 
     -- a line feed
     module _ (feed : getD s n 0 ≡ lineFeed) where
-      feed-line : linesOf (drop n s) ≡ line [] (linesOf (drop (suc n) s))
-      unfolding linesOf
+      feed-line : traceLines (drop n s) ≡ line [] (traceLines (drop (suc n) s))
+      unfolding traceLines
       feed-line = here ∙ rw (eq-eqb (getD s n 0) lineFeed feed) refl
 
-      pub along-empty : n ≡ 0 → malformed ≡ firstAfter 0 0 (linesOf s)
+      pub along-empty : n ≡ 0 → malformed ≡ firstAfter 0 0 (traceLines s)
       unfolding firstAfter allDigits
       along-empty e =
           let none : n + 0 ≡ 0 = omega arith in
           sym (along .same ∙ rw (feed-line, none) refl)
 
-      pub along-feed : 1 ≤ n → address v (linesOf (drop (n + 1) s)) ≡ firstAfter 0 0 (linesOf s)
+      pub along-feed : 1 ≤ n → address v (traceLines (drop (n + 1) s)) ≡ firstAfter 0 0 (traceLines s)
       unfolding firstAfter allDigits valueFrom
       along-feed more =
           let none : n + 0 ≡ n = omega arith in
@@ -108,22 +108,22 @@ module _ (s : List ℕ) (v n : ℕ) (along : Along s v n) where
 
     -- any other byte
     module _ (other : getD s n 0 ≡ lineFeed → ⊥) where
-      other-line : linesOf (drop n s) ≡ andBefore (getD s n 0) (linesOf (drop (suc n) s))
+      other-line : traceLines (drop n s) ≡ andBefore (getD s n 0) (traceLines (drop (suc n) s))
       other-line = here ∙ lines-other (getD s n 0) (drop (suc n) s) other
 
-      pub along-full : n ≡ mostDigits → malformed ≡ firstAfter 0 0 (linesOf s)
+      pub along-full : n ≡ mostDigits → malformed ≡ firstAfter 0 0 (traceLines s)
       along-full e =
           sym
           (along .same
           ∙ ap (firstAfter v n) other-line
-          ∙ rw e (after-full v (getD s mostDigits 0) (linesOf (drop (suc mostDigits) s))))
+          ∙ rw e (after-full v (getD s mostDigits 0) (traceLines (drop (suc mostDigits) s))))
 
-      pub along-none : 16 ≡ digitOf (getD s n 0) → malformed ≡ firstAfter 0 0 (linesOf s)
+      pub along-none : 16 ≡ digitOf (getD s n 0) → malformed ≡ firstAfter 0 0 (traceLines s)
       along-none e =
           sym
           (along .same
           ∙ ap (firstAfter v n) other-line
-          ∙ after-none v n (getD s n 0) (linesOf (drop (suc n) s)) (omega arith))
+          ∙ after-none v n (getD s n 0) (traceLines (drop (suc n) s)) (omega arith))
 
       module _ (room : (n ≡ mostDigits) → ⊥) (d : ℕ) (is : d ≡ digitOf (getD s n 0)) (digit : (d ≡ 16) → ⊥) where
         -- one digit more fits
@@ -146,7 +146,7 @@ module _ (s : List ℕ) (v n : ℕ) (along : Along s v n) where
               same =
                   along .same
                   ∙ ap (firstAfter v n) other-line
-                  ∙ after-digit v n (getD s n 0) (linesOf (drop (suc n) s)) (omega (arith, digit-le (getD s n 0)))
+                  ∙ after-digit v n (getD s n 0) (traceLines (drop (suc n) s)) (omega (arith, digit-le (getD s n 0)))
                   ∙ rw is refl;
             })
 
@@ -176,8 +176,8 @@ labelled b (line s more) e = rw (e, zero-add (length s)) (go (allDigits s && bet
     go false = refl
 
 -- the line at the head of s: too short
-pub line-short : (s : List ℕ) → 1 ≤ length s → length s < 2 → malformed ≡ firstOf (linesOf s)
-unfolding linesOf firstOf addressOf
+pub line-short : (s : List ℕ) → 1 ≤ length s → length s < 2 → malformed ≡ firstOf (traceLines s)
+unfolding traceLines firstOf addressOf
 line-short [] more few = absurd (omega arith)
 line-short (b ∷ c ∷ s) more few = absurd (omega arith)
 line-short (b ∷ []) more few = go (eqb b lineFeed)
@@ -187,29 +187,29 @@ line-short (b ∷ []) more few = go (eqb b lineFeed)
     go false = refl
 
 -- without its label
-pub line-unlabelled : (s : List ℕ) → 2 ≤ length s → isLabel (getD s 0 0) ≡ false → malformed ≡ firstOf (linesOf s)
-unfolding linesOf firstOf addressOf
+pub line-unlabelled : (s : List ℕ) → 2 ≤ length s → isLabel (getD s 0 0) ≡ false → malformed ≡ firstOf (traceLines s)
+unfolding traceLines firstOf addressOf
 line-unlabelled [] long e = absurd (omega arith)
 line-unlabelled (b ∷ s) long e = go (eqb b lineFeed)
   where
-    go : (t : Bool) → malformed ≡ firstOf (cond t (line [] (linesOf s)) (andBefore b (linesOf s)))
+    go : (t : Bool) → malformed ≡ firstOf (cond t (line [] (traceLines s)) (andBefore b (traceLines s)))
     go true = refl
-    go false = sym (not-label b (linesOf s) e)
+    go false = sym (not-label b (traceLines s) e)
 
 -- without its blank
-pub line-unparted : (s : List ℕ) → 2 ≤ length s → isLabel (getD s 0 0) ≡ true → (getD s 1 0 ≡ blank → ⊥) → malformed ≡ firstOf (linesOf s)
-unfolding linesOf firstOf addressOf
+pub line-unparted : (s : List ℕ) → 2 ≤ length s → isLabel (getD s 0 0) ≡ true → (getD s 1 0 ≡ blank → ⊥) → malformed ≡ firstOf (traceLines s)
+unfolding traceLines firstOf addressOf
 line-unparted [] long e ne = absurd (omega arith)
 line-unparted (b ∷ []) long e ne = absurd (omega arith)
 line-unparted (b ∷ c ∷ s) long e ne = go (eqb c lineFeed) ∙ sym (ap firstOf (lines-other b (c ∷ s) (label-other b e)))
   where
-    go : (t : Bool) → malformed ≡ firstOf (andBefore b (cond t (line [] (linesOf s)) (andBefore c (linesOf s))))
+    go : (t : Bool) → malformed ≡ firstOf (andBefore b (cond t (line [] (traceLines s)) (andBefore c (traceLines s))))
     go true = refl
-    go false = sym (not-blank b c (linesOf s) ne)
+    go false = sym (not-blank b c (traceLines s) ne)
 
 -- with both: the address behind them
 pub line-address : (s : List ℕ) → 2 ≤ length s → isLabel (getD s 0 0) ≡ true → getD s 1 0 ≡ blank
-    → firstAfter 0 0 (linesOf (tail s 2)) ≡ firstOf (linesOf s)
+    → firstAfter 0 0 (traceLines (tail s 2)) ≡ firstOf (traceLines s)
 line-address [] long e is = absurd (omega arith)
 line-address (b ∷ []) long e is = absurd (omega arith)
 line-address (b ∷ c ∷ s) long e is =
@@ -217,12 +217,12 @@ line-address (b ∷ c ∷ s) long e is =
     (sym
     (ap firstOf (lines-other b (c ∷ s) (label-other b e))
     ∙ ap (λ (L : Lines). firstOf (andBefore b L)) (lines-other c s (λ f. omega arith))
-    ∙ rw is (labelled b (linesOf s) e)))
+    ∙ rw is (labelled b (traceLines s) e)))
 
 -- found up to the place `next`
 pub line-next : (s : List ℕ) → 2 ≤ length s → isLabel (getD s 0 0) ≡ true → getD s 1 0 ≡ blank → (a next : ℕ)
-    → address a (linesOf (drop next (tail s 2))) ≡ firstAfter 0 0 (linesOf (tail s 2))
-    → address a (linesOf (drop (next + 2) s)) ≡ firstOf (linesOf s)
+    → address a (traceLines (drop next (tail s 2))) ≡ firstAfter 0 0 (traceLines (tail s 2))
+    → address a (traceLines (drop (next + 2) s)) ≡ firstOf (traceLines s)
 line-next s long e is a next f =
     let sum : next + 2 ≡ 2 + next = omega arith in
     let rest : drop (next + 2) s ≡ drop next (tail s 2) = rw (sum, tail-is s 2) (sym (drop-drop next 2 s)) in

@@ -15,7 +15,7 @@ use Rattle.model.specs.declared.Refusal.the-variants.{TraceMalformed, TraceTooL
 use Rattle.model.specs.declared.Verdict.the-variants.{Accepted}
 use Rattle.model.proofs.Values.{padded-next}
 use Rattle.scan.proofs.Tails.{tail, tail-is, tail-place}
-use Rattle.din.specs.Lines.{Lines, end, line, linesOf, addressOf}
+use Rattle.din.specs.Lines.{Lines, end, line, traceLines, addressOf}
 use Rattle.din.specs.Pages.{Touched, touches, refused, pageOf, placeIn, firsts}
 use Rattle.din.specs.Pages.{firstsAfter, segmentsOf, tooMany, touchedFrom, touchedBy}
 use Rattle.din.specs.inner.FirstLine.{First, nothing, malformed, address, withAddress, firstOf}
@@ -96,7 +96,7 @@ module _ (ps : List ℕ) (p : ℕ) where
 pub record Going (k : ℕ) (bytes pages marks seen : List ℕ) (segs steps at : ℕ) : Type 0 where
   pub ps : List ℕ
   pub place : at ≤ length bytes
-  pub left : touchedBy k bytes ≡ touchedFrom k ps (linesOf (drop at bytes))
+  pub left : touchedBy k bytes ≡ touchedFrom k ps (traceLines (drop at bytes))
   pub few-segs : length (firsts ps) ≤ mostSegs
   pub few-steps : length ps ≤ mostSteps
   pub segs-are : segs ≡ length (firsts ps)
@@ -126,37 +126,37 @@ module _ (k : ℕ) (bytes pages marks seen : List ℕ) where
     going-room = omega (arith, going .table .free, going .few-segs)
 
     -- the lines that are left by the first of them
-    first-left : (g : First) → g ≡ firstOf (linesOf (tail bytes at)) → touchedBy k bytes ≡ afterFirst k (going .ps) g
+    first-left : (g : First) → g ≡ firstOf (traceLines (tail bytes at)) → touchedBy k bytes ≡ afterFirst k (going .ps) g
     first-left g e =
         going .left
-        ∙ by-first k (going .ps) (linesOf (drop at bytes))
+        ∙ by-first k (going .ps) (traceLines (drop at bytes))
         ∙ ap (afterFirst k (going .ps)) (rw (← (tail-is bytes at)) (sym e))
 
     -- no line is left
     pub going-end : length bytes ≤ at → (all : ℕ) → all ≡ max 1 segs
         → _≡_ {A = Imported} (record { verdict = Accepted; segs = all; steps = steps; touches = seen }) (importedOf (touchedBy k bytes))
-    unfolding importedOf linesOf touchedFrom
+    unfolding importedOf traceLines touchedFrom
     going-end le all is =
         let long = segments-length (going .ps) in
         rw (is, going .left, drop-of-length-le bytes le, going .segs-are, going .steps-are, going .seen-are, long) refl
 
     -- the next is malformed
-    pub going-malformed : malformed ≡ firstOf (linesOf (tail bytes at))
+    pub going-malformed : malformed ≡ firstOf (traceLines (tail bytes at))
         → importedOf (refused TraceMalformed) ≡ importedOf (touchedBy k bytes)
     unfolding afterFirst
     going-malformed e = ap importedOf (sym (first-left malformed e))
 
     -- the next has the address a, and its page was looked for in the table
-    module _ (a next : ℕ) (e : address a (linesOf (drop next (tail bytes at))) ≡ firstOf (linesOf (tail bytes at)))
+    module _ (a next : ℕ) (e : address a (traceLines (drop next (tail bytes at))) ≡ firstOf (traceLines (tail bytes at)))
         (place : ℕ) (f : Found pages marks (pageOf k a) place) (s : ℕ) (number : s ≡ numberAt (getD marks place 0) segs) where
       touched : List ℕ
       touched = going .ps ++ (pageOf k a ∷ [])
 
-      next-left : (t : Bool) → tooMany touched ≡ t → touchedBy k bytes ≡ afterPage k touched (linesOf (drop next (tail bytes at))) t
+      next-left : (t : Bool) → tooMany touched ≡ t → touchedBy k bytes ≡ afterPage k touched (traceLines (drop next (tail bytes at))) t
       unfolding afterFirst touched
       next-left t m =
-          first-left (address a (linesOf (drop next (tail bytes at)))) e
-          ∙ ap (afterPage k (going .ps ++ (pageOf k a ∷ [])) (linesOf (drop next (tail bytes at)))) m
+          first-left (address a (traceLines (drop next (tail bytes at)))) e
+          ∙ ap (afterPage k (going .ps ++ (pageOf k a ∷ [])) (traceLines (drop next (tail bytes at)))) m
 
       -- its segment
       pub going-segment : s ≡ placeIn (firsts (going .ps)) (pageOf k a)
@@ -185,11 +185,11 @@ module _ (k : ℕ) (bytes pages marks seen : List ℕ) where
         rest : drop next (tail bytes at) ≡ drop (at + next) bytes
         rest = rw (tail-is bytes at) (drop-drop next at bytes)
 
-        pages-left : touchedBy k bytes ≡ touchedFrom k touched (linesOf (drop (at + next) bytes))
+        pages-left : touchedBy k bytes ≡ touchedFrom k touched (traceLines (drop (at + next) bytes))
         unfolding afterPage touched
         pages-left =
             next-left false (not-many (going .ps) (pageOf k a) (going .few-segs) (omega (arith, few, going-segment)) fits)
-            ∙ ap (λ (l : List ℕ). touchedFrom k touched (linesOf l)) rest
+            ∙ ap (λ (l : List ℕ). touchedFrom k touched (traceLines l)) rest
 
         seen-next : set seen steps s ≡ padded (segmentsOf touched) (idles mostSteps)
         unfolding touched idles

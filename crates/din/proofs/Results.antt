@@ -19,7 +19,7 @@ use Rattle.model.specs.declared.Refusal.the-variants.{PageOutOfRange, TraceMalf
 use Rattle.sheet.specs.Reading.{Outcome, accepted, rejected, readSheet}
 use Rattle.sheet.specs.Writing.{sheetText}
 use Rattle.sheet.proofs.RoundTrip.{written-then-read}
-use Rattle.din.specs.Lines.{Lines, end, line, linesOf, addressOf}
+use Rattle.din.specs.Lines.{Lines, end, line, traceLines, addressOf}
 use Rattle.din.specs.Pages.{Touched, touches, refused, pageOf, placeIn, firsts}
 use Rattle.din.specs.Pages.{firstsAfter, segmentsOf, tooMany, touchedFrom, touchedBy}
 use Rattle.din.specs.Traced.{andAddress, addresses, lineCount, pagesIn, pageAt, pagesBefore}
@@ -143,12 +143,12 @@ valueIn d (rejected r) = d
 
 -- lines that are taken touch pages within the limits
 module _ (k : ℕ) (trace ps : List ℕ) where
-  in-range : (t : Bool) → cond t (touchedBy k trace) (refused PageOutOfRange) ≡ touches ps → Reached k [] (linesOf trace) ps
+  in-range : (t : Bool) → cond t (touchedBy k trace) (refused PageOutOfRange) ≡ touches ps → Reached k [] (traceLines trace) ps
   unfolding touchedBy tooMany firsts firstsAfter
-  in-range true e = reached k [] (linesOf trace) ps e refl
+  in-range true e = reached k [] (traceLines trace) ps e refl
   in-range false e = not-taken PageOutOfRange ps e
 
-  touched-reached : touchedWith k trace ≡ touches ps → Reached k [] (linesOf trace) ps
+  touched-reached : touchedWith k trace ≡ touches ps → Reached k [] (traceLines trace) ps
   unfolding touchedWith
   touched-reached e = in-range (leb leastPower k && leb k largestPower) e
 
@@ -172,7 +172,7 @@ module _ (k : ℕ) (trace : List ℕ) (rows : List PriceRow) (v : SheetValue) wh
   taken e = let t = taken-from (touchedWith k trace) e in record { ps = t .0; lines = t .1; value = t .2 }
 
   module _ (e : imported k trace rows ≡ accepted v) where
-    all-reached : Reached k [] (linesOf trace) (taken e .ps)
+    all-reached : Reached k [] (traceLines trace) (taken e .ps)
     all-reached = touched-reached k trace (taken e .ps) (taken e .lines)
 
     refs-are : v .entries ≡ segmentsOf (taken e .ps)
@@ -196,10 +196,10 @@ module _ (k : ℕ) (trace : List ℕ) (rows : List PriceRow) (v : SheetValue) wh
         let c = imported-valid rows-within in written-then-read 1 newestForm v (c .some-form) (c .form-within) c
 
     -- there is one reference for each line
-    pub imported-refs : length (v .entries) ≡ lineCount (linesOf trace)
+    pub imported-refs : length (v .entries) ≡ lineCount (traceLines trace)
     unfolding pagesOf
     imported-refs =
-        refs-long ∙ ap length (all-reached .pages-are) ∙ length-map (addresses (linesOf trace)) (pageOf k) ∙ all-reached .counted
+        refs-long ∙ ap length (all-reached .pages-are) ∙ length-map (addresses (traceLines trace)) (pageOf k) ∙ all-reached .counted
 
     module _ (t : ℕ) (lt : t < length (v .entries)) where
       inside : t < length (taken e .ps)

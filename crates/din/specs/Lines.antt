@@ -17,9 +17,9 @@ abbrev pub andBefore : ℕ → Lines → Lines
 andBefore b (end s) = end (b ∷ s)
 andBefore b (line s more) = line (b ∷ s) more
 
-unfoldable pub linesOf : List ℕ → Lines
-linesOf [] = end []
-linesOf (b ∷ s) = cond (eqb b lineFeed) (line [] (linesOf s)) (andBefore b (linesOf s))
+unfoldable pub traceLines : List ℕ → Lines
+traceLines [] = end []
+traceLines (b ∷ s) = cond (eqb b lineFeed) (line [] (traceLines s)) (andBefore b (traceLines s))
 
 -- a byte from lo to hi
 abbrev pub between : ℕ → ℕ → ℕ → Bool

@@ -8,7 +8,7 @@ use lib.ListN.{length}
 use Rattle.model.specs.Sheets.{mostSegs, mostSteps}
 use Rattle.model.specs.declared.Refusal.{Refusal}
 use Rattle.model.specs.declared.Refusal.the-variants.{PageOutOfRange, TraceMalformed, TraceTooLong}
-use Rattle.din.specs.Lines.{Lines, end, line, linesOf, addressOf}
+use Rattle.din.specs.Lines.{Lines, end, line, traceLines, addressOf}
 
 -- the page of an address, with pages of 2 to the power k bytes
 abbrev pub pageOf : ℕ → ℕ → ℕ
@@ -65,7 +65,7 @@ touchedFrom k ps (line s more) =
 
 -- the pages that a trace touches
 unfoldable pub touchedBy : ℕ → List ℕ → Touched
-touchedBy k trace = touchedFrom k [] (linesOf trace)
+touchedBy k trace = touchedFrom k [] (traceLines trace)
 
 -- the least and the largest k
 abbrev pub leastPower : ℕ

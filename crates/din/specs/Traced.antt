@@ -3,7 +3,7 @@ use Prim.Native.Nat.{ℕ, suc}
 use mathlib.Core.List.{List, [], _∷_, map}
 use mathlib.Core.Option.{Option, none, some}
 use lib.ListN.{getD, take}
-use Rattle.din.specs.Lines.{Lines, end, line, linesOf, addressOf}
+use Rattle.din.specs.Lines.{Lines, end, line, traceLines, addressOf}
 use Rattle.din.specs.Pages.{pageOf}
 
 -- the addresses of the lines, and how many lines there are
@@ -21,7 +21,7 @@ lineCount (line s more) = suc (lineCount more)
 
 -- the page of each line, of the line at place t, and of the lines before that
 unfoldable pub pagesIn : ℕ → List ℕ → List ℕ
-pagesIn k trace = map (pageOf k) (addresses (linesOf trace))
+pagesIn k trace = map (pageOf k) (addresses (traceLines trace))
 
 unfoldable pub pageAt : ℕ → List ℕ → ℕ → ℕ
 pageAt k trace t = getD (pagesIn k trace) t 0

@@ -4,7 +4,7 @@ ghost use mathlib.Core.Path.{_≡_};
 ghost use Prim.Native.Nat.{_≤_};
 ghost use lib.ListN.{length};
 ghost use Rattle.model.specs.Sums.{tabulate};
-ghost use Rattle.din.specs.Lines.{linesOf, digitOf};
+ghost use Rattle.din.specs.Lines.{traceLines, digitOf};
 ghost use Rattle.din.specs.inner.FirstLine.{firstOf, firstAfter, firstAt, NextWithin};
 
 // The address of a line and the place of what follows the line, or that the line is malformed.
@@ -53,7 +53,7 @@ pub fn digit_values() -> [u8; 256]
 // The address that the digits at the head of `s` stand for, up to their line feed.
 fn address(s: &[u8], values: &[u8]) -> LineAt
     requires { ⌜ now values ≡ tabulate 256 digitOf ⌝ }
-    ensures { λ r. ⌜ firstAt (now (s .entry)) r ≡ firstAfter 0 0 (linesOf (now (s .entry))) ⌝ }
+    ensures { λ r. ⌜ firstAt (now (s .entry)) r ≡ firstAfter 0 0 (traceLines (now (s .entry))) ⌝ }
     ensures { λ r. ⌜ NextWithin (now (s .entry)) r ⌝ }
 {
     let mut value: u32 = 0;
@@ -82,7 +82,7 @@ fn address(s: &[u8], values: &[u8]) -> LineAt
 // The line at the head of `s`.
 pub fn line(s: &[u8], values: &[u8]) -> LineAt
     requires { ⌜ (1 ≤ length (now s)) × (now values ≡ tabulate 256 digitOf) ⌝ }
-    ensures { λ r. ⌜ firstAt (now (s .entry)) r ≡ firstOf (linesOf (now (s .entry))) ⌝ }
+    ensures { λ r. ⌜ firstAt (now (s .entry)) r ≡ firstOf (traceLines (now (s .entry))) ⌝ }
     ensures { λ r. ⌜ NextWithin (now (s .entry)) r ⌝ }
 {
     if s.len() < 2 {

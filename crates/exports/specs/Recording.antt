@@ -5,7 +5,7 @@ use mathlib.Core.List.{List}
 use lib.ListN.{getD}
 use Rattle.model.specs.Refusals.{verdictNumber}
 use Rattle.figures.specs.declared.FiguresAnswer.{FiguresAnswer}
-use Rattle.recorder.specs.Recorders.{Figured, stepVerdict}
+use Rattle.recorder.specs.Recorders.{Figured, roomVerdict}
 use Rattle.recorder.specs.declared.Recorder.{Recorder}
 use Rattle.recorder.specs.declared.TouchAnswer.{TouchAnswer}
 use Rattle.c_lists.specs.Figures.{figureList}
@@ -28,7 +28,7 @@ pub record TouchCall (Answers : Recorder → TouchAnswer → Type 0) (l l' : Rec
 
 -- one idle step, by the counts alone: accepted, the first of them, the steps taken, is one more; refused, they are as they were
 pub record IdleCall (counts counts' : List ℕ) (returned : ℕ) : Type 0 where
-  pub returned-is : returned ≡ verdictNumber (stepVerdict (getD counts 0 0))
+  pub returned-is : returned ≡ verdictNumber (roomVerdict (getD counts 0 0))
   pub counts-are : counts' ≡ idleCounts counts
 
 -- the figures of a row: an answer that the recorder gives, and the lent numbers after it

@@ -5,9 +5,8 @@ use mathlib.Core.Bool.{cond}
 use Rattle.model.specs.Traces.{Trace, segs}
 use Rattle.model.proofs.Loads.{overTouches-eq}
 use Rattle.model.proofs.Tables.{tabulate-eq}
-use Rattle.lru.specs.Orders.{has}
+use Rattle.lru.specs.Memory.{has, lruSimulated, simulatedCurve}
 use Rattle.lru.specs.Recency.{recency, distance, missBeyond, lruMisses, lruCurve}
-use Rattle.lru.specs.Memory.{lruSimulated, simulatedCurve}
 use Rattle.lru.proofs.Frames.{simulated-ordered}
 use Rattle.lru.proofs.Ordered.{ordered, inclusion}
 use Rattle.lru.proofs.Orders.{miss-has}

@@ -15,7 +15,8 @@ use Rattle.model.specs.Traces.{Trace, segs, steps, entry, touched, touching, re
 use Rattle.model.proofs.FirstTouches.{firstOf, first-touches}
 use Rattle.model.proofs.Loads.{overTouches-eq}
 use Rattle.model.proofs.Sums.{sum-le, sum-mul, sum-within}
-use Rattle.lru.specs.Orders.{has, toFront}
+use Rattle.lru.specs.Memory.{has}
+use Rattle.lru.specs.Orders.{toFront}
 use Rattle.lru.specs.Recency.{recency, distance, missBeyond, lruMisses, lookedIn, entriesLooked, distinct}
 use Rattle.lru.proofs.Orders.{miss-has, has-front, length-front, looked-within}
 use Rattle.lru.proofs.Touches.{cond-within, sum-grows, touching-on, touching-off, touching-le}

@@ -13,7 +13,8 @@ use Rattle.model.specs.Figures.{isReuse}
 use Rattle.model.specs.Traces.{Trace, segs, entry, touched, overSegments, later, unreferenced}
 use Rattle.model.proofs.Sums.{sum-le, sum-lt, sum-eq, sum-add, sum-at, sum-zero}
 use Rattle.model.proofs.Touches.{unreferenced-none, unreferenced-touched, unreferenced-later}
-use Rattle.lru.specs.Orders.{has, placeOf, without}
+use Rattle.lru.specs.Memory.{has}
+use Rattle.lru.specs.Orders.{placeOf, without}
 use Rattle.lru.specs.Recency.{recency, distance, missBeyond}
 use Rattle.lru.specs.ByTime.{sooner, newerThan, timeDistance, amongRecent}
 use Rattle.lru.proofs.Ordered.{ordered, inclusion}

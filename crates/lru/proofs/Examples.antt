@@ -12,9 +12,9 @@ use Rattle.model.specs.Sums.{sum, tabulate}
 use Rattle.model.specs.Traces.{Trace, steps, entry, touching, refsBy, refsOf, later, unreferenced}
 use Rattle.model.specs.declared.Kind.the-variants.{Time}
 use Rattle.lru.specs.ByTime.{sooner, newerThan, timeDistance}
-use Rattle.lru.specs.Orders.{has, placeOf, without}
+use Rattle.lru.specs.Memory.{has, leastRecent, replaced, swapped, reloaded, memory, lruSimulated, simulatedCurve}
+use Rattle.lru.specs.Orders.{placeOf, without}
 use Rattle.lru.specs.Recency.{recency, distance, lruMisses, lruCurve, entriesLooked, distinct}
-use Rattle.lru.specs.Memory.{leastRecent, replaced, swapped, reloaded, memory, lruSimulated, simulatedCurve}
 
 -- a run, its misses with 1, 2, .., segs frames, the entries looked at, its distinct segments and its touches
 pub record Example : Type 0 where

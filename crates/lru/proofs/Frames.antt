@@ -14,8 +14,7 @@ use Rattle.model.specs.Traces.{Trace, segs, entry, touched, overTouches, later,
 use Rattle.model.proofs.LastTouches.{later-some}
 use Rattle.model.proofs.Loads.{overTouches-eq}
 use Rattle.lru.specs.ByTime.{moreRecent}
-use Rattle.lru.specs.Memory.{leastRecent, replaced, swapped, reloaded, memory, lruSimulated}
-use Rattle.lru.specs.Orders.{has}
+use Rattle.lru.specs.Memory.{has, leastRecent, replaced, swapped, reloaded, memory, lruSimulated}
 use Rattle.lru.specs.Replacing.{Goes, FullMiss, LeastRecentGoes}
 use Rattle.lru.specs.Recency.{recency}
 use Rattle.lru.proofs.Ordered.{reordered, ordered, inclusion}

@@ -8,7 +8,8 @@ use lib.Dec.{eqb, ltb}
 use lib.ListN.{length, getD, take}
 use borrow.Author.Tests.{eqb-true, eqb-false, ne-eqb, eq-eqb, ltb-true, ltb-false}
 use Rattle.model.specs.Traces.{Trace, segs, entry}
-use Rattle.lru.specs.Orders.{has, without}
+use Rattle.lru.specs.Memory.{has}
+use Rattle.lru.specs.Orders.{without}
 use Rattle.lru.specs.Recency.{recency}
 use Rattle.lru.proofs.Bounds.{recency-on, recency-off}
 use Rattle.lru.proofs.Orders.{has-without}

@@ -9,7 +9,8 @@ use lib.Dec.{ltb}
 use lib.ListN.{take}
 use lib.Seq.{take-take}
 use Rattle.model.specs.Traces.{Trace, segs, entry}
-use Rattle.lru.specs.Orders.{has, without, toFront, afterStep}
+use Rattle.lru.specs.Memory.{has}
+use Rattle.lru.specs.Orders.{without, toFront, afterStep}
 use Rattle.lru.specs.Recency.{recency}
 use Rattle.lru.proofs.Orders.{hit-take, miss-take}
 

@@ -10,7 +10,8 @@ use lib.Dec.{eqb, ltb}
 use lib.ListN.{length, take}
 use borrow.Author.Tests.{lt-ltb, le-ltb, ltb-true, ltb-false, eqb-true}
 use Rattle.model.specs.Traces.{later}
-use Rattle.lru.specs.Orders.{has, placeOf, without, toFront}
+use Rattle.lru.specs.Memory.{has}
+use Rattle.lru.specs.Orders.{placeOf, without, toFront}
 use Rattle.lru.specs.Recency.{missBeyond, lookedIn}
 
 -- a place one further, and a memory one larger

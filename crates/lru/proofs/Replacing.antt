@@ -13,7 +13,8 @@ use Rattle.model.specs.Traces.{Trace, segs, entry, touched, later, unreferenced
 use Rattle.model.proofs.LastTouches.{later-some}
 use Rattle.model.proofs.Touches.{unreferenced-none, unreferenced-touched, unreferenced-later, touched-below, entry-touched}
 use Rattle.lru.specs.ByTime.{sooner, moreRecent, newerThan, amongRecent}
-use Rattle.lru.specs.Orders.{has, placeOf}
+use Rattle.lru.specs.Memory.{has}
+use Rattle.lru.specs.Orders.{placeOf}
 use Rattle.lru.specs.Recency.{recency}
 use Rattle.lru.specs.Replacing.{Goes, FullMiss, LeastRecentGoes}
 use Rattle.lru.proofs.Ordered.{ordered, inclusion}

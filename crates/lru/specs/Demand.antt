@@ -3,8 +3,7 @@ use Prim.Native.Nat.{ℕ, _*_, _≤_}
 use mathlib.Core.Path.{_≡_}
 use Rattle.model.specs.Traces.{Trace, steps, refsOf}
 use Rattle.lru.specs.ByTime.{timeDistance, amongRecent}
-use Rattle.lru.specs.Memory.{memory, lruSimulated, simulatedCurve}
-use Rattle.lru.specs.Orders.{has}
+use Rattle.lru.specs.Memory.{has, memory, lruSimulated, simulatedCurve}
 use Rattle.lru.specs.Recency.{distance, lruMisses, lruCurve, entriesLooked, distinct}
 use Rattle.lru.specs.Replacing.{LeastRecentGoes}
 

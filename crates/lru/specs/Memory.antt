@@ -1,14 +1,18 @@
 -- Least-recently-used replacement in one memory of k frames, simulated touch by touch, with no order among its frames: a hit changes
 -- nothing, and a miss takes a free frame or that of the segment with the greatest unreferenced time. Assumes nothing.
 use Prim.Native.Nat.{ℕ, zero, suc}
-use mathlib.Core.Bool.{cond}
+use mathlib.Core.Bool.{Bool, false, cond, _||_}
 use mathlib.Core.List.{List, [], _∷_}
 use lib.Dec.{eqb, ltb}
 use lib.ListN.{length}
 use Rattle.model.specs.Sums.{tabulate}
 use Rattle.model.specs.Traces.{Trace, segs, entry, overTouches}
 use Rattle.lru.specs.ByTime.{moreRecent}
-use Rattle.lru.specs.Orders.{has}
+
+-- a list of segments has x
+unfoldable pub has : ℕ → List ℕ → Bool
+has x [] = false
+has x (y ∷ ys) = eqb y x || has x ys
 
 -- the least recently touched of y and the segments of a list, after t steps
 unfoldable pub leastRecent : Trace → ℕ → ℕ → List ℕ → ℕ

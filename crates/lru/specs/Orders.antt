@@ -1,15 +1,10 @@
--- Lists of segments in an order: whether and where one stands in it, the list without it, and what a step makes of it. Assumes nothing.
+-- Lists of segments in an order: where one stands in it, the list without it, and what a step makes of it. Assumes nothing.
 use Prim.Native.Nat.{ℕ}
-use mathlib.Core.Bool.{Bool, false, cond, _||_}
+use mathlib.Core.Bool.{cond}
 use mathlib.Core.List.{List, [], _∷_}
 use mathlib.Core.Option.{Option, none, some}
 use lib.Dec.{eqb, ltb}
 use Rattle.model.specs.Traces.{Trace, segs, entry, later}
-
--- the list has x
-unfoldable pub has : ℕ → List ℕ → Bool
-has x [] = false
-has x (y ∷ ys) = eqb y x || has x ys
 
 -- the place of x in the list, counted from 1; none where the list does not have it
 unfoldable pub placeOf : ℕ → List ℕ → Option ℕ

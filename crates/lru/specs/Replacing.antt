@@ -6,7 +6,7 @@ use mathlib.Core.Bool.{true, false}
 use mathlib.Core.List.{List}
 use lib.ListN.{length}
 use Rattle.model.specs.Traces.{Trace, segs, entry, touched}
-use Rattle.lru.specs.Orders.{has}
+use Rattle.lru.specs.Memory.{has}
 use Rattle.lru.specs.ByTime.{moreRecent}
 
 -- segment i goes in the step at place t: the memory has it before the step and not after it

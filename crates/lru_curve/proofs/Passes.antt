@@ -22,9 +22,10 @@ use Rattle.lru.specs.Recency.{recency, distance, lookedIn, entriesLooked}
 use Rattle.lru.proofs.Bounds.{recency-on, recency-off, length-recency, recency-within}
 use Rattle.lru.proofs.Orders.{looked-within}
 use Rattle.lru.proofs.Touches.{cond-within, adds-on, adds-off, touches-within}
-use Rattle.lru_curve.specs.Frames.{touchesOf}
+use Rattle.lru_curve.specs.Frames.{touchRun}
 use Rattle.lru_curve.specs.declared.recency_list.Walk.{Walk}
-use Rattle.lru_curve.specs.inner.Entries.{indexIn, walkOf, moved}
+use Rattle.lru_curve.specs.inner.Entries.{walkOf, moved}
+use Rattle.lru_curve.specs.inner.Used.{frameIn}
 use Rattle.lru_curve.specs.inner.Passes.{mostEntries, isAt, touchesAt, Counted}
 use Rattle.lru_curve.proofs.Fronts.{length-moved, front-found, front-first}
 use Rattle.lru_curve.proofs.Indexes.{index-within, place-index, before-is}
@@ -47,14 +48,14 @@ pub record Passed (sizes refs list : List ℕ) (n : ℕ) (at : List ℕ) (looked
   pub within : t ≤ length refs
   pub list-whole : length list ≡ mostEntries
   pub at-whole : length at ≡ mostSegs
-  pub list-is : take n list ≡ recency (touchesOf sizes refs) t
+  pub list-is : take n list ≡ recency (touchRun sizes refs) t
   pub few : n ≤ length sizes
-  pub at-are : (p : ℕ) → p < mostSegs → getD at p 0 ≡ touchesAt (touchesOf sizes refs) t (suc p)
-  pub looked-is : looked ≡ lookedBy (touchesOf sizes refs) t
+  pub at-are : (p : ℕ) → p < mostSegs → getD at p 0 ≡ touchesAt (touchRun sizes refs) t (suc p)
+  pub looked-is : looked ≡ lookedBy (touchRun sizes refs) t
 
 module _ (sizes refs : List ℕ) where
   abbrev T : Trace
-  T = touchesOf sizes refs
+  T = touchRun sizes refs
 
   pub passed-start : Passed sizes refs (zeros mostEntries) 0 (zeros mostSegs) 0 0
   unfolding zeros recency touchesAt sum
@@ -125,7 +126,7 @@ module _ (sizes refs : List ℕ) where
         abbrev p : ℕ
         p = w .before
 
-        index : p ≡ indexIn x (take n list)
+        index : p ≡ frameIn x (take n list)
         index = before-is x (take n list) walk-is
 
         on : entry T t < segs T

@@ -14,14 +14,13 @@ use Rattle.model.specs.Sums.{sum}
 use Rattle.model.specs.Traces.{Trace, segs, steps, entry, touching}
 use Rattle.model.specs.Values.{zeros}
 use Rattle.model.proofs.Lists.{getD-any}
-use Rattle.lru.specs.Orders.{has}
-use Rattle.lru.specs.Memory.{lruSimulated}
+use Rattle.lru.specs.Memory.{has, lruSimulated}
 use Rattle.lru.proofs.Frames.{simulated-ordered}
 use Rattle.lru.proofs.Ordered.{reordered, ordered}
 use Rattle.lru.proofs.Touches.{cond-within, adds-on, adds-off, touches-within}
-use Rattle.lru_curve.specs.Frames.{touchesOf}
-use Rattle.lru_curve.specs.inner.Entries.{indexIn, moved}
-use Rattle.lru_curve.specs.inner.Used.{usedAfter}
+use Rattle.lru_curve.specs.Frames.{touchRun}
+use Rattle.lru_curve.specs.inner.Entries.{moved}
+use Rattle.lru_curve.specs.inner.Used.{frameIn, usedAfter}
 use Rattle.lru_curve.proofs.Fronts.{length-moved, front-found}
 use Rattle.lru_curve.proofs.Indexes.{has-index, entry-index}
 
@@ -68,12 +67,12 @@ pub record Simulated (sizes refs : List ℕ) (k : ℕ) (list : List ℕ) (n miss
   pub within : t ≤ length refs
   pub list-whole : length list ≡ mostSegs
   pub few : n ≤ k
-  pub list-is : take n list ≡ ordered (touchesOf sizes refs) k t
-  pub misses-is : misses ≡ missedBy (touchesOf sizes refs) k t
+  pub list-is : take n list ≡ ordered (touchRun sizes refs) k t
+  pub misses-is : misses ≡ missedBy (touchRun sizes refs) k t
 
 module _ (sizes refs : List ℕ) (k : ℕ) (some-frames : 1 ≤ k) (frames-within : k ≤ mostSegs) where
   abbrev T : Trace
-  T = touchesOf sizes refs
+  T = touchRun sizes refs
 
   pub simulated-start : Simulated sizes refs k (zeros mostSegs) 0 0 0
   unfolding zeros ordered sum
@@ -113,7 +112,7 @@ module _ (sizes refs : List ℕ) (k : ℕ) (some-frames : 1 ≤ k) (frames-withi
           }
 
       -- a touch of segment x, which frame p has
-      module _ (x : ℕ) (is-x : getD refs t 0 ≡ x) (segment : x < length sizes) (p : ℕ) (index : p ≡ indexIn x (take n list)) where
+      module _ (x : ℕ) (is-x : getD refs t 0 ≡ x) (segment : x < length sizes) (p : ℕ) (index : p ≡ frameIn x (take n list)) where
         on : entry T t < segs T
         on = rw (is-entry, is-x) segment
 

@@ -16,7 +16,7 @@ use Rattle.lru.specs.Recency.{distance, missBeyond, lruMisses, entriesLooked, d
 use Rattle.lru.proofs.Bounds.{misses-distinct, distinct-within, looked-bound}
 use Rattle.lru.proofs.Same.{curve-same, looked-same}
 use Rattle.lru.proofs.Touches.{cond-within, touches-within}
-use Rattle.lru_curve.specs.Frames.{EveryRun, touchesOf, ByDistances}
+use Rattle.lru_curve.specs.Frames.{EveryRun, touchRun, ByDistances}
 use Rattle.lru_curve.specs.declared.distance_pass.Counts.{Counts}
 use Rattle.lru_curve.specs.inner.Passes.{isAt, touchesAt, Counted}
 use Rattle.lru_curve.proofs.Passes.{at-within}
@@ -68,12 +68,12 @@ module _ (T : Trace) where
 pub record Summed (sizes refs place place' : List ℕ) (misses k : ℕ) : Type 0 where
   pub within : k ≤ length sizes
   pub same-length : length place' ≡ length place
-  pub place-is : place' ≡ fromBack (length sizes) (λ j. lruMisses (touchesOf sizes refs) (suc j)) place k
-  pub misses-is : misses ≡ lruMisses (touchesOf sizes refs) k
+  pub place-is : place' ≡ fromBack (length sizes) (λ j. lruMisses (touchRun sizes refs) (suc j)) place k
+  pub misses-is : misses ≡ lruMisses (touchRun sizes refs) k
 
-module _ (sizes refs place : List ℕ) (room : length sizes ≤ length place) (c : Counts) (counted : Counted (touchesOf sizes refs) c) where
+module _ (sizes refs place : List ℕ) (room : length sizes ≤ length place) (c : Counts) (counted : Counted (touchRun sizes refs) c) where
   abbrev T : Trace
-  T = touchesOf sizes refs
+  T = touchRun sizes refs
 
   pub summed-start : Summed sizes refs place place (c .first) (length sizes)
   summed-start =

@@ -9,31 +9,32 @@ use lib.ListN.{length, take, drop, length-drop}
 use lib.Seq.{drop-drop, length-take-le}
 use borrow.Author.Tests.{ltb-true, ltb-false}
 use Rattle.lru_curve.specs.declared.recency_list.Walk.{Walk}
-use Rattle.lru_curve.specs.inner.Entries.{indexIn, walkOf}
+use Rattle.lru_curve.specs.inner.Entries.{walkOf}
+use Rattle.lru_curve.specs.inner.Used.{frameIn}
 use Rattle.lru_curve.proofs.Indexes.{PassedBy, index-within, walked, walk-found, walk-none}
 use Rattle.lru_curve.proofs.Indexes.{before-is, before-within, looked-at-most, looked-found, looked-all}
 
 -- the first k entries have x, or do not
-in-part : (x k : ℕ) (l : List ℕ) → k ≤ length l → indexIn x (take k l) < k → indexIn x l ≡ indexIn x (take k l)
-unfolding indexIn
+in-part : (x k : ℕ) (l : List ℕ) → k ≤ length l → frameIn x (take k l) < k → frameIn x l ≡ frameIn x (take k l)
+unfolding frameIn
 in-part x zero l le lt = absurd (omega arith)
 in-part x (suc k) [] le lt = absurd (omega arith)
 in-part x (suc k) (y ∷ ys) le lt = go (eqb y x) refl lt (in-part x k ys (omega arith))
   where
-    go : (b : Bool) → eqb y x ≡ b → cond (eqb y x) 0 (suc (indexIn x (take k ys))) < suc k
-        → (indexIn x (take k ys) < k → indexIn x ys ≡ indexIn x (take k ys))
-        → cond (eqb y x) 0 (suc (indexIn x ys)) ≡ cond (eqb y x) 0 (suc (indexIn x (take k ys)))
+    go : (b : Bool) → eqb y x ≡ b → cond (eqb y x) 0 (suc (frameIn x (take k ys))) < suc k
+        → (frameIn x (take k ys) < k → frameIn x ys ≡ frameIn x (take k ys))
+        → cond (eqb y x) 0 (suc (frameIn x ys)) ≡ cond (eqb y x) 0 (suc (frameIn x (take k ys)))
     go true e lt ih = rw e
     go false e lt ih = rw e (ap (λ (p : ℕ). suc p) (ih (omega (arith, rw e at lt))))
 
-past-part : (x k : ℕ) (l : List ℕ) → k ≤ length l → k ≤ indexIn x (take k l) → PassedBy x l k
-unfolding indexIn
+past-part : (x k : ℕ) (l : List ℕ) → k ≤ length l → k ≤ frameIn x (take k l) → PassedBy x l k
+unfolding frameIn
 past-part x zero l le h = omega arith
 past-part x (suc k) [] le h = absurd (omega arith)
 past-part x (suc k) (y ∷ ys) le h = go (eqb y x) refl h (past-part x k ys (omega arith))
   where
-    go : (b : Bool) → eqb y x ≡ b → suc k ≤ cond (eqb y x) 0 (suc (indexIn x (take k ys))) → (k ≤ indexIn x (take k ys) → PassedBy x ys k)
-        → cond (eqb y x) 0 (suc (indexIn x ys)) ≡ suc k + indexIn x (drop k ys)
+    go : (b : Bool) → eqb y x ≡ b → suc k ≤ cond (eqb y x) 0 (suc (frameIn x (take k ys))) → (k ≤ frameIn x (take k ys) → PassedBy x ys k)
+        → cond (eqb y x) 0 (suc (frameIn x ys)) ≡ suc k + frameIn x (drop k ys)
     go true e h ih = absurd (omega (arith, rw e at h))
     go false e h ih = rw e (omega (arith, ih (omega (arith, rw e at h))))
 
@@ -49,7 +50,7 @@ module _ (x : ℕ) (l : List ℕ) (i end : ℕ) (passed : PassedBy x l i) (onwar
   size : length part ≡ end - i
   size = length-take-le (end - i) (drop i l) room
 
-  index : w .before ≡ indexIn x part
+  index : w .before ≡ frameIn x part
   index = before-is x part walk-is
 
   -- what the walk gives is within the list
@@ -62,7 +63,7 @@ module _ (x : ℕ) (l : List ℕ) (i end : ℕ) (passed : PassedBy x l i) (onwar
   -- x is found: besides, all before this part were looked at
   pub turn-found : i + w .before < end → walked (i + w .before) (i + w .looked) ≡ walkOf x l
   turn-found lt =
-      let here : i + w .before ≡ indexIn x l = omega (arith, passed, in-part x (end - i) (drop i l) room (omega (arith, index)), index) in
+      let here : i + w .before ≡ frameIn x l = omega (arith, passed, in-part x (end - i) (drop i l) room (omega (arith, index)), index) in
       let looked : i + w .looked ≡ suc (i + w .before) = omega (arith, looked-found x part walk-is (omega (arith, size))) in
       rw looked (walk-found x l (i + w .before) here (omega arith))
 
@@ -77,8 +78,8 @@ module _ (x : ℕ) (l : List ℕ) (i end : ℕ) (passed : PassedBy x l i) (onwar
         arith,
         passed,
         past-part x (end - i) (drop i l) room (omega (arith, index)),
-        ap (λ (r : List ℕ). indexIn x r) (drop-drop (end - i) i l),
-        ap (λ (k : ℕ). indexIn x (drop k l)) at,
+        ap (λ (r : List ℕ). frameIn x r) (drop-drop (end - i) i l),
+        ap (λ (k : ℕ). frameIn x (drop k l)) at,
       )
 
   -- the last part

@@ -38,8 +38,8 @@ abbrev pub EveryRun : List ℕ → List ℕ → (Trace → Type 0) → Type 0
 EveryRun sizes refs P = (kind : Kind) (a : ℕ) → P (runOf kind a sizes [] refs)
 
 -- a run with these sizes and entries and no warm segment; neither its kind nor its weight counts here
-abbrev pub touchesOf : List ℕ → List ℕ → Trace
-touchesOf sizes refs = runOf Time 0 sizes [] refs
+abbrev pub touchRun : List ℕ → List ℕ → Trace
+touchRun sizes refs = runOf Time 0 sizes [] refs
 
 -- by distances: the misses with 1, 2, .., segs frames, and then what stood beyond them; the entries looked at, and their bound
 pub record ByDistances (T : Trace) (place place' : List ℕ) (looked : ℕ) : Type 0 where

@@ -7,7 +7,7 @@ ghost use Prim.Native.Nat.{_≤_};
 ghost use lib.ListN.{length, take};
 ghost use Rattle.model.specs.Sheets.{mostSegs, mostSteps};
 ghost use Rattle.model.specs.Values.{zeros};
-ghost use Rattle.lru_curve.specs.Frames.{EveryRun, touchesOf, ByDistances};
+ghost use Rattle.lru_curve.specs.Frames.{EveryRun, touchRun, ByDistances};
 ghost use Rattle.lru_curve.specs.inner.Entries.{walkOf, moved};
 ghost use Rattle.lru_curve.specs.inner.Passes.{mostEntries, Counted};
 
@@ -49,7 +49,7 @@ fn bring(list: &mut [u16; ENTRIES], n: usize, x: u16) -> Walk
 // One pass over the touches with a recency list, the first n entries of `list`.
 fn distances(sizes: &[u16], refs: &[u16]) -> Counts
     requires { ⌜ (length (now sizes) ≤ mostSegs) × (length (now refs) ≤ mostSteps) ⌝ }
-    ensures { λ r. ⌜ Counted (touchesOf (now (sizes .entry)) (now (refs .entry))) r ⌝ }
+    ensures { λ r. ⌜ Counted (touchRun (now (sizes .entry)) (now (refs .entry))) r ⌝ }
 {
     let mut list = no_segments();
     let mut n: usize = 0;

@@ -3,13 +3,12 @@
 use model::Sheet;
 ghost use mathlib.Core.Path.{_≡_};
 ghost use Prim.Native.Nat.{_≤_, _<_};
-ghost use lib.ListN.{length, getD};
+ghost use lib.ListN.{length};
 ghost use Rattle.model.specs.Sheets.{mostSegs, mostSteps};
 ghost use Rattle.model.specs.Values.{zeros};
 ghost use Rattle.lru.specs.Memory.{lruSimulated};
-ghost use Rattle.lru_curve.specs.Frames.{EveryRun, touchesOf, BySimulation};
-ghost use Rattle.lru_curve.specs.inner.Entries.{indexIn, moved};
-ghost use Rattle.lru_curve.specs.inner.Used.{usedAfter};
+ghost use Rattle.lru_curve.specs.Frames.{EveryRun, touchRun, BySimulation};
+ghost use Rattle.lru_curve.specs.inner.Used.{frameIn, atFront, usedAfter};
 
 // No frame in use.
 fn no_frames() -> [u16; Sheet::MAX_SEGS]
@@ -20,7 +19,7 @@ fn no_frames() -> [u16; Sheet::MAX_SEGS]
 
 // Which of the frames in use has segment x; how many there are where none has.
 fn frame_of(used: &[u16], x: u16) -> usize
-    ensures { λ r. ⌜ r ≡ indexIn x (now (used .entry)) ⌝ }
+    ensures { λ r. ⌜ r ≡ frameIn x (now (used .entry)) ⌝ }
 {
     let mut i = 0;
     while i < used.len() {
@@ -35,7 +34,7 @@ fn frame_of(used: &[u16], x: u16) -> usize
 // Moves what frame p has to the front, and what the frames before it have one further, from the last to the first.
 fn to_front(frames: &mut [u16; Sheet::MAX_SEGS], p: usize)
     requires { ⌜ (p < mostSegs) × (length (now frames) ≡ mostSegs) ⌝ }
-    ensures { λ r. ⌜ now (frames .exit) ≡ moved p (getD (now (frames .entry)) p 0) (now (frames .entry)) ⌝ }
+    ensures { λ r. ⌜ now (frames .exit) ≡ atFront p (now (frames .entry)) ⌝ }
 {
     let x = frames[p];
     let mut i = p;
@@ -60,7 +59,7 @@ fn used_after(n: usize, k: usize) -> usize
 // The misses of one memory of k frames, the first n of `frames` in use, that of the latest touch first.
 fn simulate(sizes: &[u16], refs: &[u16], k: usize) -> u64
     requires { ⌜ (length (now refs) ≤ mostSteps) × (1 ≤ k) × (k ≤ mostSegs) ⌝ }
-    ensures { λ r. ⌜ r ≡ lruSimulated (touchesOf (now (sizes .entry)) (now (refs .entry))) k ⌝ }
+    ensures { λ r. ⌜ r ≡ lruSimulated (touchRun (now (sizes .entry)) (now (refs .entry))) k ⌝ }
 {
     let mut frames = no_frames();
     let mut n: usize = 0;

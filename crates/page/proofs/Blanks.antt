@@ -10,7 +10,7 @@ use Rattle.model.specs.declared.RowFigures.{RowFigures}
 use Rattle.text.specs.Keys.{lineFeed}
 use Rattle.text.specs.inner.Puts.{Put}
 use Rattle.text.proofs.Putting.{put-then, put-byte}
-use Rattle.page.specs.Page.{lineWidth, blank, blanks, field, spaced, columns, pageLine, pageLines, secondPage, joined}
+use Rattle.page.specs.Page.{lineWidth, blank, blanks, field, spaced, columns, pageLine, pageLines, secondPage, concatenated}
 
 -- one element more of a list of equal ones
 pub replicate-next : {A : Type 0} (n : ℕ) (a : A) → replicate n a ++ (a ∷ []) ≡ replicate (n + 1) a
@@ -60,15 +60,15 @@ line-length text h =
     rw (length-append text (blanks n ++ (lineFeed ∷ [])), length-append (blanks n), length-replicate) (omega arith)
 
 -- lines one after another, in two parts
-pub joined-append : (k l : List (List ℕ)) → joined (k ++ l) ≡ joined k ++ joined l
-unfolding joined
-joined-append [] l = refl
-joined-append (x ∷ k) l = rw (joined-append k l, append-assoc)
+pub concatenated-append : (k l : List (List ℕ)) → concatenated (k ++ l) ≡ concatenated k ++ concatenated l
+unfolding concatenated
+concatenated-append [] l = refl
+concatenated-append (x ∷ k) l = rw (concatenated-append k l, append-assoc)
 
 -- one line more
-pub joined-next : (k : List (List ℕ)) (x : List ℕ) → joined (k ++ (x ∷ [])) ≡ joined k ++ x
-unfolding joined
-joined-next k x = rw (joined-append k (x ∷ []), append-nil)
+pub concatenated-next : (k : List (List ℕ)) (x : List ℕ) → concatenated (k ++ (x ∷ [])) ≡ concatenated k ++ x
+unfolding concatenated
+concatenated-next k x = rw (concatenated-append k (x ∷ []), append-nil)
 
 -- a second page where there are rows for it
 pub second-some : (kind : Kind) (a : ℕ) (fs : List RowFigures) → 0 < length fs → secondPage kind a fs ≡ pageLines kind a fs

@@ -32,7 +32,7 @@ use Rattle.page.specs.Page.{
   secondPage,
   allLines,
   lineOfRow,
-  joined,
+  concatenated,
   pages,
   pagesLength,
   Fits,
@@ -87,10 +87,10 @@ unfolding pageLines
 page-whole kind a fs h g = (title-whole kind a h, (names-whole, rows-whole fs g _ (blanks-whole (rowsOnPage - length fs))))
 
 -- lines of 72 characters and a line feed one after another
-pub joined-length : (ls : List (List ℕ)) → Whole ls → length (joined ls) ≡ 73 * length ls
-unfolding joined
-joined-length [] w = refl
-joined-length (l ∷ ls) w = rw (length-append, w .0, joined-length ls (w .1)) (omega arith)
+pub concatenated-length : (ls : List (List ℕ)) → Whole ls → length (concatenated ls) ≡ 73 * length ls
+unfolding concatenated
+concatenated-length [] w = refl
+concatenated-length (l ∷ ls) w = rw (length-append, w .0, concatenated-length ls (w .1)) (omega arith)
 
 -- ---- a page has 60 lines
 
@@ -147,7 +147,7 @@ pages-length kind a fs h g l =
     let more : length (drop rowsOnPage fs) ≡ length fs - rowsOnPage = length-drop rowsOnPage fs in
     let two = second-count kind a (drop rowsOnPage fs) (omega (arith, more)) in
     let all = length-append (pageLines kind a (take rowsOnPage fs)) (secondPage kind a (drop rowsOnPage fs)) in
-    joined-length (allLines kind a fs) (all-whole kind a fs h g) ∙ go (leb (length fs) rowsOnPage) refl one two all more
+    concatenated-length (allLines kind a fs) (all-whole kind a fs h g) ∙ go (leb (length fs) rowsOnPage) refl one two all more
   where
     go : (b : Bool) → leb (length fs) rowsOnPage ≡ b → {x y z m : ℕ} → x ≡ pageHeight → y ≡ cond (leb m 0) 0 pageHeight → z ≡ x + y
         → m ≡ length fs - rowsOnPage → 73 * z ≡ cond b 4380 8760

@@ -27,11 +27,11 @@ use Rattle.page.specs.Page.{
   pageLines,
   secondPage,
   allLines,
-  joined,
+  concatenated,
   pages,
   Fits,
 }
-use Rattle.page.proofs.Blanks.{replicate-next, columns-length, joined-append, joined-next, second-some}
+use Rattle.page.proofs.Blanks.{replicate-next, columns-length, concatenated-append, concatenated-next, second-some}
 
 -- ---- lines
 
@@ -66,22 +66,22 @@ title-parts Space a at value end e f =
 -- ---- runs of lines
 
 -- lines made of a list
-pub joined-map : {A : Type 0} (text : A → List ℕ) (xs : List A) → joined (map text xs) ≡ linesText text xs
-unfolding joined linesText
-joined-map text [] = refl
-joined-map text (x ∷ xs) = rw (joined-map text xs)
+pub concatenated-map : {A : Type 0} (text : A → List ℕ) (xs : List A) → concatenated (map text xs) ≡ linesText text xs
+unfolding concatenated linesText
+concatenated-map text [] = refl
+concatenated-map text (x ∷ xs) = rw (concatenated-map text xs)
 
 -- no row yet
-pub rows-none : (fs : List RowFigures) (first i : ℕ) → i ≡ first → [] ≡ joined (map rowLine (take (i - first) (drop first fs)))
-unfolding joined
+pub rows-none : (fs : List RowFigures) (first i : ℕ) → i ≡ first → [] ≡ concatenated (map rowLine (take (i - first) (drop first fs)))
+unfolding concatenated
 rows-none fs first i e =
     let z : i - first ≡ 0 = omega arith in
     rw z
 
 -- one row more
 pub rows-next : (fs : List RowFigures) (first i : ℕ) (d : RowFigures) → first ≤ i → i < length fs
-    → joined (map rowLine (take (i + 1 - first) (drop first fs)))
-    ≡ joined (map rowLine (take (i - first) (drop first fs))) ++ rowLine (getD fs i d)
+    → concatenated (map rowLine (take (i + 1 - first) (drop first fs)))
+    ≡ concatenated (map rowLine (take (i - first) (drop first fs))) ++ rowLine (getD fs i d)
 rows-next fs first i d h l =
     let n : i + 1 - first ≡ (i - first) + 1 = omega arith in
     let back : first + (i - first) ≡ i = omega arith in
@@ -89,8 +89,8 @@ rows-next fs first i d h l =
     let at : getD (drop first fs) (i - first) d ≡ getD fs i d = getD-drop first fs (i - first) d ∙ ap (λ k. getD fs k d) back in
     rw (
       n,
-      joined-map rowLine (take ((i - first) + 1) (drop first fs)),
-      joined-map rowLine (take (i - first) (drop first fs)),
+      concatenated-map rowLine (take ((i - first) + 1) (drop first fs)),
+      concatenated-map rowLine (take (i - first) (drop first fs)),
       lines-next rowLine (drop first fs) (i - first) d room,
       at,
     )
@@ -101,25 +101,25 @@ unfolding blankLine pageLine
 blank-parts = refl
 
 -- one line of blanks more
-pub blank-lines-next : (i : ℕ) → joined (replicate (i + 1) blankLine) ≡ joined (replicate i blankLine) ++ (blanks 72 ++ (lineFeed ∷ []))
-blank-lines-next i = rw (← replicate-next i blankLine, joined-next) (ap (λ l. joined (replicate i blankLine) ++ l) blank-parts)
+pub blank-lines-next : (i : ℕ) → concatenated (replicate (i + 1) blankLine) ≡ concatenated (replicate i blankLine) ++ (blanks 72 ++ (lineFeed ∷ []))
+blank-lines-next i = rw (← replicate-next i blankLine, concatenated-next) (ap (λ l. concatenated (replicate i blankLine) ++ l) blank-parts)
 
 -- ---- pages
 
 -- the page of the rows from first to before end: its top lines, its rows, and the lines of blanks
 pub page-parts : (kind : Kind) (a : ℕ) (fs : List RowFigures) (first end : ℕ) → first ≤ end → end ≤ length fs
-    → titleLine kind a ++ (namesLine ++ (joined (map rowLine (take (end - first) (drop first fs)))
-    ++ joined (replicate (58 - (end - first)) blankLine)))
-    ≡ joined (pageLines kind a (take (end - first) (drop first fs)))
-unfolding joined pageLines
+    → titleLine kind a ++ (namesLine ++ (concatenated (map rowLine (take (end - first) (drop first fs)))
+    ++ concatenated (replicate (58 - (end - first)) blankLine)))
+    ≡ concatenated (pageLines kind a (take (end - first) (drop first fs)))
+unfolding concatenated pageLines
 page-parts kind a fs first end h l =
     let room : end - first ≤ length (drop first fs) = rw length-drop (omega arith) in
     let count = length-take-le (end - first) (drop first fs) room in
-    rw (count, joined-append (map rowLine (take (end - first) (drop first fs))) (replicate (58 - (end - first)) blankLine))
+    rw (count, concatenated-append (map rowLine (take (end - first) (drop first fs))) (replicate (58 - (end - first)) blankLine))
 
 -- up to 58 rows: one page
 pub one-page : (kind : Kind) (a : ℕ) (fs : List RowFigures) (rows : ℕ) → rows ≤ rowsOnPage → rows ≤ length fs
-    → joined (pageLines kind a (take (rows - 0) (drop 0 fs))) ≡ pages kind a (take rows fs)
+    → concatenated (pageLines kind a (take (rows - 0) (drop 0 fs))) ≡ pages kind a (take rows fs)
 unfolding pages allLines secondPage
 one-page kind a fs rows h l =
     let n : rows - 0 ≡ rows = omega arith in
@@ -129,7 +129,7 @@ one-page kind a fs rows h l =
 
 -- more rows: two pages
 pub two-pages : (kind : Kind) (a : ℕ) (fs : List RowFigures) (rows : ℕ) → rowsOnPage < rows → rows ≤ length fs
-    → joined (pageLines kind a (take (58 - 0) (drop 0 fs))) ++ joined (pageLines kind a (take (rows - 58) (drop 58 fs)))
+    → concatenated (pageLines kind a (take (58 - 0) (drop 0 fs))) ++ concatenated (pageLines kind a (take (rows - 58) (drop 58 fs)))
     ≡ pages kind a (take rows fs)
 unfolding pages allLines
 two-pages kind a fs rows h l =
@@ -140,4 +140,4 @@ two-pages kind a fs rows h l =
     let rest : drop rowsOnPage (take rows fs) ≡ take m (drop 58 fs) =
     ap (drop 58) split ∙ drop-at (take 58 fs) (take m (drop 58 fs)) 58 (length-take-le 58 fs (omega arith)) in
     let some-rows : 0 < length (take m (drop 58 fs)) = rw (length-take-le m (drop 58 fs) (rw length-drop (omega arith))) (omega arith) in
-    rw (first, rest, second-some kind a (take m (drop 58 fs)) some-rows, joined-append)
+    rw (first, rest, second-some kind a (take m (drop 58 fs)) some-rows, concatenated-append)

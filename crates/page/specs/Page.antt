@@ -104,13 +104,13 @@ allLines kind a fs = pageLines kind a (take rowsOnPage fs) ++ secondPage kind a 
 -- ---- the text
 
 -- lines one after another
-unfoldable pub joined : List (List ℕ) → List ℕ
-joined [] = []
-joined (l ∷ ls) = l ++ joined ls
+unfoldable pub concatenated : List (List ℕ) → List ℕ
+concatenated [] = []
+concatenated (l ∷ ls) = l ++ concatenated ls
 
 -- the page or the two pages of these rows
 unfoldable pub pages : Kind → ℕ → List RowFigures → List ℕ
-pages kind a fs = joined (allLines kind a fs)
+pages kind a fs = concatenated (allLines kind a fs)
 
 -- the figures of a sheet's rows are those that the listing prints
 unfoldable pub pagesOf : SheetValue → List ℕ

@@ -18,7 +18,7 @@ ghost use Rattle.model.specs.Rows.{zeroFigures};
 ghost use Rattle.text.specs.inner.Puts.{Put};
 ghost use Rattle.text.specs.Keys.{kindKey, kindWord, aKey};
 ghost use Rattle.page.specs.Page.{blank, blanks, field, titleLine, namesLine, rowLine, blankLine};
-ghost use Rattle.page.specs.Page.{pageLines, joined, pages, pagesLength, Fits};
+ghost use Rattle.page.specs.Page.{pageLines, concatenated, pages, pagesLength, Fits};
 
 // Writes `n` blanks, and gives the index after them.
 fn put_blanks(n: usize, out: &mut [u8], at: usize) -> usize
@@ -76,7 +76,7 @@ fn put_rows(
 ) -> usize
     requires { ⌜ (first ≤ end) × (end ≤ 64) × ((r : ℕ) → r < end → Fits (getD figures r zeroFigures))
         × (at + 73 * (end - first) ≤ length (now out)) ⌝ }
-    ensures { λ r. ⌜ Put (joined (map rowLine (take (end - first) (drop first figures)))) at (now (out .entry)) r (now (out .exit))
+    ensures { λ r. ⌜ Put (concatenated (map rowLine (take (end - first) (drop first figures)))) at (now (out .entry)) r (now (out .exit))
         × (r ≡ at + 73 * (end - first)) ⌝ }
 {
     let mut next = at;
@@ -125,7 +125,7 @@ fn put_names(out: &mut [u8], at: usize) -> usize
 // Writes `n` lines of blanks, and gives the index after them.
 fn put_blank_lines(n: usize, out: &mut [u8], at: usize) -> usize
     requires { ⌜ at + 73 * n ≤ length (now out) ⌝ }
-    ensures { λ r. ⌜ Put (joined (replicate n blankLine)) at (now (out .entry)) r (now (out .exit)) × (r ≡ at + 73 * n) ⌝ }
+    ensures { λ r. ⌜ Put (concatenated (replicate n blankLine)) at (now (out .entry)) r (now (out .exit)) × (r ≡ at + 73 * n) ⌝ }
 {
     let mut next = at;
     let mut i = 0;
@@ -148,7 +148,7 @@ fn put_page(
 ) -> usize
     requires { ⌜ (first ≤ end) × (end ≤ 64) × (end ≤ first + 58) × ((r : ℕ) → r < end → Fits (getD figures r zeroFigures))
         × (at + 4380 ≤ length (now out)) ⌝ }
-    ensures { λ r. ⌜ Put (joined (pageLines kind a (take (end - first) (drop first figures)))) at (now (out .entry)) r (now (out .exit))
+    ensures { λ r. ⌜ Put (concatenated (pageLines kind a (take (end - first) (drop first figures)))) at (now (out .entry)) r (now (out .exit))
         × (r ≡ at + 4380) ⌝ }
 {
     let names = put_title(kind, a, out, at);

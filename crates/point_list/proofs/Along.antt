@@ -10,7 +10,7 @@ use lib.ListN.{length, getD}
 use borrow.Author.Tests.{eqb-true, eqb-false, ltb-true, ltb-false}
 use Rattle.model.specs.Sheets.{RunWithin}
 use Rattle.model.specs.Traces.{Trace, steps}
-use Rattle.points.specs.Points.{Ratio, ratioAt, zeroOne, thresholds, thresholdAt, Below, Same, Has, Earliest}
+use Rattle.points.specs.Points.{Ratio, ratioAt, zeroOne, thresholds, thresholdAt, LessRatio, EqualRatio, Has, Earliest}
 use Rattle.points.specs.Curve.{NoZero}
 use Rattle.points.proofs.Thresholds.{thresholds-positive, thresholds-ascending, thresholds-have, thresholds-first, thresholds-of-run}
 use Rattle.point_list.specs.inner.Held.{ratio, Holding, reuseRatios}
@@ -21,10 +21,10 @@ use Rattle.point_list.specs.inner.Walk.{quotientAt, reuseAt, beforeAt, e
 use Rattle.point_list.proofs.Ordered.{atKey, quot, key-at, key-fine, key-step, quotients-rise, found, exact-key}
 use Rattle.point_list.proofs.Writing.{ended-new, ended-same}
 
-below-equal : (p q r : Ratio) → q ≡ r → Below p q → Below p r
+below-equal : (p q r : Ratio) → q ≡ r → LessRatio p q → LessRatio p r
 below-equal p q r e b = rw (← e) b
 
-same-both : (p q r s : Ratio) → p ≡ q → r ≡ s → Same p r → Same q s
+same-both : (p q r s : Ratio) → p ≡ q → r ≡ s → EqualRatio p r → EqualRatio q s
 same-both p q r s e f h = rw (← e, ← f) h
 
 zero-ratio : (r w : ℕ) (y : Ratio) → ratio r w ≡ y → y .R ≡ 0 → ratio 0 w ≡ y
@@ -98,7 +98,7 @@ module _ (T : Trace) (ok : RunWithin T) (rs ws keys : List ℕ) (n : ℕ) (held 
       fine-x : Fine (T .a) x
       fine-x = key-fine T ok rs ws keys n held sorted i lt
 
-      above : Below (thresholdAt T k) x
+      above : LessRatio (thresholdAt T k) x
       above = quotient-less (T .a) (thresholdAt T k) x (fine-threshold k (v .there)) fine-x (omega (arith, v .quotient, x-is))
 
       -- the threshold of key i's ratio
@@ -114,7 +114,7 @@ module _ (T : Trace) (ok : RunWithin T) (rs ws keys : List ℕ) (n : ℕ) (held 
           go : (a : Bool) → ltb k (x-has .place) ≡ a → (b : Bool) → eqb (x-has .place) k ≡ b → k < x-has .place
           go true e b f = ltb-true k (x-has .place) e
           go false e true f =
-              let same : Same (thresholdAt T k) x = rw (eqb-true (x-has .place) k f) at (x-has .equal) in
+              let same : EqualRatio (thresholdAt T k) x = rw (eqb-true (x-has .place) k f) at (x-has .equal) in
               absurd (omega (arith, same, above))
           go false e false f =
               let ne = eqb-false (x-has .place) k f in
@@ -161,7 +161,7 @@ module _ (T : Trace) (ok : RunWithin T) (rs ws keys : List ℕ) (n : ℕ) (held 
           not-above : Fine (T .a) (thresholdAt T (suc k)) → (b : Bool) → eqb (suc k) (x-has .place) ≡ b
               → quot T ok rs ws keys n held sorted (thresholdAt T (suc k)) ≤ quot T ok rs ws keys n held sorted x
           not-above fine-y true e =
-              let same : Same (thresholdAt T (suc k)) x = rw (← eqb-true (suc k) (x-has .place) e) at (x-has .equal) in
+              let same : EqualRatio (thresholdAt T (suc k)) x = rw (← eqb-true (suc k) (x-has .place) e) at (x-has .equal) in
               omega (arith, quotient-same (T .a) (thresholdAt T (suc k)) x fine-y fine-x same)
           not-above fine-y false e =
               let ne = eqb-false (suc k) (x-has .place) e in
@@ -225,7 +225,7 @@ module _ (T : Trace) (ok : RunWithin T) (rs ws keys : List ℕ) (n : ℕ) (held 
       none-there z lt q =
           let o = key-step T ok rs ws keys n held sorted 0 lt in
           let x = atKey T ok rs ws keys n held sorted 0 in
-          let same : Same x (thresholdAt T 0) =
+          let same : EqualRatio x (thresholdAt T 0) =
           same-quotient (T .a) x (thresholdAt T 0) (key-fine T ok rs ws keys n held sorted 0 lt)
           (fine-threshold 0 (thresholds-first T .some-entry))
           (sym (key-at T ok rs ws keys n held sorted 0 lt .quotient) ∙ (q ∙ sym first-quotient)) in

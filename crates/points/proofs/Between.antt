@@ -14,7 +14,7 @@ use Rattle.model.proofs.Sums.{last-or-below}
 use Rattle.model.proofs.Touches.{entry-touched}
 use Rattle.model.proofs.Loads.{overTouches-eq, load-swaps}
 use Rattle.model.proofs.Ascent.{cross-trans}
-use Rattle.points.specs.Points.{Ratio, reuses, ratioAt, thresholds, thresholdAt, pointMemory, pointLoad, Below, Same}
+use Rattle.points.specs.Points.{Ratio, reuses, ratioAt, thresholds, thresholdAt, pointMemory, pointLoad, LessRatio, EqualRatio}
 use Rattle.points.specs.Curve.{FromThreshold}
 use Rattle.points.proofs.Lists.{below-trans, below-same}
 use Rattle.points.proofs.Thresholds.{ratio-positive, thresholds-positive, thresholds-ascending, thresholds-have, thresholds-first}
@@ -27,11 +27,11 @@ pub record Later (T : Trace) (k : ℕ) (x : Ratio) : Type 0 where
   pub at : ℕ
   pub above : k < at
   pub there : at < length (thresholds T)
-  pub equal : Same (thresholdAt T at) x
+  pub equal : EqualRatio (thresholdAt T at) x
 
 module _ (T : Trace) where
   -- what is below a threshold is below every later one
-  pub below-later : (q : Ratio) (k j : ℕ) → k ≤ j → j < length (thresholds T) → Below q (thresholdAt T k) → Below q (thresholdAt T j)
+  pub below-later : (q : Ratio) (k j : ℕ) → k ≤ j → j < length (thresholds T) → LessRatio q (thresholdAt T k) → LessRatio q (thresholdAt T j)
   below-later q k j le lt b =
       ⊎-elim (λ e. rw (← e) b)
       (λ l. below-trans q (thresholdAt T k) (thresholdAt T j) (thresholds-positive T k (omega arith)) (thresholds-positive T j lt) b
@@ -44,7 +44,7 @@ module _ (T : Trace) where
       let j = h .place in
       go j (h .within) (h .equal) (ltb k j) refl
     where
-      go : (j : ℕ) → j < length (thresholds T) → Same (thresholdAt T j) (ratioAt T t) → (b : Bool) → ltb k j ≡ b
+      go : (j : ℕ) → j < length (thresholds T) → EqualRatio (thresholdAt T j) (ratioAt T t) → (b : Bool) → ltb k j ≡ b
           → Within (ratioAt T t) (thresholdAt T k) ⊎ Later T k (ratioAt T t)
       go j lj e true f = inr (record { at = j; above = ltb-true k j f; there = lj; equal = e })
       go j lj e false f =
@@ -138,7 +138,7 @@ module _ (T : Trace) where
             → leb (d * ratioAt T t .R) (h * ratioAt T t .w) ≡ leb (thresholdAt T k .w * ratioAt T t .R)
             (thresholdAt T k .R * ratioAt T t .w)
         drop q =
-            let price-below : Below (record { R = h; w = d }) (thresholdAt T (q .at)) =
+            let price-below : LessRatio (record { R = h; w = d }) (thresholdAt T (q .at)) =
             below-later (record { R = h; w = d }) (suc k) (q .at) (q .above) (q .there) (to (omega (arith, q .above, q .there)))
             in
             lt-leb (d * ratioAt T t .R) (h * ratioAt T t .w)

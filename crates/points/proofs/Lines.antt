@@ -19,7 +19,7 @@ use Rattle.model.proofs.Touches.{touched-at, entry-touched}
 use Rattle.model.proofs.Loads.{overTouches-eq, overTouches-total, touching-le, load-swaps}
 use Rattle.model.proofs.Ascent.{cross-trans, kept-later}
 use Rattle.model.proofs.LowerBound.{schedule-lower-bound}
-use Rattle.points.specs.Points.{Ratio, reuses, ratioAt, thresholds, thresholdAt, pointMemory, pointLoad, Below, Same, Earliest}
+use Rattle.points.specs.Points.{Ratio, reuses, ratioAt, thresholds, thresholdAt, pointMemory, pointLoad, LessRatio, EqualRatio, Earliest}
 use Rattle.points.proofs.Lists.{below-same}
 use Rattle.points.proofs.Thresholds.{ratio-positive, thresholds-positive, thresholds-ascending, thresholds-of-run}
 use Rattle.points.proofs.Between.{Within, Later, side, kept-ratio}
@@ -40,7 +40,7 @@ above-none (suc a) b c lt = omega arith
 within-equal : (p q : Ratio) → p ≡ q → Within q p
 within-equal p q e = rw (← e) (omega arith)
 
-below-equal : (p q r : Ratio) → q ≡ r → Below p q → Below p r
+below-equal : (p q r : Ratio) → q ≡ r → LessRatio p q → LessRatio p r
 below-equal p q r e b = rw (← e) b
 
 -- A, B: the differences of two points of one total w × M + R × L; a point with no smaller total lies on or above their line
@@ -60,7 +60,7 @@ module _ (T : Trace) (p : Ratio) (t i : ℕ) (li : i < segs T) (m : touched T t 
       kept-ratio T (p .R) (p .w) t i m li
       ∙ rw r (le-leb (p .w * ratioAt T t .R) (p .R * ratioAt T t .w) (omega (arith, q)))
 
-  pub kept-above : Below p (ratioAt T t) → kept T (p .R) (p .w) t i ≡ false
+  pub kept-above : LessRatio p (ratioAt T t) → kept T (p .R) (p .w) t i ≡ false
   kept-above q =
       kept-ratio T (p .R) (p .w) t i m li
       ∙ (rw (lt-leb (p .w * ratioAt T t .R) (p .R * ratioAt T t .w) (omega (arith, q))) (both (reuses T t)))
@@ -80,7 +80,7 @@ module _ (T : Trace) (k : ℕ) (l : suc k < length (thresholds T)) where
   abbrev high : Ratio
   high = thresholdAt T (suc k)
 
-  ascends : Below low high
+  ascends : LessRatio low high
   ascends = thresholds-ascending T k (suc k) (omega arith) l
 
   low-positive : 1 ≤ low .w
@@ -107,11 +107,11 @@ module _ (T : Trace) (k : ℕ) (l : suc k < length (thresholds T)) where
                 (omega (arith, ascends)) (omega (arith, q)),
           )))
 
-      above : (p : Ratio) (j : ℕ) → j < length (thresholds T) → Same (thresholdAt T j) (ratioAt T t) → Below p (thresholdAt T j)
-          → Below p (ratioAt T t)
+      above : (p : Ratio) (j : ℕ) → j < length (thresholds T) → EqualRatio (thresholdAt T j) (ratioAt T t) → LessRatio p (thresholdAt T j)
+          → LessRatio p (ratioAt T t)
       above p j lj e b = below-same p (thresholdAt T j) (ratioAt T t) (thresholds-positive T j lj) (ratio-positive T t) b e
 
-      equal : Same high (ratioAt T t) → high .w * retentionOf T t i ≡ high .R * swapOf T i
+      equal : EqualRatio high (ratioAt T t) → high .w * retentionOf T t i ≡ high .R * swapOf T i
       equal e =
           let cross : high .w * ratioAt T t .R ≡ high .R * ratioAt T t .w = omega (arith, e) in
           rw (entry-touched T t i m) at cross

@@ -8,13 +8,13 @@ use lib.ListN.{length}
 use Rattle.model.specs.Traces.{Trace, segs, steps, touched}
 use Rattle.model.specs.Figures.{kept, optmem, load}
 use Rattle.model.specs.Schedules.{Permitted, scheduleMemory, scheduleLoad}
-use Rattle.points.specs.Points.{Ratio, reuses, ratioAt, zeroOne, thresholds, thresholdAt, pointMemory, pointLoad, Below, Same, Has}
+use Rattle.points.specs.Points.{Ratio, reuses, ratioAt, zeroOne, thresholds, thresholdAt, pointMemory, pointLoad, LessRatio, EqualRatio, Has}
 use Rattle.points.specs.Points.{Earliest}
 
 -- 0 and 1, and no reuse has the ratio 0
 pub record NoZero (T : Trace) (x : Ratio) : Type 0 where
   pub is-zero : x ≡ zeroOne
-  pub no-reuse : (s : ℕ) → s < steps T → reuses T s ≡ true → Same (ratioAt T s) zeroOne → ⊥
+  pub no-reuse : (s : ℕ) → s < steps T → reuses T s ≡ true → EqualRatio (ratioAt T s) zeroOne → ⊥
 
 -- prices of at least threshold k, and below the next where there is one
 pub record FromThreshold (T : Trace) (k h d : ℕ) : Type 0 where
@@ -26,7 +26,7 @@ pub record FromThreshold (T : Trace) (k h d : ℕ) : Type 0 where
 -- the list of thresholds says all there is, and the lines through neighbouring points bound every permitted schedule
 pub record Curve (T : Trace) : Type 0 where
   -- ascending, so no two are equal
-  pub ascending : (k : ℕ) → suc k < length (thresholds T) → Below (thresholdAt T k) (thresholdAt T (suc k))
+  pub ascending : (k : ℕ) → suc k < length (thresholds T) → LessRatio (thresholdAt T k) (thresholdAt T (suc k))
   -- every reuse's ratio is in the list
   pub complete : (s : ℕ) → s < steps T → reuses T s ≡ true → Has (thresholds T) (ratioAt T s)
   -- every entry is the R and w of the earliest reuse having it, or 0 and 1 where no reuse has the ratio 0

@@ -67,17 +67,17 @@ unfoldable pub operatingPoints : Trace → List ℕ
 operatingPoints T = pointNumbers T (length (thresholds T))
 
 -- that one ratio is below another, or equal to it
-abbrev pub Below : Ratio → Ratio → Type 0
-Below p q = p .R * q .w < q .R * p .w
+abbrev pub LessRatio : Ratio → Ratio → Type 0
+LessRatio p q = p .R * q .w < q .R * p .w
 
-abbrev pub Same : Ratio → Ratio → Type 0
-Same p q = p .R * q .w ≡ q .R * p .w
+abbrev pub EqualRatio : Ratio → Ratio → Type 0
+EqualRatio p q = p .R * q .w ≡ q .R * p .w
 
 -- a list of ratios has one equal to x
 pub record Has (l : List Ratio) (x : Ratio) : Type 0 where
   pub place : ℕ
   pub within : place < length l
-  pub equal : Same (getD l place zeroOne) x
+  pub equal : EqualRatio (getD l place zeroOne) x
 
 -- x is the ratio of a reuse that the first n steps end, and of none before it
 pub record Earliest (T : Trace) (n : ℕ) (x : Ratio) : Type 0 where
@@ -85,4 +85,4 @@ pub record Earliest (T : Trace) (n : ℕ) (x : Ratio) : Type 0 where
   pub before : step < n
   pub reuse : reuses T step ≡ true
   pub exact : x ≡ ratioAt T step
-  pub first : (s : ℕ) → s < step → reuses T s ≡ true → Same (ratioAt T s) x → ⊥
+  pub first : (s : ℕ) → s < step → reuses T s ≡ true → EqualRatio (ratioAt T s) x → ⊥

@@ -26,7 +26,7 @@ use Rattle.sheet.proofs.Parsing.{lacks, lacks-append}
 use Rattle.sheet.proofs.PartTexts.{entriesIn}
 use Rattle.sheet.proofs.RoundTrip.{read-then-written}
 use Rattle.sheet.proofs.Words.{written-lacks}
-use Rattle.reader.specs.Along.{Shown, shown, leftAfter, keyed, sheetShown}
+use Rattle.reader.specs.Along.{Shown, linesShown, leftAfter, keyed, sheetShown}
 use Rattle.reader.specs.Parts.{lineKey, lineValue}
 use Rattle.reader.proofs.ShownLines.{shown-at, Shows, AllPlain, plain-append, plain-map, text-shows}
 
@@ -117,7 +117,7 @@ sheet-shows v = text-shows (linesOf v) (lines-plain v)
 
 -- an accepted sheet, whatever forms the call takes
 pub accepted-shows : (lo hi : ℕ) (s : List ℕ) (v : SheetValue) → readForms lo hi s ≡ accepted v
-    → (shown (length (sheetShown v)) s ≡ sheetShown v) × (leftAfter (length (sheetShown v)) s ≡ [])
+    → (linesShown (length (sheetShown v)) s ≡ sheetShown v) × (leftAfter (length (sheetShown v)) s ≡ [])
 accepted-shows lo hi s v e = let h = sheet-shows v in rw (← read-then-written lo hi s v e) (h .lines, h .left)
 
 -- how many lines there are: a form line where the form has one, kind=, a=, and those of the sizes, the rows, the warm segments and the

@@ -12,7 +12,7 @@ use Rattle.text.specs.Texts.{lineText, linesText}
 use Rattle.sheet.proofs.Parsing.{by-test, refused-read, lacks, after-back, value-forth}
 use Rattle.sheet.specs.Parts.{Line, textOf}
 use Rattle.reader.specs.Parts.{equals, partBefore, lineKey, lineValue, afterLine}
-use Rattle.reader.specs.Along.{Shown, shown, leftAfter, keyed}
+use Rattle.reader.specs.Along.{Shown, linesShown, leftAfter, keyed}
 
 -- bytes that follow stand in the second part of a split
 split-more : (c : ℕ) (s v x y : List ℕ) → splitAt c s ≡ parts x y → splitAt c (s ++ v) ≡ parts x (y ++ v)
@@ -57,18 +57,18 @@ text-shown key v rest k f g = line-shown key v (lineText key v ++ rest) rest k (
 
 -- going along s shows the lines ls, and leaves rest
 pub record Shows (ls : List Shown) (s rest : List ℕ) : Type 0 where
-  pub lines : shown (length ls) s ≡ ls
+  pub lines : linesShown (length ls) s ≡ ls
   pub left : leftAfter (length ls) s ≡ rest
 
 -- nothing is shown, and all is left
 pub shows-none : (s : List ℕ) → Shows [] s s
-unfolding shown leftAfter
+unfolding linesShown leftAfter
 shows-none s = record { lines = refl; left = refl }
 
 -- one line, and what is shown of the rest
 pub shows-one : (key v s mid : List ℕ) (ls : List Shown) (rest : List ℕ) → Starts key v s mid → Shows ls mid rest
     → Shows (keyed key v ∷ ls) s rest
-unfolding shown leftAfter
+unfolding linesShown leftAfter
 shows-one key v s mid ls rest h g = record {
   lines = rw (h .line, h .after, g .lines);
   left = ap (leftAfter (length ls))
@@ -76,8 +76,8 @@ shows-one key v s mid ls rest h g = record {
 }
 
 -- the line n of those shown is the one at the head of what is left after n lines
-pub shown-at : (k n : ℕ) (s : List ℕ) (d : Shown) → n < k → getD (shown k s) n d ≡ (lineKey (leftAfter n s), lineValue (leftAfter n s))
-unfolding shown leftAfter
+pub shown-at : (k n : ℕ) (s : List ℕ) (d : Shown) → n < k → getD (linesShown k s) n d ≡ (lineKey (leftAfter n s), lineValue (leftAfter n s))
+unfolding linesShown leftAfter
 shown-at zero n s d h = absurd (not-suc-le-zero h)
 shown-at (suc k) zero s d h = refl
 shown-at (suc k) (suc n) s d h = shown-at k n (afterLine s) d (le-of-suc-le-suc h)

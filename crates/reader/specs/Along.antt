@@ -11,9 +11,9 @@ abbrev pub Shown : Type 0
 Shown = List ℕ × List ℕ
 
 -- the first n lines of s
-unfoldable pub shown : ℕ → List ℕ → List Shown
-shown zero s = []
-shown (suc n) s = (lineKey s, lineValue s) ∷ shown n (afterLine s)
+unfoldable pub linesShown : ℕ → List ℕ → List Shown
+linesShown zero s = []
+linesShown (suc n) s = (lineKey s, lineValue s) ∷ linesShown n (afterLine s)
 
 -- what is left of s after n lines
 unfoldable pub leftAfter : ℕ → List ℕ → List ℕ

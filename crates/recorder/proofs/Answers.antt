@@ -23,7 +23,7 @@ use Rattle.buckets.specs.Buckets.{allEmpty}
 use Rattle.model.specs.LastTouches.{startTable}
 use Rattle.figures.specs.Rows.{figuresAt, figuresOf}
 use Rattle.buckets.proofs.Passing.{pass-start}
-use Rattle.recorder.specs.Recorders.{recorderOf, started, appended, taken, withStep, stepVerdict, refsVerdict, touchAllVerdict}
+use Rattle.recorder.specs.Recorders.{recorderOf, started, appended, taken, withStep, roomVerdict, refsVerdict, touchAllVerdict}
 use Rattle.recorder.specs.Recorders.{idleVerdict}
 use Rattle.recorder.specs.Recorders.{Touched, TouchedAll, Rested, Figured}
 use Rattle.recorder.specs.inner.Passes.{begun}
@@ -36,14 +36,14 @@ pub refused-accepted : {A : Type 0} (why : Refusal) → Refused why ≡ Accepted
 refused-accepted why e = let z : _≡_ {A = ℕ} 0 1 = cc in absurd (omega arith)
 
 -- after `count` steps there is room for one where the verdict on it accepts, and none where it refuses
-pub step-room : (count : ℕ) → stepVerdict count ≡ Accepted → count < mostSteps
+pub step-room : (count : ℕ) → roomVerdict count ≡ Accepted → count < mostSteps
 step-room count = go (ltb count mostSteps) refl
   where
     go : (b : Bool) → ltb count mostSteps ≡ b → cond b Accepted (Refused RecorderFull) ≡ Accepted → count < mostSteps
     go true t a = ltb-true count mostSteps t
     go false t a = refused-accepted RecorderFull a
 
-pub step-full : (count : ℕ) (why : Refusal) → stepVerdict count ≡ Refused why → mostSteps ≤ count
+pub step-full : (count : ℕ) (why : Refusal) → roomVerdict count ≡ Refused why → mostSteps ≤ count
 step-full count why = go (ltb count mostSteps) refl
   where
     go : (b : Bool) → ltb count mostSteps ≡ b → cond b Accepted (Refused RecorderFull) ≡ Refused why → mostSteps ≤ count

@@ -119,12 +119,12 @@ accepted-first segs count x xs true p false q f = refused-accepted RecorderFull 
 accepted-first segs count x xs false p q any f = refused-accepted OutOfRange f
 
 -- so it is where they are accepted
-pub takable : (segs count : ℕ) (xs : List ℕ) → refsVerdict segs count xs ≡ Accepted → Takable segs count xs
+pub takable-is : (segs count : ℕ) (xs : List ℕ) → refsVerdict segs count xs ≡ Accepted → Takable segs count xs
 unfolding refsVerdict rest-verdict
-takable segs count [] e = record { segments = λ t lt. absurd (omega arith); room = λ t lt. absurd (omega arith) }
-takable segs count (x ∷ xs) e =
+takable-is segs count [] e = record { segments = λ t lt. absurd (omega arith); room = λ t lt. absurd (omega arith) }
+takable-is segs count (x ∷ xs) e =
     let first = accepted-first segs count x xs (ltb x segs) refl (ltb count mostSteps) refl e in
-    one-more segs count x xs (first .0) (first .1) (takable segs (suc count) xs (first .2))
+    one-more segs count x xs (first .0) (first .1) (takable-is segs (suc count) xs (first .2))
 
 -- and only there
 pub takable-accepted : (segs count : ℕ) (xs : List ℕ) → Takable segs count xs → refsVerdict segs count xs ≡ Accepted
@@ -158,7 +158,7 @@ verdict-of R xs v valid e =
 -- references that such a recorder accepts can be taken after the sheet
 pub takable-of : (R : Recorder) (xs : List ℕ) → touchAllVerdict R xs ≡ Accepted
     → (v : SheetValue) → Valid v → R ≡ recorderOf v → Takable (length (v .head .sizes)) (length (v .entries)) xs
-takable-of R xs a v valid e = takable (length (v .head .sizes)) (length (v .entries)) xs (sym (verdict-of R xs v valid e) ∙ a)
+takable-of R xs a v valid e = takable-is (length (v .head .sizes)) (length (v .entries)) xs (sym (verdict-of R xs v valid e) ∙ a)
 
 -- the touches after one, by the verdict on that one
 rest-touched : SheetValue → ℕ → List ℕ → Verdict → TouchAnswer

@@ -13,8 +13,8 @@ use Rattle.model.specs.Sheets.{HeadValue, SheetValue, Valid, idle, mostSegs, mo
 use Rattle.model.specs.Values.{headOf}
 use Rattle.model.specs.declared.Verdict.{Verdict}
 use Rattle.model.specs.declared.Verdict.the-variants.{Accepted, Refused}
-use Rattle.recorder.specs.Recorders.{recorderOf, started, appended, taken, rested, touchVerdict, idleVerdict}
-use Rattle.recorder.specs.Moves.{Move, touching, resting, entryOf, moved, afterMoves, moveVerdict, movesVerdict}
+use Rattle.recorder.specs.Recorders.{recorderOf, started, appended, taken, withIdle, touchVerdict, idleVerdict}
+use Rattle.recorder.specs.Moves.{Move, touching, resting, entryOf, afterMove, afterMoves, moveVerdict, movesVerdict}
 use Rattle.recorder.specs.Moves.{Moved, Led, unmoved, led, moveOf, movesOf}
 use Rattle.recorder.specs.declared.Recorder.{Recorder}
 use Rattle.recorder.specs.declared.TouchAnswer.{TouchAnswer}
@@ -26,7 +26,7 @@ use Rattle.recorder.proofs.Standing.{rested-valid}
 pub moves-append : (v : SheetValue) (ms ns : List Move) → afterMoves v (ms ++ ns) ≡ afterMoves (afterMoves v ms) ns
 unfolding afterMoves
 moves-append v [] ns = refl
-moves-append v (m ∷ ms) ns = moves-append (moved v m) ms ns
+moves-append v (m ∷ ms) ns = moves-append (afterMove v m) ms ns
 
 -- touches alone
 pub moves-touch : (v : SheetValue) → v .marks ≡ [] → (xs : List ℕ) → afterMoves v (map touching xs) ≡ appended v xs
@@ -40,23 +40,23 @@ pub moves-head : (v : SheetValue) (ms : List Move) → afterMoves v ms .head ≡
 unfolding afterMoves
 moves-head v [] = refl
 moves-head v (touching x ∷ ms) = moves-head (taken v x) ms
-moves-head v (resting ∷ ms) = moves-head (rested v) ms
+moves-head v (resting ∷ ms) = moves-head (withIdle v) ms
 
 pub moves-entries : (v : SheetValue) (ms : List Move) → afterMoves v ms .entries ≡ v .entries ++ map entryOf ms
 unfolding afterMoves
 moves-entries v [] = sym (append-nil (v .entries))
 moves-entries v (touching x ∷ ms) = moves-entries (taken v x) ms ∙ append-assoc (v .entries) (x ∷ []) (map entryOf ms)
-moves-entries v (resting ∷ ms) = moves-entries (rested v) ms ∙ append-assoc (v .entries) (idle ∷ []) (map entryOf ms)
+moves-entries v (resting ∷ ms) = moves-entries (withIdle v) ms ∙ append-assoc (v .entries) (idle ∷ []) (map entryOf ms)
 
 -- a move that is accepted leaves a sheet of forms 1 to 3 within the limits, and one of these forms
 pub moved-valid : (R : Recorder) (m : Move) → moveVerdict R m ≡ Accepted
-    → (v : SheetValue) → Valid v → v .form ≤ 3 → R ≡ recorderOf v → Valid (moved v m)
+    → (v : SheetValue) → Valid v → v .form ≤ 3 → R ≡ recorderOf v → Valid (afterMove v m)
 unfolding recorderOf
 moved-valid R (touching x) a v valid early e = all-valid R (x ∷ []) (one-accepted R x a) v valid e early
 moved-valid R resting a v valid early e =
     rested-valid v valid early (omega (arith, step-room (R .steps) a, ap (λ (Q : Recorder). Q .steps) e))
 
-moved-early : (v : SheetValue) (m : Move) → v .form ≤ 3 → moved v m .form ≤ 3
+moved-early : (v : SheetValue) (m : Move) → v .form ≤ 3 → afterMove v m .form ≤ 3
 moved-early v (touching x) early = early
 moved-early v resting early = omega arith
 
@@ -66,7 +66,7 @@ moved-verdict R (touching x) r t = t .verdict-is
 moved-verdict R resting r t = t .verdict-is
 
 moved-stands : (R : Recorder) (m : Move) (r : TouchAnswer) → Moved R m r → r .verdict ≡ Accepted
-    → (v : SheetValue) → Valid v → R ≡ recorderOf v → r .recorder ≡ recorderOf (moved v m)
+    → (v : SheetValue) → Valid v → R ≡ recorderOf v → r .recorder ≡ recorderOf (afterMove v m)
 moved-stands R (touching x) r t a v valid e = t .stands v valid e a
 moved-stands R resting r t a v valid e = t .stands v valid e a
 
@@ -76,7 +76,7 @@ pub led-stands : {R N : Recorder} {ms : List Move} → Led R ms N → (v : Sheet
 unfolding afterMoves
 led-stands unmoved v valid early e = (valid, e)
 led-stands {R} (led m r t a rest) v valid early e =
-    led-stands rest (moved v m) (moved-valid R m (sym (moved-verdict R m r t) ∙ a) v valid early e) (moved-early v m early)
+    led-stands rest (afterMove v m) (moved-valid R m (sym (moved-verdict R m r t) ∙ a) v valid early e) (moved-early v m early)
     (moved-stands R m r t a v valid e)
 
 -- the entries of the moves of entries
@@ -107,14 +107,14 @@ sheet-moves v valid =
     (moves-entries (started v) (movesOf v) ∙ entries-again (length (v .head .sizes)) (v .entries) (valid .run .entry-within))
 
 -- one move that is accepted, and then the rest
-first-move : (v : SheetValue) (m : Move) (ms : List Move) → moveVerdict (recorderOf v) m ≡ Accepted → movesVerdict (moved v m) ms ≡ Accepted
+first-move : (v : SheetValue) (m : Move) (ms : List Move) → moveVerdict (recorderOf v) m ≡ Accepted → movesVerdict (afterMove v m) ms ≡ Accepted
     → movesVerdict v (m ∷ ms) ≡ Accepted
 unfolding movesVerdict
 first-move v m ms a rest =
     ap
     (λ (w : Verdict).
     elim w [
-      | Accepted ↦ movesVerdict (moved v m) ms
+      | Accepted ↦ movesVerdict (afterMove v m) ms
       | Refused why ↦ Refused why
     ])
     a
@@ -134,7 +134,7 @@ module _ (v : SheetValue) (few : length (v .head .sizes) ≤ mostSegs) (room : l
 
   -- an entry is accepted as a move, and then the rest
   entry-accepted : (x : ℕ) (ms : List Move)
-      → (x < length (v .head .sizes) → movesVerdict (taken v x) ms ≡ Accepted) → movesVerdict (rested v) ms ≡ Accepted
+      → (x < length (v .head .sizes) → movesVerdict (taken v x) ms ≡ Accepted) → movesVerdict (withIdle v) ms ≡ Accepted
       → movesVerdict v (moveOf (length (v .head .sizes)) x ∷ ms) ≡ Accepted
   entry-accepted x ms after-touch after-rest = go (ltb x (length (v .head .sizes))) refl
     where
@@ -152,7 +152,7 @@ entries-accepted v few [] room = refl
 entries-accepted v few (x ∷ xs) room =
     entry-accepted v few (omega arith) x (map (moveOf (length (v .head .sizes))) xs)
     (λ lt. entries-accepted (taken v x) few xs (omega (arith, length-append (v .entries) (x ∷ []))))
-    (entries-accepted (rested v) few xs (omega (arith, length-append (v .entries) (idle ∷ []))))
+    (entries-accepted (withIdle v) few xs (omega (arith, length-append (v .entries) (idle ∷ []))))
 
 -- so are those that a sheet records, from its head on
 pub moves-accepted : (v : SheetValue) → Valid v → movesVerdict (started v) (movesOf v) ≡ Accepted

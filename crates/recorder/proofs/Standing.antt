@@ -24,7 +24,7 @@ use Rattle.buckets.specs.inner.Search.{loadPrices, memoryPrices, RowsOf}
 use Rattle.buckets.specs.declared.Bucket.{Bucket}
 use Rattle.buckets.specs.declared.pass.Passed.{Passed}
 use Rattle.figures.proofs.Limits.{buckets-roomy}
-use Rattle.recorder.specs.Recorders.{recorderOf, started, appended, taken, rested, stepVerdict, idleVerdict}
+use Rattle.recorder.specs.Recorders.{recorderOf, started, appended, taken, withIdle, roomVerdict, idleVerdict}
 use Rattle.recorder.specs.declared.Recorder.{Recorder}
 
 -- the front of a list at the front of blanks
@@ -161,7 +161,7 @@ taken-run v valid x lt room = appended-run v valid (x ∷ []) (λ t l. one t (om
     one t e = rw e lt
 
 -- one idle step more
-pub rested-valid : (v : SheetValue) → Valid v → v .form ≤ 3 → length (v .entries) < mostSteps → Valid (rested v)
+pub rested-valid : (v : SheetValue) → Valid v → v .form ≤ 3 → length (v .entries) < mostSteps → Valid (withIdle v)
 rested-valid v valid early room =
     steps-valid v valid (max 2 (v .form)) (omega arith) (omega (arith, valid .form-within)) (v .entries ++ (idle ∷ []))
     (steps-run v valid (v .entries ++ (idle ∷ [])) (omega (arith, length-append (v .entries) (idle ∷ [])))
@@ -184,7 +184,7 @@ later-valid v valid early =
 pub idle-room : (R : Recorder) (v : SheetValue) → R ≡ recorderOf v → idleVerdict R ≡ Accepted → length (v .entries) < mostSteps
 unfolding recorderOf
 idle-room R v e a =
-    go (ltb (length (v .entries)) mostSteps) refl (ap (λ (Q : Recorder). stepVerdict (Q .steps)) (sym e) ∙ a)
+    go (ltb (length (v .entries)) mostSteps) refl (ap (λ (Q : Recorder). roomVerdict (Q .steps)) (sym e) ∙ a)
   where
     go : (b : Bool) → ltb (length (v .entries)) mostSteps ≡ b → cond b Accepted (Refused RecorderFull) ≡ Accepted
         → length (v .entries) < mostSteps

@@ -28,7 +28,7 @@ use Rattle.buckets.specs.declared.pass.Passed.{Passed}
 use Rattle.figures.proofs.Limits.{cost-within, volume-within}
 use Rattle.buckets.proofs.Passing.{pass-step, pass-idle, passed-agree}
 use Rattle.recorder.specs.inner.Passes.{Continued}
-use Rattle.recorder.specs.Recorders.{recorderOf, appended, taken, rested, withStep}
+use Rattle.recorder.specs.Recorders.{recorderOf, appended, taken, withIdle, withStep}
 use Rattle.recorder.specs.declared.Recorder.{Recorder}
 use Rattle.recorder.proofs.Standing.{PricedBy, front, padded-at, head-rows, standing, standing-roomy, taken-run, recorder-passed}
 
@@ -99,7 +99,7 @@ stepped-stands R N x lt room s v valid e =
     (rw e at s)
 
 -- an idle step from the recorder of v: the table, the buckets, Q and V are what they were
-rested-of : (v : SheetValue) → Valid v → withStep (recorderOf v) ≡ recorderOf (rested v)
+rested-of : (v : SheetValue) → Valid v → withStep (recorderOf v) ≡ recorderOf (withIdle v)
 unfolding recorderOf
 rested-of v valid =
     let T = traceOf v in
@@ -113,10 +113,10 @@ rested-of v valid =
     (standing v ∙ passed-agree rows T (v .entries ++ (idle ∷ [])) n (grown-agree T idle)) (rw (entry-grown T idle) none) in
     let cost : refCost T ≡ refCost (grown T idle) = omega (arith, rw (le-ltb idle (segs T) none) at (cost-grown T idle)) in
     let volume : refVolume T ≡ refVolume (grown T idle) = omega (arith, rw (le-ltb idle (segs T) none) at (volume-grown T idle)) in
-    recorder-passed (rested v) (n + 1) end (recorderOf v .buckets) (recorderOf v .last) (refCost T) (refVolume T) (passed ∙ all) cost volume
+    recorder-passed (withIdle v) (n + 1) end (recorderOf v .buckets) (recorderOf v .last) (refCost T) (refVolume T) (passed ∙ all) cost volume
 
 -- from any recorder that stands for v
-pub rested-stands : (R : Recorder) (v : SheetValue) → Valid v → R ≡ recorderOf v → withStep R ≡ recorderOf (rested v)
+pub rested-stands : (R : Recorder) (v : SheetValue) → Valid v → R ≡ recorderOf v → withStep R ≡ recorderOf (withIdle v)
 rested-stands R v valid e = rw e (rested-of v valid)
 
 -- the pass goes on from what it has after a sheet

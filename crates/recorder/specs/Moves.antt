@@ -8,7 +8,7 @@ use lib.Dec.{ltb}
 use Rattle.model.specs.Sheets.{SheetValue, idle}
 use Rattle.model.specs.declared.Verdict.{Verdict}
 use Rattle.model.specs.declared.Verdict.the-variants.{Accepted, Refused}
-use Rattle.recorder.specs.Recorders.{recorderOf, taken, rested, touchVerdict, idleVerdict, Touched, Rested}
+use Rattle.recorder.specs.Recorders.{recorderOf, taken, withIdle, touchVerdict, idleVerdict, Touched, Rested}
 use Rattle.recorder.specs.declared.Recorder.{Recorder}
 use Rattle.recorder.specs.declared.TouchAnswer.{TouchAnswer}
 
@@ -23,13 +23,13 @@ entryOf (touching x) = x
 entryOf resting = idle
 
 -- a sheet's value after it, and after several
-abbrev pub moved : SheetValue → Move → SheetValue
-moved v (touching x) = taken v x
-moved v resting = rested v
+abbrev pub afterMove : SheetValue → Move → SheetValue
+afterMove v (touching x) = taken v x
+afterMove v resting = withIdle v
 
 unfoldable pub afterMoves : SheetValue → List Move → SheetValue
 afterMoves v [] = v
-afterMoves v (m ∷ ms) = afterMoves (moved v m) ms
+afterMoves v (m ∷ ms) = afterMoves (afterMove v m) ms
 
 -- the verdict of a recorder on it, and of one that stands for a sheet on several, each being asked after those before it: that of the first
 -- that is refused
@@ -41,7 +41,7 @@ unfoldable pub movesVerdict : SheetValue → List Move → Verdict
 movesVerdict v [] = Accepted
 movesVerdict v (m ∷ ms) =
     elim (moveVerdict (recorderOf v) m) [
-      | Accepted ↦ movesVerdict (moved v m) ms
+      | Accepted ↦ movesVerdict (afterMove v m) ms
       | Refused why ↦ Refused why
     ]
 

@@ -51,8 +51,8 @@ abbrev pub taken : SheetValue → ℕ → SheetValue
 taken v x = appended v (x ∷ [])
 
 -- one idle step more: form 1 has none, so the form is then 2 or more
-abbrev pub rested : SheetValue → SheetValue
-rested v = record { form = max 2 (v .form); head = v .head; entries = v .entries ++ (idle ∷ []); marks = [] }
+abbrev pub withIdle : SheetValue → SheetValue
+withIdle v = record { form = max 2 (v .form); head = v .head; entries = v .entries ++ (idle ∷ []); marks = [] }
 
 -- a recorder with one step more, and all else as it was
 abbrev pub withStep : Recorder → Recorder
@@ -60,12 +60,12 @@ withStep R =
     record { head = R .head; steps = R .steps + 1; last = R .last; buckets = R .buckets; cost = R .cost; volume = R .volume }
 
 -- the verdict on an idle step after `count` steps: 13 where there are 2,048
-abbrev pub stepVerdict : ℕ → Verdict
-stepVerdict count = cond (ltb count mostSteps) Accepted (Refused RecorderFull)
+abbrev pub roomVerdict : ℕ → Verdict
+roomVerdict count = cond (ltb count mostSteps) Accepted (Refused RecorderFull)
 
 -- the verdict on a reference x after `count` steps: 4 for a segment not below segs, then 13 where there are 2,048
 abbrev pub refVerdict : ℕ → ℕ → ℕ → Verdict
-refVerdict segs count x = cond (ltb x segs) (stepVerdict count) (Refused OutOfRange)
+refVerdict segs count x = cond (ltb x segs) (roomVerdict count) (Refused OutOfRange)
 
 -- the verdict of the first of the references xs that would be refused, each being asked after those before it
 unfoldable pub refsVerdict : ℕ → ℕ → List ℕ → Verdict
@@ -84,7 +84,7 @@ abbrev pub touchAllVerdict : Recorder → List ℕ → Verdict
 touchAllVerdict R xs = refsVerdict (min (R .head .segs) mostSegs) (R .steps) xs
 
 abbrev pub idleVerdict : Recorder → Verdict
-idleVerdict R = stepVerdict (R .steps)
+idleVerdict R = roomVerdict (R .steps)
 
 -- what a touch answers
 pub record Touched (R : Recorder) (x : ℕ) (r : TouchAnswer) : Type 0 where
@@ -111,7 +111,7 @@ pub record Rested (R : Recorder) (r : TouchAnswer) : Type 0 where
   -- accepted, it has one step more and all else as it was, also where it was put together by hand
   pub counted : r .verdict ≡ Accepted → r .recorder ≡ withStep R
   -- a recorder that stands for a sheet stands for one idle step more
-  pub stands : (v : SheetValue) → Valid v → R ≡ recorderOf v → r .verdict ≡ Accepted → r .recorder ≡ recorderOf (rested v)
+  pub stands : (v : SheetValue) → Valid v → R ≡ recorderOf v → r .verdict ≡ Accepted → r .recorder ≡ recorderOf (withIdle v)
 
 -- touching one by one a recorder that stands for a sheet: the answer of the first touch that is refused, or of the last
 unfoldable pub oneByOne : SheetValue → List ℕ → TouchAnswer

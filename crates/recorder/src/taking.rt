@@ -14,7 +14,7 @@ ghost use Rattle.model.specs.Sheets.{SheetValue, Valid, mostSteps, mostSegs};
 ghost use Rattle.model.specs.declared.Verdict.the-variants.{Accepted};
 ghost use Rattle.buckets.specs.inner.Pass.{Passable};
 ghost use Rattle.recorder.specs.inner.Passes.{Continued};
-ghost use Rattle.recorder.specs.Recorders.{recorderOf, appended, taken, stepVerdict, refsVerdict, touchAllVerdict};
+ghost use Rattle.recorder.specs.Recorders.{recorderOf, appended, taken, roomVerdict, refsVerdict, touchAllVerdict};
 
 // The recorder with one more reference.
 pub fn take_one(mut recorder: Recorder, segment: usize) -> Recorder
@@ -42,7 +42,7 @@ pub fn take_one(mut recorder: Recorder, segment: usize) -> Recorder
 
 // The verdict on an idle step after so many steps: 13 where there are 2,048.
 pub fn idle_verdict(steps: usize) -> Verdict
-    ensures { λ r. ⌜ r ≡ stepVerdict steps ⌝ }
+    ensures { λ r. ⌜ r ≡ roomVerdict steps ⌝ }
 {
     if steps < Recorder::MAX_STEPS {
         return Verdict::Accepted;

@@ -9,7 +9,7 @@ use Rattle.model.specs.Sheets.{SheetValue, Valid, traceOf, rowAt}
 use Rattle.model.specs.declared.Refusal.the-variants.{NoSuchRow, TariffOutOfRange}
 use Rattle.model.specs.declared.RowFigures.{RowFigures}
 use Rattle.model.specs.declared.Verdict.the-variants.{Accepted}
-use Rattle.tariff.specs.Tariff.{inRange, billOf}
+use Rattle.tariff.specs.Tariff.{tariffInRange, billOf}
 use Rattle.tariff.specs.declared.Cents.{Cents}
 use Rattle.tariff.specs.declared.Tariff.{Tariff}
 use Rattle.figures.specs.Rows.{figuresAt}
@@ -21,13 +21,13 @@ module _ (v : SheetValue) (r : ℕ) (t : Tariff) where
   unfolding billFor
   bill-no-row le = rw (le-ltb r (length (v .head .rows)) le)
 
-  pub bill-out-of-range : r < length (v .head .rows) → inRange t ≡ false → billFor v r t ≡ noBill TariffOutOfRange
+  pub bill-out-of-range : r < length (v .head .rows) → tariffInRange t ≡ false → billFor v r t ≡ noBill TariffOutOfRange
   unfolding billFor rowBill
   bill-out-of-range lt out = rw (lt-ltb r (length (v .head .rows)) lt, out)
 
   -- the bill of the row's figures
   module _ (f : RowFigures) (e : f ≡ figuresAt v r) where
-    pub bill-at : {cents : Cents} → r < length (v .head .rows) → inRange t ≡ true → cents .0 ≡ billOf t (f .optmem .0) (f .load .0)
+    pub bill-at : {cents : Cents} → r < length (v .head .rows) → tariffInRange t ≡ true → cents .0 ≡ billOf t (f .optmem .0) (f .load .0)
         → record { verdict = Accepted; cents = cents } ≡ billFor v r t
     unfolding billFor rowBill rowFigures
     bill-at lt fit bill =

@@ -7,7 +7,7 @@ use Rattle.model.specs.Sheets.{SheetValue, rowOptmem, rowLoad}
 use Rattle.model.specs.declared.Refusal.{Refusal}
 use Rattle.model.specs.declared.Refusal.the-variants.{NoSuchRow, TariffOutOfRange}
 use Rattle.model.specs.declared.Verdict.the-variants.{Accepted, Refused}
-use Rattle.tariff.specs.Tariff.{inRange, billOf}
+use Rattle.tariff.specs.Tariff.{tariffInRange, billOf}
 use Rattle.tariff.specs.declared.Tariff.{Tariff}
 use Rattle.rows.specs.declared.billing.BillAnswer.{BillAnswer}
 
@@ -18,7 +18,7 @@ noBill r = record { verdict = Refused r; cents = record { 0 = 0 } }
 -- the bill of row r of a sheet, from its optmem and its load: 18 where a rate or the minimum lies outside its range
 unfoldable pub rowBill : SheetValue → ℕ → Tariff → BillAnswer
 rowBill v r t =
-    cond (inRange t) (record { verdict = Accepted; cents = record { 0 = billOf t (rowOptmem v r) (rowLoad v r) } })
+    cond (tariffInRange t) (record { verdict = Accepted; cents = record { 0 = billOf t (rowOptmem v r) (rowLoad v r) } })
     (noBill TariffOutOfRange)
 
 -- 7 where there is no such row, then 18

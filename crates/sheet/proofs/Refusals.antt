@@ -270,7 +270,7 @@ sheet-refusals lo hi s r e =
     ⊎-elim (λ w. rw (w .1) (inl (omega arith, omega arith))) (λ w. ⊎-elim (λ o. inl (omega (arith, o), omega (arith, o))) inr (w .1))
     (rejected-by lo hi s r e)
 
--- ---- exactly one answer
+-- ---- the answer
 
 -- a run of bytes is accepted as a valid value, or refused with one of 1 to 6, 16 and 19
 abbrev pub Answer : List ℕ → Type 0
@@ -284,15 +284,3 @@ answered s = go (readSheet s) refl
     go : (o : Outcome) → readSheet s ≡ o → Answer s
     go (accepted v) e = inl (v, e, accepted-valid 1 newestForm (omega arith) s v e)
     go (rejected r) e = inr (r, e, sheet-refusals 1 newestForm s r e)
-
--- an accepted one has one value
-pub one-value : (s : List ℕ) (v w : SheetValue) → readSheet s ≡ accepted v → readSheet s ≡ accepted w → v ≡ w
-one-value s v w e f = cc
-
--- a refused one is refused with one number
-pub one-refusal : (s : List ℕ) (r q : Refusal) → readSheet s ≡ rejected r → readSheet s ≡ rejected q → r ≡ q
-one-refusal s r q e f = cc
-
--- and none is accepted and refused
-pub not-both : (s : List ℕ) (v : SheetValue) (r : Refusal) → readSheet s ≡ accepted v → readSheet s ≡ rejected r → ⊥
-not-both s v r e f = let z : _≡_ {A = ℕ} 0 1 = cc in omega arith

@@ -14,7 +14,7 @@ use Rattle.model.specs.Sheets.{RunWithin}
 use Rattle.model.specs.Traces.{Trace, segs, steps, entry, sizeOf}
 use Rattle.model.specs.declared.PriceRow.{PriceRow}
 use Rattle.model.proofs.Touches.{entry-ref}
-use Rattle.stores.specs.Modtotal.{joined}
+use Rattle.stores.specs.Modtotal.{joinsBefore}
 use Rattle.store_plan.specs.declared.mod_pass.touching.Touched.{Touched}
 use Rattle.store_plan.specs.inner.Decisions.{noDecisions, FoundBy}
 use Rattle.store_plan.specs.inner.Touches.{noneSince, touchBy}
@@ -76,7 +76,7 @@ module _ (T : Trace) (marks : ℕ → Bool) (row : PriceRow) (ok : RunWithin T) 
                     told-more T (kept T (row .h) (row .d)) keeps t i (x .kept) (omega (arith, v .keeps-whole, ok .steps-within)) e
                     (told .kept-is) (v .found .kept-are);
                 joined-are =
-                    told-more T (joined T marks (row .h) (row .d)) joins t i (x .joined)
+                    told-more T (joinsBefore T marks (row .h) (row .d)) joins t i (x .joined)
                     (omega (arith, v .joins-whole, ok .steps-within)) e (told .joined-is) (v .found .joined-are);
               };
         }
@@ -93,7 +93,7 @@ module _ (T : Trace) (marks : ℕ → Bool) (row : PriceRow) (ok : RunWithin T) 
           found =
               record {
                 kept-are = told-idle T (kept T (row .h) (row .d)) keeps t none (v .found .kept-are);
-                joined-are = told-idle T (joined T marks (row .h) (row .d)) joins t none (v .found .joined-are);
+                joined-are = told-idle T (joinsBefore T marks (row .h) (row .d)) joins t none (v .found .joined-are);
               };
         }
 

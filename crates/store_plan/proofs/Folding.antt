@@ -14,7 +14,7 @@ use Rattle.model.specs.Figures.{kept}
 use Rattle.model.specs.Traces.{Trace, segs, steps, entry, touched}
 use Rattle.model.specs.declared.PriceRow.{PriceRow}
 use Rattle.model.proofs.Touches.{touched-at, touched-is, idle-touched, entry-ref}
-use Rattle.stores.specs.Modtotal.{joined, modSchedule}
+use Rattle.stores.specs.Modtotal.{joinsBefore, modSchedule}
 use Rattle.stores.specs.inner.Decisions.{modKept}
 use Rattle.stores.proofs.Decisions.{decisions-mod}
 use Rattle.stores.proofs.Nexts.{nextMark, mark-step, mark-end, nextMarked-eq}
@@ -160,7 +160,7 @@ folded-decides T marks row found on told folded t lt touch =
     folded t (omega arith) lt touch
     ∙ rw (
       told .kept-are t lt touch,
-      nextMarked-eq T marks (decisionsOf (found .joined)) (joined T marks (row .h) (row .d)) (told .joined-are) (steps T - t) t (entry T t)
+      nextMarked-eq T marks (decisionsOf (found .joined)) (joinsBefore T marks (row .h) (row .d)) (told .joined-are) (steps T - t) t (entry T t)
           (omega arith),
     )
 

@@ -16,7 +16,7 @@ use Rattle.model.specs.declared.PriceRow.{PriceRow}
 use Rattle.model.proofs.LastTouches.{lastTable-step, lastTable-idle}
 use Rattle.model.proofs.Tables.{getD-tabulate, tabulate-const, tabulate-eq, tabulate-set}
 use Rattle.model.proofs.Touches.{touched-at, touched-is, idle-touched, entry-ref}
-use Rattle.stores.specs.Modtotal.{excess, sinceMark, sinceThrough, storeCost, joined}
+use Rattle.stores.specs.Modtotal.{excess, sinceMark, sinceThrough, storeCost, joinsBefore}
 use Rattle.store_plan.specs.declared.mod_pass.touching.Touched.{Touched}
 use Rattle.store_plan.specs.inner.Touches.{codeOf, sinceTable, noneSince, codeAfter, touchBy}
 use Rattle.store_plan.proofs.Bounds.{since-within}
@@ -64,7 +64,7 @@ pub record Told (T : Trace) (marks : ℕ → Bool) (row : PriceRow) (t i : ℕ) 
   pub since-is : x .since ≡ codeAfter (marks t) (codeOf (sinceThrough T marks (row .h) (row .d) t i))
   pub added-is : x .added ≡ cond (marks t) (storeCost T marks (row .h) (row .d) t i) 0
   pub kept-is : x .kept ≡ kept T (row .h) (row .d) t i
-  pub joined-is : x .joined ≡ joined T marks (row .h) (row .d) t i
+  pub joined-is : x .joined ≡ joinsBefore T marks (row .h) (row .d) t i
 
 module _ (T : Trace) (marks : ℕ → Bool) (row : PriceRow) (ok : RunWithin T) where
   pub tables-start : (last since : List ℕ) → last ≡ lastTable T 0 → since ≡ noneSince → Tables T marks row last since 0
@@ -73,7 +73,7 @@ module _ (T : Trace) (marks : ℕ → Bool) (row : PriceRow) (ok : RunWithin T) 
   module _ (last since : List ℕ) (t : ℕ) (v : Tables T marks row last since t) (lt : t < steps T) where
     pub tables-told : (i : ℕ) (x : Touched) → i < segs T
         → x ≡ touchBy (T .kind) (T .a) row (sizeOf T i) (getD last i 0) (getD since i 0) t (marks t) → Told T marks row t i x
-    unfolding storeCost joined
+    unfolding storeCost joinsBefore
     tables-told i x li ex =
         rw (
           ex,

@@ -9,23 +9,23 @@ use Rattle.model.specs.Figures.{kept}
 use Rattle.model.specs.Schedules.{nextKept}
 use Rattle.model.specs.Decisions.{nextDecided, decidedHeld, decidedSchedule, decisionsOf}
 use Rattle.model.proofs.Decisions.{heldBytes-eq, decidedSchedule-eq}
-use Rattle.stores.specs.Modtotal.{joined, nextMarked, modHeld, modSchedule}
+use Rattle.stores.specs.Modtotal.{joinsBefore, nextMarked, modHeld, modSchedule}
 use Rattle.stores.specs.inner.Decisions.{modKept}
 
 module _ (T : Trace) (marks : ℕ → Bool) (h d : ℕ) where
   -- the next touch finds its segment held where it is kept, or the next modifying touch is joined
   next-mod : (k t i : ℕ) → t + k ≡ steps T
-      → nextDecided T (modKept T marks h d) k t i ≡ nextKept T h d k t i || nextMarked T marks (joined T marks h d) k t i
+      → nextDecided T (modKept T marks h d) k t i ≡ nextKept T h d k t i || nextMarked T marks (joinsBefore T marks h d) k t i
   unfolding nextDecided nextKept nextMarked modKept
   next-mod zero t i e = refl
   next-mod (suc k) t i e = go (touched T t i) refl (next-mod k (suc t) i (omega arith))
     where
       go : (m : Bool) → touched T t i ≡ m
           → nextDecided T (modKept T marks h d) k (suc t) i
-          ≡ nextKept T h d k (suc t) i || nextMarked T marks (joined T marks h d) k (suc t) i
+          ≡ nextKept T h d k (suc t) i || nextMarked T marks (joinsBefore T marks h d) k (suc t) i
           → cond (touched T t i) (modKept T marks h d t i) (nextDecided T (modKept T marks h d) k (suc t) i)
           ≡ cond (touched T t i) (kept T h d t i) (nextKept T h d k (suc t) i)
-          || cond (touched T t i && marks t) (joined T marks h d t i) (nextMarked T marks (joined T marks h d) k (suc t) i)
+          || cond (touched T t i && marks t) (joinsBefore T marks h d t i) (nextMarked T marks (joinsBefore T marks h d) k (suc t) i)
       go true m again =
           let left : steps T - t ≡ suc k = omega arith in
           rw (left, m)

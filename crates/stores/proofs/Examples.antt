@@ -15,7 +15,7 @@ use Rattle.model.specs.Schedules.{bit, held, scheduleMemory, scheduleLoad, next
 use Rattle.model.specs.Decisions.{heldByte, heldBytes}
 use Rattle.model.specs.declared.Kind.{Kind}
 use Rattle.model.specs.declared.Kind.the-variants.{Time, Space}
-use Rattle.stores.specs.Modtotal.{sinceMark, storeCost, modAdded, modtotal, joined, nextMarked, modHeld, modSchedule}
+use Rattle.stores.specs.Modtotal.{sinceMark, storeCost, modAdded, modtotal, joinsBefore, nextMarked, modHeld, modSchedule}
 use Rattle.stores.specs.Stays.{all, any, everyStep, someStep, heldBefore, heldAfter, isStay, modifiesIn, isModifiedStay}
 use Rattle.stores.specs.Stays.{storesOf, markedLoad, markedTotal}
 use Rattle.stores.specs.inner.Marks.{dirty, storesAtEnds}
@@ -192,7 +192,7 @@ pub table-holds : allHold table ≡ true
 unfolding allHold holds allPriced same firstBytes bytesOf table run entriesOf marked entryOf markOf saved interleaved warmFirst waiting
     alone allWarm mixed listed held scheduleMemory scheduleLoad misses volume load optmem opttotal sum tabulate touching later
     unreferenced kept refCost nextKept heldByte heldBytes dirty storesAtEnds markedLoad markedTotal sinceMark storeCost
-    storesOf isModifiedStay isStay everyStep someStep all any heldBefore heldAfter modifiesIn modAdded modtotal joined nextMarked
+    storesOf isModifiedStay isStay everyStep someStep all any heldBefore heldAfter modifiesIn modAdded modtotal joinsBefore nextMarked
     modHeld modSchedule
 table-holds = refl
 

@@ -19,7 +19,7 @@ use Rattle.model.proofs.Sums.{term-le}
 use Rattle.model.proofs.Decisions.{heldBytes-eq, nextDecided-eq}
 use Rattle.model.proofs.Optimal.{next-kept}
 use Rattle.model.proofs.LeastLoad.{kept-scaled}
-use Rattle.stores.specs.Modtotal.{excess, plus, sinceMark, sinceThrough, modtotal, joins, joined, nextMarked, modHeld, modSchedule}
+use Rattle.stores.specs.Modtotal.{excess, plus, sinceMark, sinceThrough, modtotal, joins, joinsBefore, nextMarked, modHeld, modSchedule}
 use Rattle.stores.specs.Stays.{markedLoad, markedTotal}
 use Rattle.stores.proofs.LowerBound.{marked-lower-bound}
 use Rattle.stores.proofs.Nexts.{nextMarked-eq}
@@ -118,8 +118,8 @@ module _ (T : Trace) (marks : ℕ → Bool) (h d M : ℕ) (big : (i : ℕ) → i
       close-plus M (swapOf T i) t (excess T h d t i) (excess T (M * h + 1) (M * d) t i) (sinceMark T marks h d t i)
       (sinceMark T marks (M * h + 1) (M * d) t i) (since-scaled t i l) (excess-scaled t i l)
 
-  pub joined-same : (t i : ℕ) → t < steps T → i < segs T → joined T marks (M * h + 1) (M * d) t i ≡ joined T marks h d t i
-  unfolding joined
+  pub joined-same : (t i : ℕ) → t < steps T → i < segs T → joinsBefore T marks (M * h + 1) (M * d) t i ≡ joinsBefore T marks h d t i
+  unfolding joinsBefore
   joined-same t i lt l =
       close-joins M h (swapOf T i) (suc t) (sinceThrough T marks h d t i) (sinceThrough T marks (M * h + 1) (M * d) t i)
       (through-scaled t i l) (omega (arith, big i l, few))
@@ -141,10 +141,10 @@ module _ (T : Trace) (marks : ℕ → Bool) (h d M : ℕ) (big : (i : ℕ) → i
           ∙ nextDecided-eq T (kept T (M * h + 1) (M * d)) (kept T h d) (λ t lt l. kept-same t (entry T t) l) k (suc t) i (omega arith)
           ∙ next-kept T h d k (suc t) i
 
-      marked-same : nextMarked T marks (joined T marks (M * h + 1) (M * d)) k (suc t) i
-          ≡ nextMarked T marks (joined T marks h d) k (suc t) i
+      marked-same : nextMarked T marks (joinsBefore T marks (M * h + 1) (M * d)) k (suc t) i
+          ≡ nextMarked T marks (joinsBefore T marks h d) k (suc t) i
       marked-same =
-          nextMarked-eq T marks (joined T marks (M * h + 1) (M * d)) (joined T marks h d) (λ t lt l. joined-same t (entry T t) lt l)
+          nextMarked-eq T marks (joinsBefore T marks (M * h + 1) (M * d)) (joinsBefore T marks h d) (λ t lt l. joined-same t (entry T t) lt l)
           k (suc t) i (omega arith)
 
   -- and the schedule

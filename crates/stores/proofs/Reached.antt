@@ -13,7 +13,7 @@ use Rattle.model.proofs.Touches.{touched-below, unreferenced-none, unreferenced
 use Rattle.model.proofs.DoubleSums.{potential-ge}
 use Rattle.model.proofs.Decisions.{length-heldBytes, held-bytes}
 use Rattle.stores.specs.Modtotal.{excess, plus, sinceMark, sinceThrough, storeCost, modtotal}
-use Rattle.stores.specs.Modtotal.{joins, joined, nextMarked, modHeld, modSchedule}
+use Rattle.stores.specs.Modtotal.{joins, joinsBefore, nextMarked, modHeld, modSchedule}
 use Rattle.stores.specs.Stays.{modifies, markedTotal}
 use Rattle.stores.specs.inner.Marks.{dirty}
 use Rattle.stores.proofs.LowerBound.{modCost, modtotal-touches, costCell, total-cells, marked-lower-bound}
@@ -45,17 +45,17 @@ module _ (T : Trace) (marks : ℕ → Bool) (h d : ℕ) where
 
   -- from place t on, the next modifying touch of segment i is joined
   abbrev pub nextJoin : ℕ → ℕ → Bool
-  nextJoin t i = nextMark T marks (joined T marks h d) t i
+  nextJoin t i = nextMark T marks (joinsBefore T marks h d) t i
 
   -- only after a modifying touch the next one is joined
-  joined-since : (k t i : ℕ) → nextMarked T marks (joined T marks h d) k t i ≡ true → isReuse (sinceMark T marks h d t i) ≡ true
-  unfolding nextMarked joined
+  joined-since : (k t i : ℕ) → nextMarked T marks (joinsBefore T marks h d) k t i ≡ true → isReuse (sinceMark T marks h d t i) ≡ true
+  unfolding nextMarked joinsBefore
   joined-since zero t i e = absurd (false≢true e)
   joined-since (suc k) t i e = go (touched T t i) refl (marks t) refl e (joined-since k (suc t) i)
     where
       go : (m : Bool) → touched T t i ≡ m → (g : Bool) → marks t ≡ g
-          → cond (m && g) (joined T marks h d t i) (nextMarked T marks (joined T marks h d) k (suc t) i) ≡ true
-          → (nextMarked T marks (joined T marks h d) k (suc t) i ≡ true → isReuse (sinceMark T marks h d (suc t) i) ≡ true)
+          → cond (m && g) (joinsBefore T marks h d t i) (nextMarked T marks (joinsBefore T marks h d) k (suc t) i) ≡ true
+          → (nextMarked T marks (joinsBefore T marks h d) k (suc t) i ≡ true → isReuse (sinceMark T marks h d (suc t) i) ≡ true)
           → isReuse (sinceMark T marks h d t i) ≡ true
       go true m true g e again = joins-some (h * swapOf T i) (excess T h d t i) (sinceMark T marks h d t i) e
       go true m false g e again =
@@ -110,7 +110,7 @@ module _ (T : Trace) (marks : ℕ → Bool) (h d : ℕ) where
     where
       go : (m : Bool) → modifies T marks t i ≡ m → (nextJoin t i ≡ true → dirty T marks S t i ≡ true) → m || dirty T marks S t i ≡ true
       go true m again = refl
-      go false m again = again (mark-step T marks (joined T marks h d) t i le ∙ rw m e)
+      go false m again = again (mark-step T marks (joinsBefore T marks h d) t i le ∙ rw m e)
 
   -- the schedule is permitted
   pub mod-permitted : segs T ≤ 256 → Permitted T (modSchedule T marks h d)
@@ -121,7 +121,7 @@ module _ (T : Trace) (marks : ℕ → Bool) (h d : ℕ) where
         touched-held = λ t i lt m. held-mod t i lt (omega (arith, touched-below T t i m)) ∙ rw m;
         others-stay = λ t i lt l m e.
             next-held t i (omega arith) l
-            (rw (next-step T h d t i lt, mark-step T marks (joined T marks h d) t i lt, m) (sym (held-mod t i lt l ∙ rw m) ∙ e));
+            (rw (next-step T h d t i lt, mark-step T marks (joinsBefore T marks h d) t i lt, m) (sym (held-mod t i lt l ∙ rw m) ∙ e));
       }
 
   -- what it has paid so far
@@ -130,9 +130,9 @@ module _ (T : Trace) (marks : ℕ → Bool) (h d : ℕ) where
 
   soFar-step : (t i : ℕ) → t < steps T → i < 256
       → costCell T marks h d S t i + soFar t i ≤ modCost T marks h d t i + soFar (suc t) i
-  unfolding kept storeCost sinceMark unreferenced joined modHeld
+  unfolding kept storeCost sinceMark unreferenced joinsBefore modHeld
   soFar-step t i lt l =
-      let marked = mark-step T marks (joined T marks h d) t i lt in
+      let marked = mark-step T marks (joinsBefore T marks h d) t i lt in
       rw (held-mod t i lt l, next-step T h d t i lt, marked)
       (one-step h d (unitOf T i) (swapOf T i) (unreferenced T t i) (sinceMark T marks h d t i) (touched T t i) (marks t) (S t i)
       (dirty T marks S t i) (next T h d (suc t) i) (nextJoin (suc t) i)
@@ -150,7 +150,7 @@ module _ (T : Trace) (marks : ℕ → Bool) (h d : ℕ) where
         marked-lower-bound T marks h d (modSchedule T marks h d) (mod-permitted few) few,
         modtotal-touches T marks h d,
         potential-ge (steps T) (segs T) (costCell T marks h d S) (modCost T marks h d) soFar (λ t i lt l. soFar-step t i lt (omega arith)),
-        sum-zero (segs T) (soFar (steps T)) (λ i l. rw (next-end T h d i, mark-end T marks (joined T marks h d) i)),
+        sum-zero (segs T) (soFar (steps T)) (λ i l. rw (next-end T h d i, mark-end T marks (joinsBefore T marks h d) i)),
         total-cells T marks h d S,
         total-by-marks T marks h d (modSchedule T marks h d) (mod-permitted few),
       )

@@ -19,7 +19,7 @@ use Rattle.model.proofs.Sums.{sum-zero, term-le}
 use Rattle.model.proofs.Touches.{touched-beyond, unreferenced-later}
 use Rattle.model.proofs.DoubleSums.{doubleSum, double-add, double-tight, telescope, potential-le}
 use Rattle.model.proofs.LowerBound.{leastCost, leastAt, touch-least, memoryOf, loadOf}
-use Rattle.stores.specs.Modtotal.{sinceMark, sinceThrough, orStore, storeCost, modtotal, joins, joined, modHeld, modSchedule}
+use Rattle.stores.specs.Modtotal.{sinceMark, sinceThrough, orStore, storeCost, modtotal, joins, joinsBefore, modHeld, modSchedule}
 use Rattle.stores.specs.Stays.{markedLoad, markedTotal}
 use Rattle.stores.specs.inner.Marks.{dirty, storesAtMarks}
 use Rattle.stores.proofs.LowerBound.{excessOf, worth, dirty-held, modCost, modtotal-touches, costCell, total-cells}
@@ -90,7 +90,7 @@ module _ (T : Trace) (marks : ℕ → Bool) (h d : ℕ) (S : ℕ → ℕ → Boo
   -- of one segment, at prices at which no decision ties
   module _ (i : ℕ) (l : i < segs T) (some-u : 0 < d * unitOf T i) (some-w : 0 < h * swapOf T i)
       (strict-k : (t : ℕ) → t < steps T → kept T h d t i ≡ true → leastAt T h d t i < h * swapOf T i)
-      (strict-j : (t : ℕ) → t < steps T → joined T marks h d t i ≡ true → storeCost T marks h d t i < h * swapOf T i) where
+      (strict-j : (t : ℕ) → t < steps T → joinsBefore T marks h d t i ≡ true → storeCost T marks h d t i < h * swapOf T i) where
     tight : (t : ℕ) → t < steps T
         → Tight h d (unitOf T i) (swapOf T i) (unreferenced T t i) (sinceMark T marks h d t i) (touched T t i) (marks t)
         (S t i) (S (suc t) i) (dirty T marks S t i)
@@ -121,12 +121,12 @@ module _ (T : Trace) (marks : ℕ → Bool) (h d : ℕ) (S : ℕ → ℕ → Boo
     all-after : (k t : ℕ) → t + k ≡ steps T
         → After h d (unitOf T i) (swapOf T i) (unreferenced T t i) (sinceMark T marks h d t i) (S t i) (dirty T marks S t i)
         (next T h d t i) (nextJoin T marks h d t i)
-    unfolding unreferenced dirty sinceMark kept joined storeCost
+    unfolding unreferenced dirty sinceMark kept joinsBefore storeCost
     all-after zero t e =
         let done : t ≡ steps T = omega arith in
         rw done (record {
           out-dropped = λ y. next-end T h d i;
-          clean-apart = λ y. mark-end T marks (joined T marks h d) i;
+          clean-apart = λ y. mark-end T marks (joinsBefore T marks h d) i;
           dirty-joined = λ y x. absurd (nothing .1 y x);
           held-kept = λ y x. absurd (nothing .0 y x);
         })
@@ -139,7 +139,7 @@ module _ (T : Trace) (marks : ℕ → Bool) (h d : ℕ) (S : ℕ → ℕ → Boo
             (worth h d (unitOf T i) (swapOf T i) (unreferenced T (steps T) i) (sinceMark T marks h d (steps T) i)) (no-loss-end i l)
     all-after (suc k) t e =
         let lt : t < steps T = omega arith in
-        rw (next-step T h d t i lt, mark-step T marks (joined T marks h d) t i lt)
+        rw (next-step T h d t i lt, mark-step T marks (joinsBefore T marks h d) t i lt)
         (after-step h d (unitOf T i) (swapOf T i) (unreferenced T t i) (sinceMark T marks h d t i) some-u some-w (touched T t i) (marks t)
         (S t i) (S (suc t) i) (dirty T marks S t i) (next T h d (suc t) i) (nextJoin T marks h d (suc t) i) (stays t i lt l)
         (holds t i lt) (dirty-held T marks S t i) (strict-k t lt) (strict-j t lt) (all-before t (omega arith)) (tight t lt)
@@ -199,7 +199,7 @@ module _ (T : Trace) (marks : ℕ → Bool) (h d : ℕ) (few : segs T ≤ 256) (
       below = rw (mod-total T marks h d few) total
 
   pub same-segment : (t i : ℕ) → t < steps T → i < segs T → held T p (suc t) i ≡ modHeld T marks h d t i
-  unfolding held kept joined storeCost
+  unfolding held kept joinsBefore storeCost
   same-segment t i lt l =
       same T marks (M * h + 1) (M * d) (held T p) (λ i lt. refl) (λ t i lt l. ok .others-stay t i lt (omega arith)) (ok .touched-held)
       (rw (total-by-marks T marks (M * h + 1) (M * d) p ok) at scaled-total) i l some-units (omega arith)
@@ -236,5 +236,5 @@ module _ (T : Trace) (marks : ℕ → Bool) (h d : ℕ) (few : segs T ≤ 256) (
           ∙ rw (
             touched-beyond T t i b,
             nextKept-beyond T h d (steps T - suc t) (suc t) i b,
-            nextMarked-beyond T marks (joined T marks h d) (steps T - suc t) (suc t) i b,
+            nextMarked-beyond T marks (joinsBefore T marks h d) (steps T - suc t) (suc t) i b,
           )

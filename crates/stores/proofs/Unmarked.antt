@@ -13,7 +13,7 @@ use Rattle.model.specs.Sums.{sum}
 use Rattle.model.proofs.Sums.{sum-zero}
 use Rattle.model.proofs.Decisions.{heldBytes-eq}
 use Rattle.model.proofs.Optimal.{next-kept, decided-optimal}
-use Rattle.stores.specs.Modtotal.{storeCost, modAdded, modtotal, joined, nextMarked, modHeld, modSchedule}
+use Rattle.stores.specs.Modtotal.{storeCost, modAdded, modtotal, joinsBefore, nextMarked, modHeld, modSchedule}
 use Rattle.stores.specs.Stays.{storesOf, markedLoad}
 use Rattle.stores.specs.inner.Marks.{dirty, storesAtEnds}
 use Rattle.stores.proofs.Stays.{stays-ends}
@@ -76,6 +76,6 @@ module _ (T : Trace) (marks : ℕ → Bool) (none : (t : ℕ) → t < steps T �
       ∙ decided-optimal T h d
     where
       at : (k t i : ℕ) → suc t + k ≤ steps T
-          → nextKept T h d k (suc t) i || nextMarked T marks (joined T marks h d) k (suc t) i ≡ nextDecided T (kept T h d) k (suc t) i
+          → nextKept T h d k (suc t) i || nextMarked T marks (joinsBefore T marks h d) k (suc t) i ≡ nextDecided T (kept T h d) k (suc t) i
       at k t i le =
-          rw (next-unmarked (joined T marks h d) k (suc t) i le, or-false (nextKept T h d k (suc t) i), next-kept T h d k (suc t) i)
+          rw (next-unmarked (joinsBefore T marks h d) k (suc t) i le, or-false (nextKept T h d k (suc t) i), next-kept T h d k (suc t) i)

@@ -54,8 +54,8 @@ joins hw none = false
 joins hw (some e) = keeps e hw
 
 -- a modifying touch of segment i in the step at place t belongs to the stay of the one before it
-unfoldable pub joined : Trace → (ℕ → Bool) → ℕ → ℕ → ℕ → ℕ → Bool
-joined T marks h d t i = joins (h * swapOf T i) (sinceThrough T marks h d t i)
+unfoldable pub joinsBefore : Trace → (ℕ → Bool) → ℕ → ℕ → ℕ → ℕ → Bool
+joinsBefore T marks h d t i = joins (h * swapOf T i) (sinceThrough T marks h d t i)
 
 -- of the k steps from place t on, the first that modifies segment i is decided so by f
 unfoldable pub nextMarked : Trace → (ℕ → Bool) → (ℕ → ℕ → Bool) → ℕ → ℕ → ℕ → Bool
@@ -67,7 +67,7 @@ nextMarked T marks f (suc k) t i = cond (modifies T marks t i) (f t i) (nextMark
 unfoldable pub modHeld : Trace → (ℕ → Bool) → ℕ → ℕ → ℕ → ℕ → Bool
 modHeld T marks h d t i =
     touched T t i
-    || (nextKept T h d (steps T - suc t) (suc t) i || nextMarked T marks (joined T marks h d) (steps T - suc t) (suc t) i)
+    || (nextKept T h d (steps T - suc t) (suc t) i || nextMarked T marks (joinsBefore T marks h d) (steps T - suc t) (suc t) i)
 
 -- its bytes
 unfoldable pub modSchedule : Trace → (ℕ → Bool) → ℕ → ℕ → List ℕ

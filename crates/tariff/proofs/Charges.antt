@@ -6,7 +6,7 @@ use native.Mathlib.Omega.{arith}
 use lib.Dec.{leb}
 use borrow.Author.Tests.{leb-true, lt-ltb, le-ltb}
 use Rattle.model.proofs.Bounds.{product-within}
-use Rattle.tariff.specs.Tariff.{largestRate, largestMinimum, inRange, startedThousands, billOf}
+use Rattle.tariff.specs.Tariff.{largestRate, largestMinimum, tariffInRange, startedThousands, billOf}
 use Rattle.tariff.specs.declared.Tariff.{Tariff}
 
 -- the started thousands cover the units, and one less would not
@@ -23,8 +23,8 @@ pub record Ranges (t : Tariff) : Type 0 where
   pub load : t .«load_rate» ≤ largestRate
   pub minimum : t .minimum ≤ largestMinimum
 
-pub ranges : (t : Tariff) → inRange t ≡ true → Ranges t
-ranges t =
+pub ranges-hold : (t : Tariff) → tariffInRange t ≡ true → Ranges t
+ranges-hold t =
     go (leb (t .«memory_rate») largestRate) (leb (t .«load_rate») largestRate) (leb (t .minimum) largestMinimum) refl refl refl
   where
     go : (b c d : Bool) → leb (t .«memory_rate») largestRate ≡ b → leb (t .«load_rate») largestRate ≡ c

@@ -12,8 +12,8 @@ abbrev pub largestMinimum : ℕ
 largestMinimum = 99999
 
 -- both rates and the minimum lie in their ranges
-abbrev pub inRange : Tariff → Bool
-inRange t = leb (t .«memory_rate») largestRate && leb (t .«load_rate») largestRate && leb (t .minimum) largestMinimum
+abbrev pub tariffInRange : Tariff → Bool
+tariffInRange t = leb (t .«memory_rate») largestRate && leb (t .«load_rate») largestRate && leb (t .minimum) largestMinimum
 
 -- the started thousands of n units: a thousand that is begun counts whole; 0 units have none
 abbrev pub startedThousands : ℕ → ℕ

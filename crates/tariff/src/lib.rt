@@ -5,7 +5,7 @@ use model::MemoryUnits;
 ghost use mathlib.Core.Bool.{true};
 ghost use mathlib.Core.Path.{_≡_};
 ghost use Prim.Native.Nat.{_<_, _^_};
-ghost use Rattle.tariff.specs.Tariff.{inRange, startedThousands, billOf};
+ghost use Rattle.tariff.specs.Tariff.{tariffInRange, startedThousands, billOf};
 
 // An amount in cents.
 pub struct Cents(pub u64);
@@ -33,7 +33,7 @@ impl Tariff {
 
     // Whether both rates and the minimum lie in their ranges.
     pub fn in_range(self) -> bool
-        ensures { λ r. ⌜ r ≡ inRange self ⌝ }
+        ensures { λ r. ⌜ r ≡ tariffInRange self ⌝ }
     {
         if Tariff::MAX_RATE < self.memory_rate {
             return false;
@@ -48,7 +48,7 @@ impl Tariff {
     // No accepted sheet is billed more than 21,467,473,038 cents: 2,048 touches that all load segments of size 4,095, with a = 255 and
     // kind space, have optmem 8,386,560 and load 2,138,574,848, that is 8,387 and 2,138,575 started thousands, at 9,999 cents each.
     pub fn bill(self, memory: MemoryUnits, load: LoadUnits) -> Cents
-        requires { ⌜ (memory .0 < 2 ^ 40) × (load .0 < 2 ^ 40) × (inRange self ≡ true) ⌝ }
+        requires { ⌜ (memory .0 < 2 ^ 40) × (load .0 < 2 ^ 40) × (tariffInRange self ≡ true) ⌝ }
         ensures { λ r. ⌜ r .0 ≡ billOf self (memory .0) (load .0) ⌝ }
     {
         let for_memory = started_thousands(memory.0) * self.memory_rate;

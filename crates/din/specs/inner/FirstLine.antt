@@ -4,7 +4,7 @@ use mathlib.Core.Bool.{cond, _&&_}
 use mathlib.Core.List.{List, [], _∷_}
 use mathlib.Core.Option.{Option, none, some}
 use lib.ListN.{length, drop}
-use Rattle.din.specs.Lines.{Lines, end, line, linesOf, between, allDigits, valueFrom, mostDigits, addressOf}
+use Rattle.din.specs.Lines.{Lines, end, line, traceLines, between, allDigits, valueFrom, mostDigits, addressOf}
 use Rattle.din.specs.declared.lines.LineAt.{LineAt}
 use Rattle.din.specs.declared.lines.LineAt.the-variants.{Address, Malformed}
 
@@ -31,7 +31,7 @@ firstAfter v n (line s more) =
 
 -- a line that the code found in the bytes s
 abbrev pub firstAt : List ℕ → LineAt → First
-firstAt s (Address a next) = address a (linesOf (drop next s))
+firstAt s (Address a next) = address a (traceLines (drop next s))
 firstAt s Malformed = malformed
 
 -- the next place lies within s, and is not the first

@@ -1,18 +1,11 @@
--- A list of segments: the place of a segment in it, the walk up to it, and the list with a segment at its front. Assumes nothing.
+-- The recency list of the first engine: the walk up to a segment, and the list with a segment at its front.
 use Prim.Native.Nat.{ℕ, suc, _-_}
-use mathlib.Core.Bool.{cond}
-use mathlib.Core.List.{List, [], _∷_, _++_}
+use mathlib.Core.List.{List, _∷_, _++_}
 use mathlib.Core.Option.{Option, none, some}
-use lib.Dec.{eqb}
 use lib.ListN.{length, take, drop}
 use Rattle.lru.specs.Orders.{placeOf}
 use Rattle.lru.specs.Recency.{lookedIn}
 use Rattle.lru_curve.specs.declared.recency_list.Walk.{Walk}
-
--- how many entries stand before x; all of them where the list does not have it
-unfoldable pub indexIn : ℕ → List ℕ → ℕ
-indexIn x [] = 0
-indexIn x (y ∷ ys) = cond (eqb y x) 0 (suc (indexIn x ys))
 
 -- how many entries stand before a place; all of them where there is none
 abbrev pub beforeIn : List ℕ → Option ℕ → ℕ

@@ -5,7 +5,7 @@ use native.Mathlib.Omega.{arith}
 use lib.ListN.{length, replicate}
 use Rattle.text.specs.inner.Puts.{Put}
 use Rattle.text.proofs.Putting.{put-nothing, put-then, put-same}
-use Rattle.page.specs.Page.{blankLine, joined}
+use Rattle.page.specs.Page.{blankLine, concatenated}
 use Rattle.page.proofs.Parts.{blank-lines-next}
 use borrow.Author.Needs.{needs}
 use Rattle.page.proofs.put_blank_lines.Statement.{statement}
@@ -13,13 +13,13 @@ use Rattle.page.proofs.put_blank_lines.Tie as tie
 
 abbrev Inv-loop : tie.InvT-loop
 Inv-loop n out₀ at next₀ i₀ out next i =
-    (i ≤ n) × (length out ≡ length out₀) × Put (joined (replicate i blankLine)) at out₀ next out × (next ≡ at + 73 * i)
+    (i ≤ n) × (length out ≡ length out₀) × Put (concatenated (replicate i blankLine)) at out₀ next out × (next ≡ at + 73 * i)
 
 abbrev μ-loop : tie.MeasureT-loop
 μ-loop n out₀ at next₀ i₀ out next i = n - i
 
 loop-holds : tie.Need-loop-holds Inv-loop μ-loop
-unfolding joined
+unfolding concatenated
 loop-holds c = (omega arith, refl, put-nothing _ _ (omega arith), omega arith)
 
 loop-again : tie.Need-loop-again Inv-loop μ-loop

@@ -7,7 +7,7 @@ use lib.ListN.{length, take, drop}
 use Rattle.model.specs.Rows.{zeroFigures}
 use Rattle.text.specs.inner.Puts.{Put}
 use Rattle.text.proofs.Putting.{put-nothing, put-then, put-same}
-use Rattle.page.specs.Page.{rowLine, joined}
+use Rattle.page.specs.Page.{rowLine, concatenated}
 use Rattle.page.proofs.Parts.{rows-none, rows-next}
 use borrow.Author.Needs.{needs}
 use Rattle.page.proofs.put_rows.Statement.{statement}
@@ -16,7 +16,7 @@ use Rattle.page.proofs.put_rows.Tie as tie
 abbrev Inv-loop : tie.InvT-loop
 Inv-loop first end out₀ at figures next₀ i₀ out next i =
     (first ≤ i) × (i ≤ end) × (length out ≡ length out₀)
-    × Put (joined (map rowLine (take (i - first) (drop first figures)))) at out₀ next out
+    × Put (concatenated (map rowLine (take (i - first) (drop first figures)))) at out₀ next out
     × (next ≡ at + 73 * (i - first))
 
 abbrev μ-loop : tie.MeasureT-loop

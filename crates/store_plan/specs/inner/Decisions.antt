@@ -10,7 +10,7 @@ use Rattle.model.specs.Figures.{kept}
 use Rattle.model.specs.Sheets.{mostSegs, mostSteps}
 use Rattle.model.specs.Traces.{Trace, segs, steps, entry}
 use Rattle.model.specs.declared.PriceRow.{PriceRow}
-use Rattle.stores.specs.Modtotal.{joined, nextMarked}
+use Rattle.stores.specs.Modtotal.{joinsBefore, nextMarked}
 use Rattle.stores.specs.inner.Decisions.{modKept}
 use Rattle.store_plan.specs.declared.Found.{Found}
 
@@ -25,7 +25,7 @@ noFlags = replicate mostSegs false
 -- one before
 pub record FoundBy (T : Trace) (marks : ℕ → Bool) (row : PriceRow) (keeps joins : List Bool) (n : ℕ) : Type 0 where
   pub kept-are : (t : ℕ) → t < n → entry T t < segs T → getD keeps t false ≡ kept T (row .h) (row .d) t (entry T t)
-  pub joined-are : (t : ℕ) → t < n → entry T t < segs T → getD joins t false ≡ joined T marks (row .h) (row .d) t (entry T t)
+  pub joined-are : (t : ℕ) → t < n → entry T t < segs T → getD joins t false ≡ joinsBefore T marks (row .h) (row .d) t (entry T t)
 
 abbrev pub FoundIn : Trace → (ℕ → Bool) → PriceRow → Found → Type 0
 FoundIn T marks row found = FoundBy T marks row (found .kept) (found .joined) (steps T)

@@ -6,7 +6,7 @@ use native.Mathlib.Omega.{arith}
 use borrow.Author.Needs.{needs}
 use lib.ListN.{length}
 use Rattle.model.specs.Sheets.{mostSegs, mostSteps}
-use Rattle.recorder.proofs.Bulk.{none-appended, takable, takable-few, all-run}
+use Rattle.recorder.proofs.Bulk.{none-appended, takable-is, takable-few, all-run}
 use Rattle.recorder.proofs.Standing.{stands-roomy}
 use Rattle.recorder.proofs.Stepping.{taken-stands}
 use Rattle.recorder.proofs.Telling.{failed, passed}
@@ -32,7 +32,7 @@ returns-2 c =
 -- all references are within the number that a sheet has
 few : (c : tie.After-roomy) → start c .args .recorder .steps + length (start c .args .refs .now) ≤ mostSteps
 few c = let s = start c in
-    let can = takable (min (s .args .recorder .head .segs) mostSegs) _ _ (s .pre) in
+    let can = takable-is (min (s .args .recorder .head .segs) mostSegs) _ _ (s .pre) in
     takable-few _ _ _ can (omega (arith, can .room 0 (omega (arith, c .before .before .before .before .if1 .left))))
 
 pass-on-requires : tie.Need-pass-on-requires

@@ -1,7 +1,7 @@
 -- `Tariff::bill` meets its contract: each part is charged by its started thousands, then the minimum is tested. Assumes nothing.
 use borrow.Author.Needs.{needs}
 use native.Mathlib.Omega.{arith}
-use Rattle.tariff.proofs.Charges.{ranges, charge-within, bill-raised, bill-charged}
+use Rattle.tariff.proofs.Charges.{ranges-hold, charge-within, bill-raised, bill-charged}
 use Rattle.tariff.proofs.Tariff.bill.Statement.{statement}
 use Rattle.tariff.proofs.Tariff.bill.Tie as tie
 
@@ -9,14 +9,14 @@ mul-for-memory : tie.Need-mul-for-memory
 mul-for-memory c =
     let s = c .before .before in
     let m = c .before .started-thousands in
-    let fit = ranges (s .args .self) (s .pre .2) in
+    let fit = ranges-hold (s .args .self) (s .pre .2) in
     omega (arith, charge-within (s .args .memory .0) (m .result) (s .args .self .«memory_rate») (s .pre .0) (m .ensures) (fit .memory))
 
 mul-for-load : tie.Need-mul-for-load
 mul-for-load c =
     let s = c .before .before .before .before in
     let l = c .before .started-thousands2 in
-    let fit = ranges (s .args .self) (s .pre .2) in
+    let fit = ranges-hold (s .args .self) (s .pre .2) in
     omega (arith, charge-within (s .args .load .0) (l .result) (s .args .self .«load_rate») (s .pre .1) (l .ensures) (fit .load))
 
 add-charge : tie.Need-add-charge
@@ -24,7 +24,7 @@ add-charge c =
     let s = c .before .before .before .before in
     let m = c .before .before .before .started-thousands in
     let l = c .before .started-thousands2 in
-    let fit = ranges (s .args .self) (s .pre .2) in
+    let fit = ranges-hold (s .args .self) (s .pre .2) in
     omega (
       arith,
       charge-within (s .args .memory .0) (m .result) (s .args .self .«memory_rate») (s .pre .0) (m .ensures) (fit .memory),
