@@ -49,7 +49,7 @@ module _ (s : List ℕ) (v : SheetValue) (reads : readForms 1 3 s ≡ accepted v
   valid = accepted-valid 1 3 (omega arith) s v reads
 
   -- without marks there are no stores
-  load-is : (p : List ℕ) → sheetLoad v p ≡ scheduleLoad (traceOf v) p
+  pub load-is : (p : List ℕ) → sheetLoad v p ≡ scheduleLoad (traceOf v) p
   load-is p =
       unmarked-load (traceOf v) (marksOf (v .marks)) (λ t lt. rw (valid .unmarked (accepted-form 1 3 (omega arith) s v reads .1)) refl) p
 

@@ -14,8 +14,18 @@ textIn : Result → List ℕ → List ℕ
 textIn (gives text) other = text
 textIn (refuses r) other = other
 
+-- two texts that are given by one result are the same
+pub given-same : (x y : List ℕ) → gives x ≡ gives y → x ≡ y
+unfolding textIn
+given-same x y e = ap (λ r. textIn r x) e
+
+-- what f gives for the sheet
+pub given-by : (f : SheetValue → List ℕ) (o : Outcome) (text : List ℕ) → onSheet o refuses (λ u. gives (f u)) ≡ gives text
+    → (u : SheetValue) × (o ≡ accepted u) × (text ≡ f u)
+unfolding textIn
+given-by f (accepted u) text e = (u, refl, sym (ap (λ r. textIn r text) e))
+given-by f (rejected r) text e = absurd (let z : _≡_ {A = ℕ} 0 1 = cc in omega arith)
+
 pub given-accepted : (o : Outcome) (text : List ℕ) → onSheet o refuses (λ u. gives (sheetText u)) ≡ gives text
     → (u : SheetValue) × (o ≡ accepted u) × (text ≡ sheetText u)
-unfolding textIn
-given-accepted (accepted u) text e = (u, refl, sym (ap (λ r. textIn r text) e))
-given-accepted (rejected r) text e = absurd (let z : _≡_ {A = ℕ} 0 1 = cc in omega arith)
+given-accepted = given-by sheetText

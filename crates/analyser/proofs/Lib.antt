@@ -1,9 +1,11 @@
+pub mod Converted
 pub mod Demand
 pub mod DemandThree
 pub mod Given
 pub mod GivenLists
 pub mod Handed
 pub mod Imported
+pub mod ImportedWhere
 pub mod Joined
 pub mod LookedAt
 pub mod LruFromBytes

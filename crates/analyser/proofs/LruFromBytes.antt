@@ -53,6 +53,7 @@ module _ (s : List ℕ) (v : SheetValue) (reads : readSheet s ≡ accepted v) (l
         counted = ap length (asked .1) ∙ length-tabulate (segs (traceOf v)) (λ j. lruMisses (traceOf v) (suc j));
         by-distances = at-frames;
         by-simulation = λ k one within. at-frames k one within ∙ demand v (asked .0) .agree k;
+        demand = demand v (asked .0);
         falls = λ k m one le within. omega
             (arith, at-frames k one (omega arith), at-frames m (omega arith) within, demand v (asked .0) .falls k m le);
         least = λ k one enough within. at-frames k one within ∙ demand v (asked .0) .least k enough;

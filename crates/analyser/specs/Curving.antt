@@ -11,6 +11,7 @@ use Rattle.model.specs.declared.Refusal.{Refusal}
 use Rattle.model.specs.declared.Verdict.the-variants.{Accepted, Refused}
 use Rattle.sheet.specs.Accepting.{onSheet}
 use Rattle.sheet.specs.Reading.{accepted, readSheet}
+use Rattle.lru.specs.Demand.{LruDemand}
 use Rattle.lru.specs.Recency.{lruMisses, entriesLooked, distinct}
 use Rattle.lru.specs.Memory.{lruSimulated}
 use Rattle.lru_curve.specs.Frames.{onesVerdict}
@@ -47,6 +48,9 @@ pub record Misses (v : SheetValue) (list : List ℕ) : Type 0 where
   pub counted : length list ≡ segs (traceOf v)
   pub by-distances : (k : ℕ) → 1 ≤ k → k ≤ segs (traceOf v) → getD list (k - 1) 0 ≡ lruMisses (traceOf v) k
   pub by-simulation : (k : ℕ) → 1 ≤ k → k ≤ segs (traceOf v) → getD list (k - 1) 0 ≡ lruSimulated (traceOf v) k
+  -- what least recently used means, by time: a memory of k frames has the k segments touched most recently, and where it is full the one
+  -- that was touched longest ago goes
+  pub demand : LruDemand (traceOf v)
   -- more frames never miss more often
   pub falls : (k m : ℕ) → 1 ≤ k → k ≤ m → m ≤ segs (traceOf v) → getD list (m - 1) 0 ≤ getD list (k - 1) 0
   -- from as many frames as segments are touched on, each of these misses once

@@ -1,19 +1,21 @@
--- Traces in the din text form as sheets, on bytes (request F-8): what the call has for a lent place, and what holds of the text that it
--- gives. Assumes nothing.
+-- Traces in the din text form as sheets, on bytes (request F-8): what the call has for a lent place, which traces it takes, and what holds
+-- of the text that it gives. Assumes nothing.
 use Prim.Native.Nat.{ℕ, _≤_, _<_}
 use mathlib.Core.Path.{_≡_}
-use mathlib.Core.List.{List}
+use mathlib.Core.Bool.{Bool, true, false}
+use mathlib.Core.List.{List, [], _∷_}
+use mathlib.Core.Option.{none, some}
 use mathlib.Core.Logic.{_↔_}
 use lib.ListN.{length, getD}
 use Rattle.model.specs.Places.{Result, gives, refuses}
-use Rattle.model.specs.Sheets.{SheetValue, Valid, formBytes}
+use Rattle.model.specs.Sheets.{SheetValue, Valid, formBytes, mostSegs, mostSteps}
 use Rattle.model.specs.declared.PriceRow.{PriceRow}
 use Rattle.sheet.specs.Accepting.{onSheet}
 use Rattle.sheet.specs.Reading.{accepted, readSheet}
 use Rattle.sheet.specs.Writing.{sheetText}
 use Rattle.din.specs.Import.{sheetOfPages, imported}
-use Rattle.din.specs.Lines.{traceLines}
-use Rattle.din.specs.Pages.{placeIn, firsts}
+use Rattle.din.specs.Lines.{Lines, end, line, traceLines, addressOf}
+use Rattle.din.specs.Pages.{placeIn, firsts, leastPower, largestPower}
 use Rattle.din.specs.Traced.{lineCount, pagesIn, pageAt, pagesBefore}
 
 -- the sheet of a trace with the rows: 23, 24 and 25 line by line, then 11 by the place
@@ -23,6 +25,25 @@ importedResult trace k rows = onSheet (imported k trace rows) refuses (λ u. giv
 -- the same with the rows of the sheet that the bytes stand for: its refusals come before
 unfoldable pub importResult : List ℕ → ℕ → List ℕ → Result
 importResult trace k s = onSheet (readSheet s) refuses (λ v. importedResult trace k (v .head .rows))
+
+-- every line is well formed, so that it has an address, and a line feed ends the last
+unfoldable pub wellFormed : Lines → Bool
+wellFormed (end []) = true
+wellFormed (end (b ∷ s)) = false
+wellFormed (line s more) = elim (addressOf s) [ none ↦ false | some address ↦ wellFormed more ]
+
+-- what the call takes: k from 8 to 24, every line well formed, at most 2,048 lines, and at most 256 different pages
+pub record Importable (k : ℕ) (trace : List ℕ) : Type 0 where
+  pub k-from : leastPower ≤ k
+  pub k-to : k ≤ largestPower
+  pub formed : wellFormed (traceLines trace) ≡ true
+  pub lines-within : lineCount (traceLines trace) ≤ mostSteps
+  pub pages-within : length (firsts (pagesIn k trace)) ≤ mostSegs
+
+-- with the rows of bytes that read as a sheet, a text is given for these traces and for no others
+abbrev pub GivenExactly : Type 0
+GivenExactly = (trace : List ℕ) (k : ℕ) (s : List ℕ) (v : SheetValue) → readSheet s ≡ accepted v
+    → ((text : List ℕ) × (importResult trace k s ≡ gives text)) ↔ Importable k trace
 
 -- the imported sheet with the rows of the sheet v
 abbrev pub importedValue : List ℕ → ℕ → SheetValue → SheetValue
