@@ -28,10 +28,10 @@ bucketOver counts x n k =
     record {
       count = gathered counts x n k (λ y. 1);
       volume = gathered counts x n k (λ y. y .size);
-      retention = gathered counts x n k (λ y. y .costs .retention .0);
-      swap = gathered counts x n k (λ y. y .costs .swap .0);
-      retentionz = gathered counts x n k (λ y. y .costs .retention .0 * y .size);
-      swapz = gathered counts x n k (λ y. y .costs .swap .0 * y .size);
+      retention = record { 0 = gathered counts x n k (λ y. y .costs .retention .0) };
+      swap = record { 0 = gathered counts x n k (λ y. y .costs .swap .0) };
+      retentionz = record { 0 = gathered counts x n k (λ y. y .costs .retention .0 * y .size) };
+      swapz = record { 0 = gathered counts x n k (λ y. y .costs .swap .0 * y .size) };
     }
 
 module _ (counts : ℕ → Bool) (x : ℕ → Touch) where

@@ -1,7 +1,7 @@
 -- One touch: its limits, what the mark of its segment tells, and the buckets of the definitions as those of touches.
 -- Assumes nothing.
 use Prim.Native.Nat.{ℕ, _-_, _≤_, _<_}
-use mathlib.Core.Path.{_≡_, refl, ap}
+use mathlib.Core.Path.{_≡_, refl}
 use mathlib.Core.Bool.{Bool, true, false}
 use mathlib.Core.List.{List}
 use mathlib.Core.Option.{Option}
@@ -16,6 +16,7 @@ use Rattle.model.specs.declared.LoadUnits.{LoadUnits}
 use Rattle.model.specs.declared.MemoryUnits.{MemoryUnits}
 use Rattle.model.specs.declared.PriceRow.{PriceRow}
 use Rattle.model.specs.Sheets.{mostRows}
+use Rattle.model.proofs.Units.{memory-is, load-is}
 use Rattle.buckets.specs.Buckets.{bucketOf, filed, bucketAfter, ended, endBucket}
 use Rattle.buckets.specs.FirstRow.{lastBucket}
 use Rattle.buckets.specs.inner.Pass.{costsOf, touchOf, unplaced, Limited}
@@ -29,19 +30,14 @@ module _ (kind : Kind) (a z n mark : ℕ) (w : LoadUnits) (swap : w .0 ≡ swapC
       → record { reuse = true; size = z; costs = record { retention = R; swap = w }; bucket = lastBucket }
       ≡ unplaced kind a z (timeSince n mark)
   unfolding unplaced
-  reuse-is le R retained =
-      let m : R ≡ record { 0 = retention kind z (n - mark) } = ap {B = MemoryUnits} (λ k. record { 0 = k }) retained in
-      let l : w ≡ record { 0 = swapCost a z } = ap {B = LoadUnits} (λ k. record { 0 = k }) swap in
-      rw (le-leb mark n le, m, l) refl
+  reuse-is le R retained = rw (le-leb mark n le, memory-is retained, load-is swap) refl
 
   -- with a later one it was not
   pub first-is : n < mark
       → record { reuse = false; size = z; costs = record { retention = record { 0 = 0 }; swap = w }; bucket = lastBucket }
       ≡ unplaced kind a z (timeSince n mark)
   unfolding unplaced
-  first-is lt =
-      let l : w ≡ record { 0 = swapCost a z } = ap {B = LoadUnits} (λ k. record { 0 = k }) swap in
-      rw (lt-leb mark n lt, l) refl
+  first-is lt = rw (lt-leb mark n lt, load-is swap) refl
 
 -- a touch with its bucket
 abbrev pub placed : Touch → ℕ → Touch

@@ -32,10 +32,10 @@ bucketAfter rows T n k =
     record {
       count = filed rows T n k (λ t i. 1);
       volume = filed rows T n k (λ t i. sizeOf T i);
-      retention = filed rows T n k (λ t i. retentionOf T t i);
-      swap = filed rows T n k (λ t i. swapOf T i);
-      retentionz = filed rows T n k (λ t i. retentionOf T t i * sizeOf T i);
-      swapz = filed rows T n k (λ t i. swapOf T i * sizeOf T i);
+      retention = record { 0 = filed rows T n k (λ t i. retentionOf T t i) };
+      swap = record { 0 = filed rows T n k (λ t i. swapOf T i) };
+      retentionz = record { 0 = filed rows T n k (λ t i. retentionOf T t i * sizeOf T i) };
+      swapz = record { 0 = filed rows T n k (λ t i. swapOf T i * sizeOf T i) };
     }
 
 -- the sum of g i over the first m segments whose end interval goes to bucket k; one that never counts as touched has none
@@ -49,10 +49,10 @@ endBucket rows T m k =
     record {
       count = ended rows T m k (λ i. 1);
       volume = ended rows T m k (λ i. sizeOf T i);
-      retention = ended rows T m k (λ i. retentionOf T (steps T) i);
-      swap = ended rows T m k (λ i. swapOf T i);
-      retentionz = ended rows T m k (λ i. retentionOf T (steps T) i * sizeOf T i);
-      swapz = ended rows T m k (λ i. swapOf T i * sizeOf T i);
+      retention = record { 0 = ended rows T m k (λ i. retentionOf T (steps T) i) };
+      swap = record { 0 = ended rows T m k (λ i. swapOf T i) };
+      retentionz = record { 0 = ended rows T m k (λ i. retentionOf T (steps T) i * sizeOf T i) };
+      swapz = record { 0 = ended rows T m k (λ i. swapOf T i * sizeOf T i) };
     }
 
 -- what the single pass hands over: the buckets of the touches and of the end intervals
@@ -65,7 +65,15 @@ tallyOf rows T =
 
 -- a bucket that holds nothing
 abbrev pub noBucket : Bucket
-noBucket = record { count = 0; volume = 0; retention = 0; swap = 0; retentionz = 0; swapz = 0 }
+noBucket =
+    record {
+      count = 0;
+      volume = 0;
+      retention = record { 0 = 0 };
+      swap = record { 0 = 0 };
+      retentionz = record { 0 = 0 };
+      swapz = record { 0 = 0 };
+    }
 
 -- buckets that hold nothing
 unfoldable pub allEmpty : List Bucket

@@ -3,6 +3,8 @@
 pub mod pass;
 pub mod search;
 
+use model::LoadUnits;
+use model::MemoryUnits;
 use model::Sheet;
 
 // A bucket: how many touches it holds, their sizes, retentions and swap costs added, the last two also with each item multiplied by
@@ -10,10 +12,10 @@ use model::Sheet;
 pub struct Bucket {
     pub count: u64,
     pub volume: u64,
-    pub retention: u64,
-    pub swap: u64,
-    pub retentionz: u64,
-    pub swapz: u64,
+    pub retention: MemoryUnits,
+    pub swap: LoadUnits,
+    pub retentionz: MemoryUnits,
+    pub swapz: LoadUnits,
 }
 
 impl Bucket {

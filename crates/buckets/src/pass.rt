@@ -4,6 +4,7 @@ use crate::Bucket;
 use crate::Tally;
 use crate::search::Reuse;
 use model::Kind;
+use model::LoadUnits;
 use model::MemoryUnits;
 use model::PriceRow;
 use model::Sheet;
@@ -36,10 +37,10 @@ pub fn empty_buckets() -> [Bucket; Tally::BUCKETS]
     [Bucket {
         count: 0,
         volume: 0,
-        retention: 0,
-        swap: 0,
-        retentionz: 0,
-        swapz: 0,
+        retention: MemoryUnits(0),
+        swap: LoadUnits(0),
+        retentionz: MemoryUnits(0),
+        swapz: LoadUnits(0),
     }; Tally::BUCKETS]
 }
 
@@ -79,16 +80,15 @@ pub fn add_touch(b: Bucket, x: Touch) -> Bucket
     requires { ⌜ Limited x ⌝ }
     ensures { λ r. ⌜ r ≡ withTouch b x ⌝ }
 {
-    let z = x.size as u64;
-    let r = x.costs.retention.0;
-    let w = x.costs.swap.0;
+    let r = x.costs.retention;
+    let w = x.costs.swap;
     Bucket {
         count: b.count + 1,
-        volume: b.volume + z,
-        retention: b.retention + r,
-        swap: b.swap + w,
-        retentionz: b.retentionz + r * z,
-        swapz: b.swapz + w * z,
+        volume: b.volume + x.size as u64,
+        retention: b.retention.plus(r),
+        swap: b.swap.plus(w),
+        retentionz: b.retentionz.plus(r.times(x.size)),
+        swapz: b.swapz.plus(w.times(x.size)),
     }
 }
 

@@ -58,16 +58,16 @@ abbrev two : List ℕ → ℕ → Bucket → List ℕ
 two l at b = set (one l at b) (at + 1) (b .volume)
 
 abbrev three : List ℕ → ℕ → Bucket → List ℕ
-three l at b = set (two l at b) (at + 2) (b .retention)
+three l at b = set (two l at b) (at + 2) (b .retention .0)
 
 abbrev four : List ℕ → ℕ → Bucket → List ℕ
-four l at b = set (three l at b) (at + 3) (b .swap)
+four l at b = set (three l at b) (at + 3) (b .swap .0)
 
 abbrev five : List ℕ → ℕ → Bucket → List ℕ
-five l at b = set (four l at b) (at + 4) (b .retentionz)
+five l at b = set (four l at b) (at + 4) (b .retentionz .0)
 
 abbrev pub six : List ℕ → ℕ → Bucket → List ℕ
-six l at b = set (five l at b) (at + 5) (b .swapz)
+six l at b = set (five l at b) (at + 5) (b .swapz .0)
 
 module _ (l : List ℕ) (at : ℕ) (b : Bucket) where
   -- the length stays
@@ -83,23 +83,23 @@ module _ (l : List ℕ) (at : ℕ) (b : Bucket) where
   -- what stands before them stays
   six-before : (j : ℕ) → j < at → getD (six l at b) j 0 ≡ getD l j 0
   six-before j lt =
-      before (five l at b) (at + 5) j (b .swapz) (omega arith)
-      ∙ before (four l at b) (at + 4) j (b .retentionz) (omega arith)
-      ∙ before (three l at b) (at + 3) j (b .swap) (omega arith)
-      ∙ before (two l at b) (at + 2) j (b .retention) (omega arith)
+      before (five l at b) (at + 5) j (b .swapz .0) (omega arith)
+      ∙ before (four l at b) (at + 4) j (b .retentionz .0) (omega arith)
+      ∙ before (three l at b) (at + 3) j (b .swap .0) (omega arith)
+      ∙ before (two l at b) (at + 2) j (b .retention .0) (omega arith)
       ∙ before (one l at b) (at + 1) j (b .volume) (omega arith)
       ∙ before l at j (b .count) lt
 
   -- of the sums after the third, the fourth and so on only later ones are stored
   after-four : (j : ℕ) → j < at + 4 → getD (six l at b) j 0 ≡ getD (four l at b) j 0
   after-four j lt =
-      before (five l at b) (at + 5) j (b .swapz) (omega arith) ∙ before (four l at b) (at + 4) j (b .retentionz) (omega arith)
+      before (five l at b) (at + 5) j (b .swapz .0) (omega arith) ∙ before (four l at b) (at + 4) j (b .retentionz .0) (omega arith)
 
   after-two : (j : ℕ) → j < at + 2 → getD (six l at b) j 0 ≡ getD (two l at b) j 0
   after-two j lt =
       after-four j (omega arith)
-      ∙ before (three l at b) (at + 3) j (b .swap) (omega arith)
-      ∙ before (two l at b) (at + 2) j (b .retention) (omega arith)
+      ∙ before (three l at b) (at + 3) j (b .swap .0) (omega arith)
+      ∙ before (two l at b) (at + 2) j (b .retention .0) (omega arith)
 
   -- and they are the bucket's
   module _ (fits : at + 5 < length l) where
@@ -114,27 +114,27 @@ module _ (l : List ℕ) (at : ℕ) (b : Bucket) where
         after-two (at + 1) (omega arith)
         ∙ getD-set-same (one l at b) (at + 1) (b .volume) 0 (omega (arith, length-set l at (b .count)))
 
-    third : getD (six l at b) (at + 2) 0 ≡ b .retention
+    third : getD (six l at b) (at + 2) 0 ≡ b .retention .0
     third =
         after-four (at + 2) (omega arith)
-        ∙ before (three l at b) (at + 3) (at + 2) (b .swap) (omega arith)
-        ∙ getD-set-same (two l at b) (at + 2) (b .retention) 0 (omega (arith, length-two))
+        ∙ before (three l at b) (at + 3) (at + 2) (b .swap .0) (omega arith)
+        ∙ getD-set-same (two l at b) (at + 2) (b .retention .0) 0 (omega (arith, length-two))
 
-    fourth : getD (six l at b) (at + 3) 0 ≡ b .swap
+    fourth : getD (six l at b) (at + 3) 0 ≡ b .swap .0
     fourth =
         after-four (at + 3) (omega arith)
-        ∙ getD-set-same (three l at b) (at + 3) (b .swap) 0
-        (omega (arith, length-two, length-set (two l at b) (at + 2) (b .retention)))
+        ∙ getD-set-same (three l at b) (at + 3) (b .swap .0) 0
+        (omega (arith, length-two, length-set (two l at b) (at + 2) (b .retention .0)))
 
-    fifth : getD (six l at b) (at + 4) 0 ≡ b .retentionz
+    fifth : getD (six l at b) (at + 4) 0 ≡ b .retentionz .0
     fifth =
-        before (five l at b) (at + 5) (at + 4) (b .swapz) (omega arith)
-        ∙ getD-set-same (four l at b) (at + 4) (b .retentionz) 0 (omega (arith, length-four))
+        before (five l at b) (at + 5) (at + 4) (b .swapz .0) (omega arith)
+        ∙ getD-set-same (four l at b) (at + 4) (b .retentionz .0) 0 (omega (arith, length-four))
 
-    sixth : getD (six l at b) (at + 5) 0 ≡ b .swapz
+    sixth : getD (six l at b) (at + 5) 0 ≡ b .swapz .0
     sixth =
-        getD-set-same (five l at b) (at + 5) (b .swapz) 0
-        (omega (arith, length-four, length-set (four l at b) (at + 4) (b .retentionz)))
+        getD-set-same (five l at b) (at + 5) (b .swapz .0) 0
+        (omega (arith, length-four, length-set (four l at b) (at + 4) (b .retentionz .0)))
 
 bucket-here : (l : List ℕ) (k : ℕ) (b : Bucket) → 6 * k + 5 < length l → bucketIn (six l (6 * k) b) k ≡ b
 bucket-here l k b fits =

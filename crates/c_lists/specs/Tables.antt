@@ -17,13 +17,13 @@ bucketIn sums k =
     record {
       count = getD sums (6 * k) 0;
       volume = getD sums (6 * k + 1) 0;
-      retention = getD sums (6 * k + 2) 0;
-      swap = getD sums (6 * k + 3) 0;
-      retentionz = getD sums (6 * k + 4) 0;
-      swapz = getD sums (6 * k + 5) 0;
+      retention = record { 0 = getD sums (6 * k + 2) 0 };
+      swap = record { 0 = getD sums (6 * k + 3) 0 };
+      retentionz = record { 0 = getD sums (6 * k + 4) 0 };
+      swapz = record { 0 = getD sums (6 * k + 5) 0 };
     }
 
 -- the sums of buckets, six numbers each
 unfoldable pub sumsOf : List Bucket → List ℕ
 sumsOf [] = []
-sumsOf (b ∷ bs) = b .count ∷ b .volume ∷ b .retention ∷ b .swap ∷ b .retentionz ∷ b .swapz ∷ sumsOf bs
+sumsOf (b ∷ bs) = b .count ∷ b .volume ∷ b .retention .0 ∷ b .swap .0 ∷ b .retentionz .0 ∷ b .swapz .0 ∷ sumsOf bs

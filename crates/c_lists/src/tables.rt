@@ -2,6 +2,8 @@
 // The lists are written in specs/Tables.antt; nothing is assumed.
 use buckets::Bucket;
 use buckets::Tally;
+use model::LoadUnits;
+use model::MemoryUnits;
 use model::PriceRow;
 use model::Sheet;
 ghost use mathlib.Core.Path.{_≡_};
@@ -59,10 +61,10 @@ pub(crate) fn buckets_of(sums: &[u64; Bucket::SUMS * Tally::BUCKETS]) -> [Bucket
         buckets[k] = Bucket {
             count: sums[at],
             volume: sums[at + 1],
-            retention: sums[at + 2],
-            swap: sums[at + 3],
-            retentionz: sums[at + 4],
-            swapz: sums[at + 5],
+            retention: MemoryUnits(sums[at + 2]),
+            swap: LoadUnits(sums[at + 3]),
+            retentionz: MemoryUnits(sums[at + 4]),
+            swapz: LoadUnits(sums[at + 5]),
         };
         k += 1;
     }
@@ -80,10 +82,10 @@ pub(crate) fn store_buckets(buckets: [Bucket; Tally::BUCKETS], sums: &mut [u64])
         let at = Bucket::SUMS * k;
         sums[at] = b.count;
         sums[at + 1] = b.volume;
-        sums[at + 2] = b.retention;
-        sums[at + 3] = b.swap;
-        sums[at + 4] = b.retentionz;
-        sums[at + 5] = b.swapz;
+        sums[at + 2] = b.retention.0;
+        sums[at + 3] = b.swap.0;
+        sums[at + 4] = b.retentionz.0;
+        sums[at + 5] = b.swapz.0;
         k += 1;
     }
 }

@@ -27,6 +27,7 @@ use Rattle.figures.specs.inner.OneRow.{byKind, largestSwap, retentionBou
 use Rattle.buckets.specs.declared.Bucket.{Bucket}
 use Rattle.model.proofs.Tables.{getD-tabulate}
 use Rattle.figures.proofs.Filed.{filed-below, ended-below}
+use Rattle.figures.proofs.Starts.{startSet}
 use Rattle.figures.proofs.Sweeps.{bucketBy, space-of, summed-buckets, summed-ends}
 
 -- one of two numbers, or one that may be left out
@@ -148,8 +149,7 @@ module _ (T : Trace) (run : RunWithin T) where
       )
 
   -- the touches with the swap costs of the start set are at most 2,304 items
-  pub start-holds : (b : Bucket) → Holds mostSteps b
-      → Holds mostItems (withStart (started T (λ i. swapOf T i)) (started T (λ i. swapOf T i * sizeOf T i)) b)
+  pub start-holds : (b : Bucket) → Holds mostSteps b → Holds mostItems (withStart (startSet T) b)
   start-holds b h =
       omega (
         arith,

@@ -1,6 +1,6 @@
 -- The sweep over the rows: each row's figures from the sums up to it, within 64 bits, and the figures written so far.
 -- Assumes nothing.
-use Prim.Native.Nat.{ℕ, suc, _*_, _≤_, _<_}
+use Prim.Native.Nat.{ℕ, suc, _≤_, _<_}
 use mathlib.Core.Path.{_≡_, refl, ap, _∙_}
 use mathlib.Core.Bool.{Bool, true, false, cond}
 use mathlib.Core.List.{List}
@@ -8,9 +8,8 @@ use native.Mathlib.Omega.{arith}
 use lib.Dec.{ltb}
 use lib.ListN.{length, set}
 use borrow.Author.Tests.{lt-ltb, le-ltb, ltb-true, ltb-false}
-use Rattle.model.specs.Traces.{Trace, steps, sizeOf, swapOf, overTouches}
+use Rattle.model.specs.Traces.{Trace, steps, sizeOf, overTouches}
 use Rattle.model.specs.Figures.{refCost, refVolume}
-use Rattle.model.proofs.FirstTouches.{started}
 use Rattle.model.specs.Sheets.{rowIn, mostSegs, mostRows, mostSteps}
 use Rattle.model.specs.Costs.{unitCost}
 use Rattle.model.specs.declared.Kind.{Kind}
@@ -27,6 +26,7 @@ use Rattle.buckets.specs.declared.Bucket.{Bucket}
 use Rattle.buckets.specs.declared.Tally.{Tally}
 use Rattle.figures.specs.declared.rows.StartSwaps.{StartSwaps}
 use Rattle.figures.proofs.Limits.{buckets-hold, ends-hold, start-holds, cost-within, volume-within, wsocc-within}
+use Rattle.figures.proofs.Starts.{startSet}
 use Rattle.figures.proofs.Sweeps.{bucketBy, all-sums, kept-sums, ends-sums}
 use Rattle.figures.proofs.SweptRows.{allSums, keptSums, endSums, sweep-parts, wsocc-swept, row-swept}
 use Rattle.model.proofs.Tables.{tabulate-eq, tabulate-set}
@@ -85,16 +85,14 @@ module _ (rows : List PriceRow) (T : Trace) (tally : Tally) (given : Tallied row
 
   -- all buckets added, with the swap costs of the start set
   abbrev pub allFrom : Bucket
-  allFrom =
-      withStart (started T (λ i. swapOf T i)) (started T (λ i. swapOf T i * sizeOf T i)) (summed (tally .buckets) bucketCount)
+  allFrom = withStart (startSet T) (summed (tally .buckets) bucketCount)
 
   pub all-fits : Holds mostItems allFrom
   all-fits = start-holds T (given .run-ok) (summed (tally .buckets) bucketCount) (tallied-buckets bucketCount (omega arith))
 
   -- the same as the code makes it
-  pub tallied-all : {b : Bucket} {start : StartSwaps} → b ≡ summed (tally .buckets) bucketCount
-      → start ≡ record { swap = started T (λ i. swapOf T i); swapz = started T (λ i. swapOf T i * sizeOf T i) }
-      → withStart (start .swap) (start .swapz) b ≡ allFrom
+  pub tallied-all : {b : Bucket} {start : StartSwaps} → b ≡ summed (tally .buckets) bucketCount → start ≡ startSet T
+      → withStart start b ≡ allFrom
   tallied-all e s = rw (e, s) refl
 
   -- what the sweep has at row r: the row, Q and V, all buckets with the start set and those up to the row, added

@@ -53,10 +53,10 @@ module _ (T : Trace) where
       record {
         count = S (λ t i. 1);
         volume = S (λ t i. sizeOf T i);
-        retention = S (λ t i. retentionOf T t i);
-        swap = S (λ t i. swapOf T i);
-        retentionz = S (λ t i. retentionOf T t i * sizeOf T i);
-        swapz = S (λ t i. swapOf T i * sizeOf T i);
+        retention = record { 0 = S (λ t i. retentionOf T t i) };
+        swap = record { 0 = S (λ t i. swapOf T i) };
+        retentionz = record { 0 = S (λ t i. retentionOf T t i * sizeOf T i) };
+        swapz = record { 0 = S (λ t i. swapOf T i * sizeOf T i) };
       }
 
   bucketBy-eq : (S U : (ℕ → ℕ → ℕ) → ℕ) → ((g : ℕ → ℕ → ℕ) → S g ≡ U g) → bucketBy S ≡ bucketBy U
@@ -78,10 +78,10 @@ module _ (T : Trace) where
       rw (
         each (λ b. b .count),
         each (λ b. b .volume),
-        each (λ b. b .retention),
-        each (λ b. b .swap),
-        each (λ b. b .retentionz),
-        each (λ b. b .swapz),
+        each (λ b. b .retention .0),
+        each (λ b. b .swap .0),
+        each (λ b. b .retentionz .0),
+        each (λ b. b .swapz .0),
       )
     where
       each : (f : Bucket → ℕ)

@@ -11,11 +11,11 @@ use Rattle.model.specs.Rows.{rowFigures}
 use Rattle.model.specs.declared.Kind.{Kind}
 use Rattle.model.specs.declared.Kind.the-variants.{Time, Space}
 use Rattle.model.specs.declared.PriceRow.{PriceRow}
-use Rattle.model.proofs.FirstTouches.{started}
 use Rattle.model.proofs.Loads.{overTouches-eq}
 use Rattle.figures.specs.inner.Sweep.{withStart}
 use Rattle.figures.specs.inner.OneRow.{byKind, loadFrom, wsmemFrom, wsspaceFrom, wsoccFrom, rowFrom, KeptWithin}
 use Rattle.buckets.specs.declared.Bucket.{Bucket}
+use Rattle.figures.proofs.Starts.{startSet}
 use Rattle.figures.proofs.Sweeps.{bucketBy, space-of}
 use Rattle.figures.proofs.WorkingSets.{touches-split, kept-swaps-within, working-set, smaller-priced, sized-priced}
 
@@ -30,7 +30,7 @@ module _ (T : Trace) (row : PriceRow) where
   -- the sums over all touches, the swap costs of the start set among them; over those that the row keeps, and over the end intervals that
   -- it keeps
   abbrev pub allSums : Bucket
-  allSums = withStart (started T (λ i. swapOf T i)) (started T (λ i. swapOf T i * sizeOf T i)) (bucketBy T (λ g. overTouches T g))
+  allSums = withStart (startSet T) (bucketBy T (λ g. overTouches T g))
 
   abbrev pub keptSums : Bucket
   keptSums = bucketBy T (λ g. overTouches T (λ t i. cond (kept T (row .h) (row .d) t i) (g t i) 0))
@@ -50,11 +50,11 @@ module _ (T : Trace) (row : PriceRow) where
   unfolding load
   load-swept = rw (misses-swept, volume-swept)
 
-  optmem-swept : optmem T (row .h) (row .d) ≡ refCost T + keptSums .retention
+  optmem-swept : optmem T (row .h) (row .d) ≡ refCost T + keptSums .retention .0
   unfolding optmem
   optmem-swept = refl
 
-  optocc-swept : optocc T (row .h) (row .d) ≡ refVolume T + byKind (T .kind) (keptSums .retentionz) (keptSums .retention)
+  optocc-swept : optocc T (row .h) (row .d) ≡ refVolume T + byKind (T .kind) (keptSums .retentionz .0) (keptSums .retention .0)
   unfolding optocc
   optocc-swept =
       ap (λ n. refVolume T + n)
@@ -96,7 +96,7 @@ module _ (T : Trace) (row : PriceRow) where
       let h = row .h in
       let d = row .d in
       from-sums h d (refCost T) (overTouches T (λ t i. smaller T h d t i)) (overSegments T (λ i. smaller T h d (steps T) i))
-      (keptSums .retention) (endSums .retention) (allSums .swap) (keptSums .swap) (endSums .swap) (sweep-parts .swaps)
+      (keptSums .retention .0) (endSums .retention .0) (allSums .swap .0) (keptSums .swap .0) (endSums .swap .0) (sweep-parts .swaps)
       (working-set T h d (swapOf T) (smaller T h d) (retentionOf T) (smaller-priced T h d))
 
   wsspace-swept : wsspace T (row .h) (row .d) ≡ wsspaceFrom row (refVolume T) allSums keptSums endSums
@@ -106,7 +106,7 @@ module _ (T : Trace) (row : PriceRow) where
       let d = row .d in
       let sized : ℕ → ℕ → ℕ = λ t i. sizeOf T i * smaller T h d t i in
       from-sums h d (refVolume T) (overTouches T sized) (overSegments T (sized (steps T)))
-      (keptSums .retentionz) (endSums .retentionz) (allSums .swapz) (keptSums .swapz) (endSums .swapz) (sweep-parts .swapzs)
+      (keptSums .retentionz .0) (endSums .retentionz .0) (allSums .swapz .0) (keptSums .swapz .0) (endSums .swapz .0) (sweep-parts .swapzs)
       (working-set T h d (λ i. swapOf T i * sizeOf T i) sized (λ t i. retentionOf T t i * sizeOf T i) (sized-priced T h d))
 
   pub wsocc-swept : wsocc T (row .h) (row .d) ≡ wsoccFrom (T .kind) row (refCost T) (refVolume T) allSums keptSums endSums

@@ -27,48 +27,50 @@ pub struct WorkingSet {
 }
 
 // The memory of a working set: Q, and the retentions that the row keeps.
-fn retained(cost: u64, kept: Bucket, ends: Bucket) -> MemoryUnits
-    requires { ⌜ (cost ≤ mostSteps * largestSize) × Holds mostSteps kept × Holds mostSegs ends ⌝ }
-    ensures { λ r. ⌜ (r .0 ≡ cost + kept .retention + ends .retention) × (r .0 < 2 ^ 47) ⌝ }
+fn retained(cost: MemoryUnits, kept: Bucket, ends: Bucket) -> MemoryUnits
+    requires { ⌜ (cost .0 ≤ mostSteps * largestSize) × Holds mostSteps kept × Holds mostSegs ends ⌝ }
+    ensures { λ r. ⌜ (r .0 ≡ cost .0 + kept .retention .0 + ends .retention .0) × (r .0 < 2 ^ 47) ⌝ }
 {
-    MemoryUnits(cost + kept.retention + ends.retention)
+    cost.plus(kept.retention).plus(ends.retention)
 }
 
 // The same with each item multiplied by its size: V, and the retentions.
 fn retained_space(volume: u64, kept: Bucket, ends: Bucket) -> MemoryUnits
     requires { ⌜ (volume ≤ mostSteps * largestSize) × Holds mostSteps kept × Holds mostSegs ends ⌝ }
-    ensures { λ r. ⌜ (r .0 ≡ volume + kept .retentionz + ends .retentionz) × (r .0 < 2 ^ 47) ⌝ }
+    ensures { λ r. ⌜ (r .0 ≡ volume + kept .retentionz .0 + ends .retentionz .0) × (r .0 < 2 ^ 47) ⌝ }
 {
-    MemoryUnits(volume + kept.retentionz + ends.retentionz)
+    MemoryUnits(volume)
+        .plus(kept.retentionz)
+        .plus(ends.retentionz)
 }
 
 // The swap costs that the row does not keep. The end intervals have those of the first touches and of the warm segments.
 fn removed(all: Bucket, kept: Bucket, ends: Bucket) -> LoadUnits
     requires { ⌜ Holds mostItems all × KeptWithin all kept ends ⌝ }
-    ensures { λ r. ⌜ (r .0 ≡ all .swap - kept .swap - ends .swap) × (r .0 < 2 ^ 47) ⌝ }
+    ensures { λ r. ⌜ (r .0 ≡ all .swap .0 - kept .swap .0 - ends .swap .0) × (r .0 < 2 ^ 47) ⌝ }
 {
-    LoadUnits(all.swap - kept.swap - ends.swap)
+    all.swap.minus(kept.swap).minus(ends.swap)
 }
 
 // The same with each item multiplied by its size.
 fn removed_space(all: Bucket, kept: Bucket, ends: Bucket) -> LoadUnits
     requires { ⌜ Holds mostItems all × KeptWithin all kept ends ⌝ }
-    ensures { λ r. ⌜ (r .0 ≡ all .swapz - kept .swapz - ends .swapz) × (r .0 < 2 ^ 47) ⌝ }
+    ensures { λ r. ⌜ (r .0 ≡ all .swapz .0 - kept .swapz .0 - ends .swapz .0) × (r .0 < 2 ^ 47) ⌝ }
 {
-    LoadUnits(all.swapz - kept.swapz - ends.swapz)
+    all.swapz.minus(kept.swapz).minus(ends.swapz)
 }
 
 // The working set of a row from Q and V, the sums over all buckets and those over what the row keeps.
 pub fn working_set(
     row: PriceRow,
-    cost: u64,
+    cost: MemoryUnits,
     volume: u64,
     all: Bucket,
     kept: Bucket,
     ends: Bucket,
 ) -> WorkingSet
-    requires { ⌜ Summable cost volume all kept ends ⌝ }
-    ensures { λ r. ⌜ r ≡ record { memory = wsmemFrom row cost all kept ends; space = wsspaceFrom row volume all kept ends } ⌝ }
+    requires { ⌜ Summable (cost .0) volume all kept ends ⌝ }
+    ensures { λ r. ⌜ r ≡ record { memory = wsmemFrom row (cost .0) all kept ends; space = wsspaceFrom row volume all kept ends } ⌝ }
 {
     let memory = model::total(row, retained(cost, kept, ends), removed(all, kept, ends));
     let space = model::total(
@@ -107,19 +109,19 @@ pub fn row_figures(
     a: u8,
     row: PriceRow,
     refs: usize,
-    cost: u64,
+    cost: MemoryUnits,
     volume: u64,
     all: Bucket,
     kept: Bucket,
     ends: Bucket,
 ) -> RowFigures
-    requires { ⌜ RowFits kind row refs cost volume all kept ends ⌝ }
-    ensures { λ r. ⌜ r ≡ rowFrom kind a row refs cost volume all kept ends ⌝ }
+    requires { ⌜ RowFits kind row refs (cost .0) volume all kept ends ⌝ }
+    ensures { λ r. ⌜ r ≡ rowFrom kind a row refs (cost .0) volume all kept ends ⌝ }
 {
     let misses = all.count - kept.count;
     let missed = all.volume - kept.volume;
     let load = load_of(a, misses, missed);
-    let optmem = MemoryUnits(cost + kept.retention);
+    let optmem = cost.plus(kept.retention);
     let set = working_set(row, cost, volume, all, kept, ends);
     let wsocc = by_kind(kind, set.space, set.memory);
     let mean = mean(refs, row.d, wsocc);
@@ -131,7 +133,7 @@ pub fn row_figures(
         load,
         optmem,
         opttotal: model::total(row, optmem, load),
-        optocc: volume + by_kind(kind, kept.retentionz, kept.retention),
+        optocc: volume + by_kind(kind, kept.retentionz.0, kept.retention.0),
         wsmem: set.memory,
         wsocc,
         mean,

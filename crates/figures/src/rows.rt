@@ -3,6 +3,8 @@
 use buckets::Bucket;
 use buckets::Tally;
 use model::Kind;
+use model::LoadUnits;
+use model::MemoryUnits;
 use model::PriceRow;
 use model::RowFigures;
 use model::Sheet;
@@ -25,10 +27,10 @@ fn none() -> Bucket
     Bucket {
         count: 0,
         volume: 0,
-        retention: 0,
-        swap: 0,
-        retentionz: 0,
-        swapz: 0,
+        retention: MemoryUnits(0),
+        swap: LoadUnits(0),
+        retentionz: MemoryUnits(0),
+        swapz: LoadUnits(0),
     }
 }
 
@@ -40,10 +42,10 @@ fn add(x: Bucket, y: Bucket) -> Bucket
     Bucket {
         count: x.count + y.count,
         volume: x.volume + y.volume,
-        retention: x.retention + y.retention,
-        swap: x.swap + y.swap,
-        retentionz: x.retentionz + y.retentionz,
-        swapz: x.swapz + y.swapz,
+        retention: x.retention.plus(y.retention),
+        swap: x.swap.plus(y.swap),
+        retentionz: x.retentionz.plus(y.retentionz),
+        swapz: x.swapz.plus(y.swapz),
     }
 }
 
@@ -62,19 +64,19 @@ fn add_up(buckets: [Bucket; Tally::BUCKETS]) -> Bucket
 
 // The swap costs of the warm segments, added, and the same with each multiplied by its size.
 pub struct StartSwaps {
-    pub swap: u64,
-    pub swapz: u64,
+    pub swap: LoadUnits,
+    pub swapz: LoadUnits,
 }
 
 // The swap cost of a segment of size z with that mark in the table before step 1: nothing where it is not warm.
-fn start_swap(a: u8, z: u16, mark: u16) -> u64
-    ensures within { λ r. ⌜ r < 2 ^ 25 ⌝ }
-    ensures exact { λ r. ⌜ r ≡ cond (eqb mark 0) (swapCost a z) 0 ⌝ }
+fn start_swap(a: u8, z: u16, mark: u16) -> LoadUnits
+    ensures within { λ r. ⌜ r .0 < 2 ^ 25 ⌝ }
+    ensures exact { λ r. ⌜ r .0 ≡ cond (eqb mark 0) (swapCost a z) 0 ⌝ }
 {
     if mark == 0 {
-        return model::swap_cost(a, z).0;
+        return model::swap_cost(a, z);
     }
-    0
+    LoadUnits(0)
 }
 
 // The swap costs of the warm segments: nothing to look for where there are none.
@@ -82,8 +84,8 @@ pub fn start_swaps(a: u8, sizes: &[u16], warm: &[u16]) -> StartSwaps
     requires { ⌜ length (now sizes) ≤ mostSegs ⌝ }
     ensures { λ r. ⌜ r ≡ startSwaps a (now (sizes .entry)) (now (warm .entry)) ⌝ }
 {
-    let mut swap = 0;
-    let mut swapz = 0;
+    let mut swap = LoadUnits(0);
+    let mut swapz = LoadUnits(0);
     if warm.len() == 0 {
         return StartSwaps { swap, swapz };
     }
@@ -92,26 +94,21 @@ pub fn start_swaps(a: u8, sizes: &[u16], warm: &[u16]) -> StartSwaps
     while i < sizes.len() {
         let z = sizes[i];
         let w = start_swap(a, z, table[i]);
-        swap += w;
-        swapz += w * (z as u64);
+        swap = swap.plus(w);
+        swapz = swapz.plus(w.times(z));
         i += 1;
     }
     StartSwaps { swap, swapz }
 }
 
 // The sums of all buckets with the swap costs of the warm segments, which are no touches.
-fn with_start(b: Bucket, start: StartSwaps) -> Bucket
-    requires { ⌜ Holds mostItems (withStart (start .swap) (start .swapz) b) ⌝ }
-    ensures { λ r. ⌜ r ≡ withStart (start .swap) (start .swapz) b ⌝ }
+fn with_start(mut b: Bucket, start: StartSwaps) -> Bucket
+    requires { ⌜ Holds mostItems (withStart start b) ⌝ }
+    ensures { λ r. ⌜ r ≡ withStart start b ⌝ }
 {
-    Bucket {
-        count: b.count,
-        volume: b.volume,
-        retention: b.retention,
-        swap: b.swap + start.swap,
-        retentionz: b.retentionz,
-        swapz: b.swapz + start.swapz,
-    }
+    b.swap = b.swap.plus(start.swap);
+    b.swapz = b.swapz.plus(start.swapz);
+    b
 }
 
 // No figures: what the rows beyond the sheet's have.
@@ -142,7 +139,7 @@ pub fn all_rows(
     let touches = add_up(buckets);
     let start = start_swaps(a, sizes, warm);
     let all = with_start(touches, start);
-    let cost = crate::row_sums::by_kind(kind, touches.count, touches.volume);
+    let cost = MemoryUnits(crate::row_sums::by_kind(kind, touches.count, touches.volume));
     let mut kept = none();
     let mut ends = none();
     let mut out = no_figures();

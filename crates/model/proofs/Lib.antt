@@ -16,8 +16,10 @@ pub mod Loads
 pub mod LowerBound
 pub mod Margins
 pub mod Optimal
+pub mod PlaceExamples
 pub mod Places
 pub mod References
+pub mod RefusalExamples
 pub mod Relation
 pub mod Sizing
 pub mod SizingExamples
@@ -25,5 +27,6 @@ pub mod Standing
 pub mod Sums
 pub mod Tables
 pub mod Touches
+pub mod Units
 pub mod Values
 pub mod Warm

@@ -2,7 +2,7 @@
 // What each means is written in specs/; nothing is assumed.
 ghost use mathlib.Core.Path.{_≡_};
 ghost use mathlib.Core.List.{[]};
-ghost use Prim.Native.Nat.{_+_, _*_, _<_, _^_};
+ghost use Prim.Native.Nat.{_+_, _-_, _*_, _≤_, _<_, _^_};
 ghost use Rattle.model.specs.Costs.{swapCost, unitCost, retention, keeps, totalCost, marginOf};
 ghost use Rattle.model.specs.LastTouches.{startTable};
 ghost use Rattle.model.specs.Places.{nothingPlaced};
@@ -325,13 +325,13 @@ pub fn start_table(warm: &[u16]) -> [u16; Sheet::MAX_SEGS]
     last
 }
 
-// What one step of a segment of size z in memory costs, in memory units.
-pub fn unit_cost(kind: Kind, z: u16) -> u64
-    ensures { λ r. ⌜ r ≡ unitCost kind z ⌝ }
+// What one step of a segment of size z in memory costs.
+pub fn unit_cost(kind: Kind, z: u16) -> MemoryUnits
+    ensures { λ r. ⌜ r .0 ≡ unitCost kind z ⌝ }
 {
     match kind {
-        Kind::Time => 1,
-        Kind::Space => z as u64,
+        Kind::Time => MemoryUnits(1),
+        Kind::Space => MemoryUnits(z as u64),
     }
 }
 
@@ -353,6 +353,30 @@ impl MemoryUnits {
     {
         Priced((d as u64) * self.0)
     }
+
+    // Two amounts, added.
+    pub fn plus(self, other: MemoryUnits) -> MemoryUnits
+        requires { ⌜ self .0 + other .0 < 2 ^ 64 ⌝ }
+        ensures { λ r. ⌜ r .0 ≡ self .0 + other .0 ⌝ }
+    {
+        MemoryUnits(self.0 + other.0)
+    }
+
+    // An amount without a part of it.
+    pub fn minus(self, part: MemoryUnits) -> MemoryUnits
+        requires { ⌜ part .0 ≤ self .0 ⌝ }
+        ensures { λ r. ⌜ r .0 ≡ self .0 - part .0 ⌝ }
+    {
+        MemoryUnits(self.0 - part.0)
+    }
+
+    // An amount, multiplied by a size.
+    pub fn times(self, z: u16) -> MemoryUnits
+        requires { ⌜ self .0 < 2 ^ 47 ⌝ }
+        ensures { λ r. ⌜ r .0 ≡ self .0 * z ⌝ }
+    {
+        MemoryUnits(self.0 * (z as u64))
+    }
 }
 
 impl LoadUnits {
@@ -362,6 +386,30 @@ impl LoadUnits {
         ensures { λ r. ⌜ r .0 ≡ h * self .0 ⌝ }
     {
         Priced((h as u64) * self.0)
+    }
+
+    // Two amounts, added.
+    pub fn plus(self, other: LoadUnits) -> LoadUnits
+        requires { ⌜ self .0 + other .0 < 2 ^ 64 ⌝ }
+        ensures { λ r. ⌜ r .0 ≡ self .0 + other .0 ⌝ }
+    {
+        LoadUnits(self.0 + other.0)
+    }
+
+    // An amount without a part of it.
+    pub fn minus(self, part: LoadUnits) -> LoadUnits
+        requires { ⌜ part .0 ≤ self .0 ⌝ }
+        ensures { λ r. ⌜ r .0 ≡ self .0 - part .0 ⌝ }
+    {
+        LoadUnits(self.0 - part.0)
+    }
+
+    // An amount, multiplied by a size.
+    pub fn times(self, z: u16) -> LoadUnits
+        requires { ⌜ self .0 < 2 ^ 47 ⌝ }
+        ensures { λ r. ⌜ r .0 ≡ self .0 * z ⌝ }
+    {
+        LoadUnits(self.0 * (z as u64))
     }
 }
 

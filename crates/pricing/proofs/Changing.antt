@@ -33,9 +33,9 @@ same-leaves true u = refl
 same-leaves false u = refl
 
 -- a segment is passed whose bit changed: it leaves
-pub pass-leaves : (old new : Bool) (x i u v : ℕ) (c : Changes) → old ≡ true → new ≡ false → v ≡ u
-    → Passing old new x i u c (record { others = c .others; left = c .left + v })
-pass-leaves old new x i u v c o n e = record { others-with = rw (o, n) (or-false (c .others)); left-with = rw (o, n, e) }
+pub pass-leaves : (old new : Bool) (x i u : ℕ) (c r : Changes) → old ≡ true → new ≡ false → r .others ≡ c .others
+    → r .left .0 ≡ c .left .0 + u → Passing old new x i u c r
+pass-leaves old new x i u c r o n same more = record { others-with = rw (o, n) (same ∙ or-false (c .others)); left-with = rw (o, n) more }
 
 -- it enters as the touched one
 pub pass-touched : (old new : Bool) (x i u : ℕ) (c : Changes) → old ≡ false → new ≡ true → x ≡ i → Passing old new x i u c c
@@ -79,13 +79,13 @@ module _ (T : Trace) (start : StartWords) (p : List ℕ) (s : ℕ) (ok : Step T 
 
 module _ (T : Trace) (p : List ℕ) (t : ℕ) where
   -- before the first segment
-  pub passed-none : SegmentsPassed T p t 0 (record { others = false; left = 0 })
+  pub passed-none : SegmentsPassed T p t 0 (record { others = false; left = record { 0 = 0 } })
   unfolding someEnters leaving sum
   passed-none = record { entered = refl; gone = refl }
 
   -- one segment more
   pub passed-one : (n : ℕ) (c r : Changes) → SegmentsPassed T p t n c → r .others ≡ c .others || enters T p t n
-      → r .left ≡ c .left + cond (held T p t n && not (held T p (suc t) n)) (unitAt (T .kind) (T .sizes) n) 0
+      → r .left .0 ≡ c .left .0 + cond (held T p t n && not (held T p (suc t) n)) (unitAt (T .kind) (T .sizes) n) 0
       → SegmentsPassed T p t (suc n) r
   unfolding someEnters leaving sum
   passed-one n c r ok others left = record { entered = rw (others, ok .entered); gone = rw (left, ok .gone) }

@@ -10,6 +10,7 @@ use Rattle.model.specs.Traces.{Trace, segs, steps, unitOf, swapOf, touched, tou
 use Rattle.model.specs.Figures.{refCost}
 use Rattle.model.specs.Schedules.{held, Permitted, scheduleMemory, scheduleLoad, scheduleTotal}
 use Rattle.model.specs.Sheets.{RunWithin, listed}
+use Rattle.model.specs.declared.MemoryUnits.{MemoryUnits}
 use Rattle.model.specs.declared.Verdict.the-variants.{Accepted}
 use Rattle.model.proofs.Sums.{sum-none, sum-eq, sum-add}
 use Rattle.model.proofs.Touches.{touching-sum}
@@ -22,8 +23,9 @@ use Rattle.pricing.proofs.StepCosts.{memory-within, load-within}
 use Rattle.pricing.proofs.Verdicts.{accepted-permitted, whole-verdict, accepted-answer, priced}
 
 -- before the first step: what is held is the start set
-pub through-none : (T : Trace) (p warm : List ℕ) (c : ℕ) → ((i : ℕ) → T .start i ≡ listed warm i) → c ≡ startCost (T .kind) (T .sizes) warm
-    → Through T p 0 (record { held = c; memory = 0; load = 0 })
+pub through-none : (T : Trace) (p warm : List ℕ) (c : MemoryUnits) → ((i : ℕ) → T .start i ≡ listed warm i)
+    → c .0 ≡ startCost (T .kind) (T .sizes) warm
+    → Through T p 0 (record { held = c; memory = record { 0 = 0 }; load = record { 0 = 0 } })
 unfolding stepsVerdict heldCost memoryThrough loadThrough held startCost
 through-none T p warm c same e =
     record {
@@ -77,11 +79,11 @@ schedule-within T ok p allowed = (
 
 -- the costs of all steps are the schedule's
 pub through-all : (T : Trace) (p : List ℕ) (h d n total : ℕ) (c : Costs) → length p ≡ 32 * steps T → Through T p n c → n ≡ steps T
-    → total ≡ totalCost h d (c .memory) (c .load) → priced (c .memory) (c .load) total ≡ priceAnswer T h d p
+    → total ≡ totalCost h d (c .memory .0) (c .load .0) → priced (c .memory .0) (c .load .0) total ≡ priceAnswer T h d p
 unfolding scheduleTotal scheduleLoad loadThrough
 through-all T p h d n total c whole done all e =
     let accepted : scheduleVerdict T p ≡ Accepted = whole-verdict T p whole ∙ (rw all at (done .accepted)) in
-    let memory : c .memory ≡ scheduleMemory T p =
+    let memory : c .memory .0 ≡ scheduleMemory T p =
     (rw all at (done .memory-cost)) ∙ sym (memory-held T p (accepted-permitted T p accepted)) in
-    let load : c .load ≡ scheduleLoad T p = rw all at (done .load-cost) in
+    let load : c .load .0 ≡ scheduleLoad T p = rw all at (done .load-cost) in
     sym (accepted-answer T h d p accepted ∙ rw (e, memory, load))

@@ -40,9 +40,9 @@ module _ (kind : Kind) (sizes warm : List ℕ) where
   pub added-start : Added 0 0
   added-start = record { within = omega arith; cost-is = sym (sum-none term); small = omega arith }
 
-  pub added-step : (last : List ℕ) (cost i r : ℕ) → last ≡ startTable warm → Added cost i → i < length sizes → length sizes ≤ 256
-      → (r ≡ cond (eqb (getD last i 0) 0) (unitCost kind (getD sizes i 0)) 0) × (r < 65536) → Added (cost + r) (i + 1)
-  added-step last cost i r table v lt few is =
+  pub added-step : (last : List ℕ) (cost i r next : ℕ) → last ≡ startTable warm → Added cost i → i < length sizes → length sizes ≤ 256
+      → (r ≡ cond (eqb (getD last i 0) 0) (unitCost kind (getD sizes i 0)) 0) × (r < 65536) → next ≡ cost + r → Added next (i + 1)
+  added-step last cost i r next table v lt few is more =
       let here : r ≡ term i = is .0 ∙ rw (table, start-zero warm i (omega arith)) in
       record {
         within = omega arith;

@@ -28,17 +28,16 @@ use Rattle.pricing.specs.inner.Passing.{unitAt, leaving, SegmentsPassed,
 use Rattle.pricing.proofs.StepFaults.{none-enters, step-accepted, one-more, held-touched}
 
 -- the touched segment was held before: nothing is loaded
-pub moved-kept : (u w left : ℕ) (b : Bool) (c : Costs) → b ≡ true → left ≤ c .held + cond b 0 u
-    → Moved u w b left c (record { held = c .held - left; memory = c .memory + (c .held - left); load = c .load })
-moved-kept u w left true c e le = record { held-moved = omega arith; memory-moved = refl; load-moved = omega arith }
-moved-kept u w left false c e le = let z : _≡_ {A = ℕ} 0 1 = cc in absurd (omega arith)
+pub moved-kept : (u w left : ℕ) (b : Bool) (c r : Costs) → b ≡ true → left ≤ c .held .0 + cond b 0 u → r .held .0 ≡ c .held .0 - left
+    → r .memory .0 ≡ c .memory .0 + r .held .0 → r .load .0 ≡ c .load .0 → Moved u w b left c r
+moved-kept u w left true c r e le held memory load = record { held-moved = omega arith; memory-moved = memory; load-moved = omega arith }
+moved-kept u w left false c r e le held memory load = let z : _≡_ {A = ℕ} 0 1 = cc in absurd (omega arith)
 
 -- it was not: it is loaded
-pub moved-loaded : (u w v x left : ℕ) (b : Bool) (c : Costs) → b ≡ false → v ≡ u → x ≡ w → left ≤ c .held + cond b 0 u
-    → Moved u w b left c (record { held = c .held + v - left; memory = c .memory + (c .held + v - left); load = c .load + x })
-moved-loaded u w v x left true c e ev ex le = let z : _≡_ {A = ℕ} 0 1 = cc in absurd (omega arith)
-moved-loaded u w v x left false c e ev ex le =
-    record { held-moved = omega arith; memory-moved = refl; load-moved = omega arith }
+pub moved-loaded : (u w left : ℕ) (b : Bool) (c r : Costs) → b ≡ false → left ≤ c .held .0 + cond b 0 u
+    → r .held .0 ≡ c .held .0 + u - left → r .memory .0 ≡ c .memory .0 + r .held .0 → r .load .0 ≡ c .load .0 + w → Moved u w b left c r
+moved-loaded u w left true c r e le held memory load = let z : _≡_ {A = ℕ} 0 1 = cc in absurd (omega arith)
+moved-loaded u w left false c r e le held memory load = record { held-moved = omega arith; memory-moved = memory; load-moved = load }
 
 -- beyond a list stands 0
 pub getD-beyond : (l : List ℕ) (i : ℕ) → length l ≤ i → getD l i 0 ≡ 0
@@ -82,7 +81,7 @@ module _ (T : Trace) (ok : RunWithin T) (p : List ℕ) where
             (λ i l. either-within (held T p t i && not (held T p (suc t) i)) _ 0 4095 (unitAt-within i) (omega arith)),
       )
 
-  pub passed-within : (t n : ℕ) (c : Changes) → SegmentsPassed T p t n c → n ≤ 256 → c .left < 2 ^ 40
+  pub passed-within : (t n : ℕ) (c : Changes) → SegmentsPassed T p t n c → n ≤ 256 → c .left .0 < 2 ^ 40
   passed-within t n c passed le = omega (arith, passed .gone, leaving-within t n le)
 
   pub held-within : (t : ℕ) → heldCost T p t ≤ 1048320
@@ -145,7 +144,8 @@ module _ (T : Trace) (ok : RunWithin T) (p : List ℕ) where
             (omega (arith, product-within (T .a) (sizeOf T i) 255 4095 (ok .a-within) (ok .size-within i l)))),
       )
 
-  pub through-within : (n : ℕ) (c : Costs) → n ≤ 2048 → Through T p n c → (c .held < 2 ^ 40) × (c .memory < 2 ^ 40) × (c .load < 2 ^ 40)
+  pub through-within : (n : ℕ) (c : Costs) → n ≤ 2048 → Through T p n c
+      → (c .held .0 < 2 ^ 40) × (c .memory .0 < 2 ^ 40) × (c .load .0 < 2 ^ 40)
   through-within n c le done = (
     omega (arith, done .held-cost, held-within n),
     omega (arith, done .memory-cost, memory-within n le),
@@ -191,7 +191,7 @@ module _ (T : Trace) (ok : RunWithin T) (p : List ℕ) (t : ℕ) (lt : t < steps
         ∙ loaded-told (ltb x 256) (held T p t x) b (f x) before
 
     -- what is held after the step and what left
-    moves : heldCost T p (suc t) + g .left ≡ c .held + cond b 0 (unitOf T x)
+    moves : heldCost T p (suc t) + g .left .0 ≡ c .held .0 + cond b 0 (unitOf T x)
     moves =
         omega (
           arith,
@@ -202,14 +202,14 @@ module _ (T : Trace) (ok : RunWithin T) (p : List ℕ) (t : ℕ) (lt : t < steps
         )
 
     -- what left was held or loaded
-    pub left-within : g .left ≤ c .held + cond b 0 (unitOf T x)
+    pub left-within : g .left .0 ≤ c .held .0 + cond b 0 (unitOf T x)
     left-within = omega (arith, moves)
 
     -- the costs with the step
-    pub through-step : (r : Costs) → Moved (unitOf T x) (swapOf T x) b (g .left) c r → Through T p (suc t) r
+    pub through-step : (r : Costs) → Moved (unitOf T x) (swapOf T x) b (g .left .0) c r → Through T p (suc t) r
     unfolding memoryThrough loadThrough
     through-step r m =
-        let held-now : r .held ≡ heldCost T p (suc t) = omega (arith, moves, m .held-moved) in
+        let held-now : r .held .0 ≡ heldCost T p (suc t) = omega (arith, moves, m .held-moved) in
         record {
           accepted = one-more T p t (done .accepted) (step-accepted T p t (missing-told ∙ e) (sym (found .entered) ∙ still));
           held-cost = held-now;

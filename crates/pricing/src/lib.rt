@@ -45,28 +45,28 @@ pub fn refused(r: Refusal) -> PriceAnswer
 }
 
 // What a segment of size z costs for one step where it is held, else 0.
-fn unit_where(held: bool, kind: Kind, z: u16) -> u64
-    ensures { λ r. ⌜ (r ≡ cond held (unitCost kind z) 0) × (r < 65536) ⌝ }
+fn unit_where(held: bool, kind: Kind, z: u16) -> MemoryUnits
+    ensures { λ r. ⌜ (r .0 ≡ cond held (unitCost kind z) 0) × (r .0 < 65536) ⌝ }
 {
     if held {
         return model::unit_cost(kind, z);
     }
-    0
+    MemoryUnits(0)
 }
 
 // What the warm segments cost for one step.
-fn start_cost(kind: Kind, sizes: &[u16], warm: &[u16]) -> u64
+fn start_cost(kind: Kind, sizes: &[u16], warm: &[u16]) -> MemoryUnits
     requires { ⌜ length (now sizes) ≤ mostSegs ⌝ }
-    ensures { λ r. ⌜ r ≡ startCost kind (now (sizes .entry)) (now (warm .entry)) ⌝ }
+    ensures { λ r. ⌜ r .0 ≡ startCost kind (now (sizes .entry)) (now (warm .entry)) ⌝ }
 {
     if warm.len() == 0 {
-        return 0;
+        return MemoryUnits(0);
     }
     let last = model::start_table(warm);
-    let mut cost = 0;
+    let mut cost = MemoryUnits(0);
     let mut i = 0;
     while i < sizes.len() {
-        cost += unit_where(last[i] == 0, kind, sizes[i]);
+        cost = cost.plus(unit_where(last[i] == 0, kind, sizes[i]));
         i += 1;
     }
     cost
@@ -93,8 +93,8 @@ fn price_from(
     }
     let mut c = Costs {
         held: start_cost(kind, sizes, warm),
-        memory: 0,
-        load: 0,
+        memory: MemoryUnits(0),
+        load: LoadUnits(0),
     };
     let mut t = 0;
     while t < refs.len() {
@@ -105,11 +105,13 @@ fn price_from(
         }
         t += 1;
     }
+    let memory = c.memory;
+    let load = c.load;
     PriceAnswer {
         verdict: Verdict::Accepted,
-        memory: MemoryUnits(c.memory),
-        load: LoadUnits(c.load),
-        total: model::total(row, MemoryUnits(c.memory), LoadUnits(c.load)),
+        memory,
+        load,
+        total: model::total(row, memory, load),
     }
 }
 

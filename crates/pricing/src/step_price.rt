@@ -2,6 +2,8 @@
 // the step before are looked at. What a fault is, and what a step adds, is written in specs/; nothing is assumed.
 use crate::held_bits::StartWords;
 use model::Kind;
+use model::LoadUnits;
+use model::MemoryUnits;
 use model::Refusal;
 use model::Sheet;
 ghost use mathlib.Core.Path.{_≡_};
@@ -19,14 +21,14 @@ ghost use Rattle.pricing.specs.inner.Passing.{unitAt, SegmentsPassed, Pa
 // What the segments passed so far show of a step: whether an untouched one entered, and the cost of those that left.
 struct Changes {
     others: bool,
-    left: u64,
+    left: MemoryUnits,
 }
 
 // What the steps priced so far come to: the cost for one step of what is held now, the memory and the load.
 pub struct Costs {
-    pub held: u64,
-    pub memory: u64,
-    pub load: u64,
+    pub held: MemoryUnits,
+    pub memory: MemoryUnits,
+    pub load: LoadUnits,
 }
 
 // What pricing one step more gives: the refusal, or the costs.
@@ -36,33 +38,29 @@ pub enum Stepped {
 }
 
 // What segment i costs for one step: 0 where i is no segment.
-fn unit_at(kind: Kind, sizes: &[u16], i: usize) -> u64
-    ensures { λ r. ⌜ (r ≡ unitAt kind (now (sizes .entry)) i) × (r < 65536) ⌝ }
+fn unit_at(kind: Kind, sizes: &[u16], i: usize) -> MemoryUnits
+    ensures { λ r. ⌜ (r .0 ≡ unitAt kind (now (sizes .entry)) i) × (r .0 < 65536) ⌝ }
 {
     if i < sizes.len() {
         return model::unit_cost(kind, sizes[i]);
     }
-    0
+    MemoryUnits(0)
 }
 
 // One number i more, of a step that touches x, whose bit changed: it left where `old`, its bit in the step before, is set, else it entered.
-fn pass(kind: Kind, sizes: &[u16], x: usize, i: usize, old: bool, c: Changes) -> Changes
-    requires { ⌜ c .left < 2 ^ 40 ⌝ }
+fn pass(kind: Kind, sizes: &[u16], x: usize, i: usize, old: bool, mut c: Changes) -> Changes
+    requires { ⌜ c .left .0 < 2 ^ 40 ⌝ }
     ensures { λ r. ⌜ Passing old (not old) x i (unitAt kind (now (sizes .entry)) i) c r ⌝ }
 {
     if old {
-        return Changes {
-            others: c.others,
-            left: c.left + unit_at(kind, sizes, i),
-        };
+        c.left = c.left.plus(unit_at(kind, sizes, i));
+        return c;
     }
     if x == i {
         return c;
     }
-    Changes {
-        others: true,
-        left: c.left,
-    }
+    c.others = true;
+    c
 }
 
 // Segments 64 × m to 64 × m + 63 more: a run of bits that did not change is passed at once.
@@ -123,7 +121,7 @@ fn pass_step(
 {
     let mut c = Changes {
         others: false,
-        left: 0,
+        left: MemoryUnits(0),
     };
     let mut m = 0;
     while m < 4 {
@@ -134,24 +132,25 @@ fn pass_step(
 }
 
 // The costs with a step more that touches a segment of size z, held before or not, where those that left cost so much for one step.
-fn moved(kind: Kind, a: u8, z: u16, before: bool, left: u64, c: Costs) -> Costs
-    requires { ⌜ (c .held < 2 ^ 40) × (c .memory < 2 ^ 40) × (c .load < 2 ^ 40) ⌝ }
-    requires { ⌜ left ≤ c .held + cond before 0 (unitCost kind z) ⌝ }
-    ensures { λ r. ⌜ Moved (unitCost kind z) (swapCost a z) before left c r ⌝ }
+fn moved(kind: Kind, a: u8, z: u16, before: bool, left: MemoryUnits, c: Costs) -> Costs
+    requires { ⌜ (c .held .0 < 2 ^ 40) × (c .memory .0 < 2 ^ 40) × (c .load .0 < 2 ^ 40) ⌝ }
+    requires { ⌜ left .0 ≤ c .held .0 + cond before 0 (unitCost kind z) ⌝ }
+    ensures { λ r. ⌜ Moved (unitCost kind z) (swapCost a z) before (left .0) c r ⌝ }
 {
     if before {
-        let stay = c.held - left;
+        let stay = c.held.minus(left);
+        let load = c.load;
         return Costs {
             held: stay,
-            memory: c.memory + stay,
-            load: c.load,
+            memory: c.memory.plus(stay),
+            load,
         };
     }
-    let held = c.held + model::unit_cost(kind, z) - left;
+    let held = c.held.plus(model::unit_cost(kind, z)).minus(left);
     Costs {
         held,
-        memory: c.memory + held,
-        load: c.load + model::swap_cost(a, z).0,
+        memory: c.memory.plus(held),
+        load: c.load.plus(model::swap_cost(a, z)),
     }
 }
 

@@ -1,5 +1,5 @@
 -- The figures of a row, as the code reads them off a recorder that stands for a sheet, are the sheet's. Assumes nothing.
-use Prim.Native.Nat.{ℕ, _+_, _*_, _≤_, _<_, min}
+use Prim.Native.Nat.{ℕ, _+_, _≤_, _<_, min}
 use mathlib.Core.Path.{_≡_, refl, ap, _∙_}
 use mathlib.Core.List.{List}
 use native.Mathlib.Omega.{arith}
@@ -9,8 +9,6 @@ use Rattle.model.specs.Sheets.{SheetValue, Valid, traceOf, mostSegs, mostRows, 
 use Rattle.model.specs.declared.RowFigures.{RowFigures}
 use Rattle.model.specs.Values.{zeros, zeroRows, headOf}
 use Rattle.model.specs.LastTouches.{lastTable}
-use Rattle.model.specs.Traces.{sizeOf, swapOf}
-use Rattle.model.proofs.FirstTouches.{started}
 use Rattle.buckets.specs.Buckets.{bucketCount, tallyOf}
 use Rattle.buckets.specs.inner.Pass.{EndedAt}
 use Rattle.figures.specs.Rows.{figuresAt}
@@ -19,7 +17,7 @@ use Rattle.figures.specs.inner.OneRow.{mostItems, Holds, RowFits, rowFrom}
 use Rattle.buckets.specs.declared.Bucket.{Bucket}
 use Rattle.buckets.specs.declared.Tally.{Tally}
 use Rattle.figures.specs.declared.rows.StartSwaps.{StartSwaps}
-use Rattle.figures.proofs.Starts.{starts-are}
+use Rattle.figures.proofs.Starts.{startSet, starts-are}
 use Rattle.figures.proofs.Sweeps.{holds-more}
 use Rattle.figures.proofs.Sweeping.{SweptTo, all-fits, tallied-buckets, tallied-ends, tallied-all, tallied-fits, tallied-row}
 use Rattle.recorder.specs.inner.Heads.{headSwaps}
@@ -52,11 +50,7 @@ ends-stand R rows segs steps hs ds b rows-are segs-are steps-are priced ended v 
     ends-of v valid rows segs steps hs ds b (rw e at rows-are) (rw e at segs-are) (rw e at steps-are) (rw e at priced) (rw e at ended)
 
 -- the swap costs of the warm segments are the sheet's
-starts-of : (v : SheetValue) → Valid v → headSwaps (recorderOf v .head)
-    ≡ record {
-      swap = started (traceOf v) (λ i. swapOf (traceOf v) i);
-      swapz = started (traceOf v) (λ i. swapOf (traceOf v) i * sizeOf (traceOf v) i);
-    }
+starts-of : (v : SheetValue) → Valid v → headSwaps (recorderOf v .head) ≡ startSet (traceOf v)
 unfolding recorderOf headOf
 starts-of v valid =
     rw (
@@ -75,7 +69,7 @@ pub record Swept (R : Recorder) (row : ℕ) (f : RowFigures) : Type 0 where
   pub ended-are : (v : SheetValue) → Valid v → R ≡ recorderOf v → ended ≡ tallyOf (v .head .rows) (traceOf v) .ends
   pub touches-are : ((m : ℕ) → m ≤ bucketCount → Holds mostSteps (summed (R .buckets) m)) → touches ≡ summed (R .buckets) bucketCount
   pub start-is : start ≡ headSwaps (R .head)
-  pub all-is : Holds mostItems (withStart (start .swap) (start .swapz) touches) → all ≡ withStart (start .swap) (start .swapz) touches
+  pub all-is : Holds mostItems (withStart start touches) → all ≡ withStart start touches
   pub kept-is : ((m : ℕ) → m ≤ row + 1 → Holds mostSteps (summed (R .buckets) m)) → kept ≡ summed (R .buckets) (row + 1)
   pub ends-is : ((m : ℕ) → m ≤ row + 1 → Holds mostSteps (summed ended m)) → ends ≡ summed ended (row + 1)
   pub figures-are : RowFits (R .head .kind) (getD (R .head .prices) row (record { h = 0; d = 0 })) (R .steps) (R .cost)

@@ -5,6 +5,8 @@ use buckets::Bucket;
 use buckets::Tally;
 use buckets::pass::Touch;
 use figures::rows::StartSwaps;
+use model::LoadUnits;
+use model::MemoryUnits;
 ghost use mathlib.Core.Path.{_≡_};
 ghost use Prim.Native.Nat.{ℕ, _+_, _≤_, _^_, min};
 ghost use Rattle.buckets.specs.Buckets.{bucketCount};
@@ -56,6 +58,20 @@ pub fn more(sum: u64, x: u64) -> u64
     sum + x
 }
 
+// The same of memory.
+fn more_memory(sum: MemoryUnits, x: MemoryUnits) -> MemoryUnits
+    ensures { λ r. ⌜ (sum .0 ≤ 2 ^ 60 → x .0 ≤ 2 ^ 60 → r .0 ≡ sum .0 + x .0) ⌝ }
+{
+    MemoryUnits(more(sum.0, x.0))
+}
+
+// The same of load.
+fn more_load(sum: LoadUnits, x: LoadUnits) -> LoadUnits
+    ensures { λ r. ⌜ (sum .0 ≤ 2 ^ 60 → x .0 ≤ 2 ^ 60 → r .0 ≡ sum .0 + x .0) ⌝ }
+{
+    LoadUnits(more(sum.0, x.0))
+}
+
 // Whether every sum of a bucket leaves room.
 pub fn has_room(b: Bucket) -> bool
     ensures { λ r. ⌜ Tells r (Within b (2 ^ 60)) ⌝ }
@@ -66,16 +82,16 @@ pub fn has_room(b: Bucket) -> bool
     if ROOM < b.volume {
         return false;
     }
-    if ROOM < b.retention {
+    if ROOM < b.retention.0 {
         return false;
     }
-    if ROOM < b.swap {
+    if ROOM < b.swap.0 {
         return false;
     }
-    if ROOM < b.retentionz {
+    if ROOM < b.retentionz.0 {
         return false;
     }
-    if ROOM < b.swapz {
+    if ROOM < b.swapz.0 {
         return false;
     }
     true
@@ -114,10 +130,10 @@ fn join(x: Bucket, y: Bucket) -> Bucket
     Bucket {
         count: more(x.count, y.count),
         volume: more(x.volume, y.volume),
-        retention: more(x.retention, y.retention),
-        swap: more(x.swap, y.swap),
-        retentionz: more(x.retentionz, y.retentionz),
-        swapz: more(x.swapz, y.swapz),
+        retention: more_memory(x.retention, y.retention),
+        swap: more_load(x.swap, y.swap),
+        retentionz: more_memory(x.retentionz, y.retentionz),
+        swapz: more_load(x.swapz, y.swapz),
     }
 }
 
@@ -129,10 +145,10 @@ pub fn sum_first(buckets: [Bucket; Tally::BUCKETS], n: usize) -> Bucket
     let mut all = Bucket {
         count: 0,
         volume: 0,
-        retention: 0,
-        swap: 0,
-        retentionz: 0,
-        swapz: 0,
+        retention: MemoryUnits(0),
+        swap: LoadUnits(0),
+        retentionz: MemoryUnits(0),
+        swapz: LoadUnits(0),
     };
     for k in 0..n {
         let b = buckets[k];
@@ -142,17 +158,12 @@ pub fn sum_first(buckets: [Bucket; Tally::BUCKETS], n: usize) -> Bucket
 }
 
 // The sums of all buckets with the swap costs of the warm segments, where both leave room; else as they were.
-pub fn with_start(b: Bucket, start: StartSwaps) -> Bucket
-    ensures { λ r. ⌜ (Holds mostItems (withStart (start .swap) (start .swapz) b) → r ≡ withStart (start .swap) (start .swapz) b) ⌝ }
+pub fn with_start(mut b: Bucket, start: StartSwaps) -> Bucket
+    ensures { λ r. ⌜ (Holds mostItems (withStart start b) → r ≡ withStart start b) ⌝ }
 {
-    Bucket {
-        count: b.count,
-        volume: b.volume,
-        retention: b.retention,
-        swap: more(b.swap, start.swap),
-        retentionz: b.retentionz,
-        swapz: more(b.swapz, start.swapz),
-    }
+    b.swap = more_load(b.swap, start.swap);
+    b.swapz = more_load(b.swapz, start.swapz);
+    b
 }
 
 // Whether a bucket can be one of n items.
@@ -166,16 +177,16 @@ pub fn holds(b: Bucket, n: u64) -> bool
     if n * Recorder::MAX_SIZE < b.volume {
         return false;
     }
-    if n * RETENTION < b.retention {
+    if n * RETENTION < b.retention.0 {
         return false;
     }
-    if n * SWAP < b.swap {
+    if n * SWAP < b.swap.0 {
         return false;
     }
-    if n * RETENTIONZ < b.retentionz {
+    if n * RETENTIONZ < b.retentionz.0 {
         return false;
     }
-    if n * SWAPZ < b.swapz {
+    if n * SWAPZ < b.swapz.0 {
         return false;
     }
     true
@@ -192,10 +203,10 @@ pub fn within(all: Bucket, kept: Bucket, ends: Bucket) -> bool
     if all.volume < kept.volume {
         return false;
     }
-    if all.swap < kept.swap + ends.swap {
+    if all.swap.0 < kept.swap.0 + ends.swap.0 {
         return false;
     }
-    if all.swapz < kept.swapz + ends.swapz {
+    if all.swapz.0 < kept.swapz.0 + ends.swapz.0 {
         return false;
     }
     true

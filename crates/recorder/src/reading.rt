@@ -4,6 +4,7 @@
 use crate::Recorder;
 use buckets::Bucket;
 use buckets::Tally;
+use model::MemoryUnits;
 use model::RowFigures;
 ghost use mathlib.Core.Path.{_≡_};
 ghost use Prim.Native.Nat.{_+_, _<_, min};
@@ -50,7 +51,7 @@ pub fn row_now(recorder: Recorder, row: usize) -> RowFigures
         head.a,
         prices[row],
         recorder.steps,
-        recorder.cost,
+        MemoryUnits(recorder.cost),
         recorder.volume,
         all,
         kept,

@@ -5,6 +5,7 @@ use buckets::Bucket;
 use figures::rows::StartSwaps;
 use model::Head;
 use model::Kind;
+use model::MemoryUnits;
 use model::PriceRow;
 use model::RowFigures;
 ghost use mathlib.Core.Path.{_≡_};
@@ -19,24 +20,24 @@ const OCCUPANCY: u64 = 9_007_199_254_740_992;
 fn occupancy(
     kind: Kind,
     row: PriceRow,
-    cost: u64,
+    cost: MemoryUnits,
     volume: u64,
     all: Bucket,
     kept: Bucket,
     ends: Bucket,
 ) -> u64
-    requires { ⌜ Summable cost volume all kept ends ⌝ }
-    ensures { λ r. ⌜ r ≡ wsoccFrom kind row cost volume all kept ends ⌝ }
+    requires { ⌜ Summable (cost .0) volume all kept ends ⌝ }
+    ensures { λ r. ⌜ r ≡ wsoccFrom kind row (cost .0) volume all kept ends ⌝ }
 {
     let set = figures::row_sums::working_set(row, cost, volume, all, kept, ends);
     figures::row_sums::by_kind(kind, set.space, set.memory)
 }
 
 // Whether the sums are such that an occupancy can be made of them.
-fn summable(cost: u64, volume: u64, all: Bucket, kept: Bucket, ends: Bucket) -> bool
-    ensures { λ r. ⌜ Tells r (Summable cost volume all kept ends) ⌝ }
+fn summable(cost: MemoryUnits, volume: u64, all: Bucket, kept: Bucket, ends: Bucket) -> bool
+    ensures { λ r. ⌜ Tells r (Summable (cost .0) volume all kept ends) ⌝ }
 {
-    if crate::guards::RETENTION < cost {
+    if crate::guards::RETENTION < cost.0 {
         return false;
     }
     if crate::guards::RETENTION < volume {
@@ -60,13 +61,14 @@ pub fn row_of(
     a: u8,
     row: PriceRow,
     steps: usize,
-    cost: u64,
+    cost: MemoryUnits,
     volume: u64,
     all: Bucket,
     kept: Bucket,
     ends: Bucket,
 ) -> RowFigures
-    ensures { λ r. ⌜ (RowFits kind row steps cost volume all kept ends → r ≡ rowFrom kind a row steps cost volume all kept ends) ⌝ }
+    ensures { λ r.
+        ⌜ (RowFits kind row steps (cost .0) volume all kept ends → r ≡ rowFrom kind a row steps (cost .0) volume all kept ends) ⌝ }
 {
     if Recorder::MAX_STEPS < steps {
         return RowFigures::zero();

@@ -35,7 +35,7 @@ pub fn take_one(mut recorder: Recorder, segment: usize) -> Recorder
     recorder.buckets[k] = crate::guards::file(b, x);
     recorder.last[segment] = (t + 1) as u16;
     recorder.steps = t + 1;
-    recorder.cost = crate::guards::more(recorder.cost, model::unit_cost(kind, z));
+    recorder.cost = crate::guards::more(recorder.cost, model::unit_cost(kind, z).0);
     recorder.volume = crate::guards::more(recorder.volume, crate::guards::wide(z));
     recorder
 }

@@ -46,7 +46,7 @@ module _ (T : Trace) (marks : ℕ → Bool) (row : PriceRow) (ok : RunWithin T) 
     -- a touch of segment i
     pub adding-touch : (i : ℕ) (x : Touched) → i ≡ getD (T .entries) t 0 → i < segs T
         → x ≡ touchBy (T .kind) (T .a) row (sizeOf T i) (getD last i 0) (getD since i 0) t (marks t)
-        → Adding T marks row (set last i (t + 1)) (set since i (x .since)) (total + x .added) (t + 1)
+        → Adding T marks row (set last i (t + 1)) (set since i (x .since)) (total + x .added .0) (t + 1)
     adding-touch i x ei li ex =
         let told = tables-told T marks row ok last since t (v .tables) lt i x li ex in
         let e : entry T t ≡ i = entry-ref T t lt ∙ sym ei in
@@ -73,7 +73,7 @@ module _ (T : Trace) (marks : ℕ → Bool) (row : PriceRow) (ok : RunWithin T) 
 
     -- what is added next does not pass 64 bits
     pub adding-small : (i : ℕ) (x : Touched) → i ≡ getD (T .entries) t 0 → i < segs T → (row .h < 2 ^ 16) × (row .d < 2 ^ 16)
-        → x ≡ touchBy (T .kind) (T .a) row (sizeOf T i) (getD last i 0) (getD since i 0) t (marks t) → total + x .added < 2 ^ 64
+        → x ≡ touchBy (T .kind) (T .a) row (sizeOf T i) (getD last i 0) (getD since i 0) t (marks t) → total + x .added .0 < 2 ^ 64
     adding-small i x ei li prices ex =
         let most = added-within T ok marks (row .h) (row .d) (omega (arith, prices .0)) (t + 1) in
         omega (arith, adding-touch i x ei li ex .total-is, most, ok .steps-within)

@@ -62,7 +62,7 @@ pub record Tables (T : Trace) (marks : ℕ → Bool) (row : PriceRow) (last sinc
 -- what a touch of segment i in the step at place t gives
 pub record Told (T : Trace) (marks : ℕ → Bool) (row : PriceRow) (t i : ℕ) (x : Touched) : Type 0 where
   pub since-is : x .since ≡ codeAfter (marks t) (codeOf (sinceThrough T marks (row .h) (row .d) t i))
-  pub added-is : x .added ≡ cond (marks t) (storeCost T marks (row .h) (row .d) t i) 0
+  pub added-is : x .added .0 ≡ cond (marks t) (storeCost T marks (row .h) (row .d) t i) 0
   pub kept-is : x .kept ≡ kept T (row .h) (row .d) t i
   pub joined-is : x .joined ≡ joinsBefore T marks (row .h) (row .d) t i
 

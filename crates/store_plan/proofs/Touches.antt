@@ -1,6 +1,6 @@
 -- One touch of a pass: its excess is small, and what the two numbers of its segment tell is what the definitions say. Assumes nothing.
 use Prim.Native.Nat.{ℕ, suc, _-_, _*_, _^_, _<_}
-use mathlib.Core.Path.{_≡_, refl}
+use mathlib.Core.Path.{_≡_, refl, ap}
 use mathlib.Core.Bool.{Bool, true, false, cond}
 use mathlib.Core.Option.{Option, none, some}
 use native.Mathlib.Omega.{arith}
@@ -12,11 +12,16 @@ use Rattle.model.specs.Figures.{ofTime, isReuse, kept}
 use Rattle.model.specs.LastTouches.{lastTable}
 use Rattle.model.specs.Traces.{Trace, sizeOf, swapOf}
 use Rattle.model.specs.declared.Kind.{Kind}
+use Rattle.model.specs.declared.Priced.{Priced}
 use Rattle.model.specs.declared.PriceRow.{PriceRow}
 use Rattle.model.proofs.Bounds.{product-within, retention-within}
 use Rattle.model.proofs.LastTouches.{last-time}
 use Rattle.stores.specs.Modtotal.{excess, plus, orStore, joins}
 use Rattle.store_plan.specs.inner.Touches.{codeOf, excessBy, keptBy, codePlus, codeAfter, storeBy, joinsBy}
+
+-- a priced amount is its number
+pub priced-is : {u : Priced} {n : ℕ} → u .0 ≡ n → u ≡ record { 0 = n }
+priced-is e = ap {B = Priced} (λ n. record { 0 = n }) e
 
 -- an excess of 16-bit numbers
 pub excess-small : (kind : Kind) (a : ℕ) (row : PriceRow) (z mark t : ℕ) → z < 2 ^ 16 → t < 2 ^ 16 → row .d < 2 ^ 16

@@ -35,7 +35,7 @@ pub fn stores(
         if i < sizes.len() {
             let z = sizes[i];
             let x = touch(kind, a, row, z, last[i], since[i], t as u16, marks[t]);
-            total += x.added;
+            total += x.added.0;
             since[i] = x.since;
             t += 1;
             last[i] = t as u16;

@@ -44,16 +44,16 @@ fn modified(schedule: &[u8], steps: usize, i: usize, flag: bool) -> bool
 }
 
 // What a touch of a segment of size z stores: w where it modifies a segment that was not modified.
-fn stored(a: u8, z: u16, marked: bool, modified: bool) -> u64
-    ensures { λ r. ⌜ r ≡ cond (marked && not modified) (swapCost a z) 0 ⌝ }
+fn stored(a: u8, z: u16, marked: bool, modified: bool) -> LoadUnits
+    ensures { λ r. ⌜ r .0 ≡ cond (marked && not modified) (swapCost a z) 0 ⌝ }
 {
     if modified {
-        return 0;
+        return LoadUnits(0);
     }
     if marked {
-        return model::swap_cost(a, z).0;
+        return model::swap_cost(a, z);
     }
-    0
+    LoadUnits(0)
 }
 
 // Whether a segment is modified after a touch.
@@ -73,18 +73,18 @@ pub fn stored_load(a: u8, sizes: &[u16], refs: &[u16], marks: &[bool], schedule:
     ensures { λ r. ⌜ r .0 < 2 ^ 44 ⌝ }
 {
     let mut flags = no_flags();
-    let mut load: u64 = 0;
+    let mut load = LoadUnits(0);
     let mut t: usize = 0;
     while t < refs.len() {
         let i = refs[t] as usize;
         if i < sizes.len() {
             let m = modified(schedule, t, i, flags[i]);
-            load += stored(a, sizes[i], marks[t], m);
+            load = load.plus(stored(a, sizes[i], marks[t], m));
             flags[i] = flag(marks[t], m);
             t += 1;
         } else {
             t += 1;
         }
     }
-    LoadUnits(load)
+    load
 }

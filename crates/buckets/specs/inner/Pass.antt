@@ -59,10 +59,10 @@ withTouch b x =
     record {
       count = b .count + 1;
       volume = b .volume + x .size;
-      retention = b .retention + x .costs .retention .0;
-      swap = b .swap + x .costs .swap .0;
-      retentionz = b .retentionz + x .costs .retention .0 * x .size;
-      swapz = b .swapz + x .costs .swap .0 * x .size;
+      retention = record { 0 = b .retention .0 + x .costs .retention .0 };
+      swap = record { 0 = b .swap .0 + x .costs .swap .0 };
+      retentionz = record { 0 = b .retentionz .0 + x .costs .retention .0 * x .size };
+      swapz = record { 0 = b .swapz .0 + x .costs .swap .0 * x .size };
     }
 
 -- a bucket with one more end interval; a segment that never counts as touched has none
@@ -73,10 +73,10 @@ withEnd b x = cond (x .reuse) (withTouch b x) b
 pub record Within (b : Bucket) (m : ℕ) : Type 0 where
   pub count : b .count ≤ m
   pub volume : b .volume ≤ m
-  pub retention : b .retention ≤ m
-  pub swap : b .swap ≤ m
-  pub retentionz : b .retentionz ≤ m
-  pub swapz : b .swapz ≤ m
+  pub retention : b .retention .0 ≤ m
+  pub swap : b .swap .0 ≤ m
+  pub retentionz : b .retentionz .0 ≤ m
+  pub swapz : b .swapz .0 ≤ m
 
 -- every sum of every bucket is within m
 pub record Roomy (buckets : List Bucket) (m : ℕ) : Type 0 where

@@ -24,12 +24,12 @@ byKind Space x y = y
 -- wsmem: d × R of what is kept and h × w of the rest. The end intervals have the swap costs of the first touches and of the warm segments
 abbrev pub wsmemFrom : PriceRow → ℕ → Bucket → Bucket → Bucket → ℕ
 wsmemFrom row cost all kept ends =
-    totalCost (row .h) (row .d) (cost + kept .retention + ends .retention) (all .swap - kept .swap - ends .swap)
+    totalCost (row .h) (row .d) (cost + kept .retention .0 + ends .retention .0) (all .swap .0 - kept .swap .0 - ends .swap .0)
 
 -- the same with each item multiplied by z
 abbrev pub wsspaceFrom : PriceRow → ℕ → Bucket → Bucket → Bucket → ℕ
 wsspaceFrom row volume all kept ends =
-    totalCost (row .h) (row .d) (volume + kept .retentionz + ends .retentionz) (all .swapz - kept .swapz - ends .swapz)
+    totalCost (row .h) (row .d) (volume + kept .retentionz .0 + ends .retentionz .0) (all .swapz .0 - kept .swapz .0 - ends .swapz .0)
 
 -- wsocc: as wsmem for kind space
 abbrev pub wsoccFrom : Kind → PriceRow → ℕ → ℕ → Bucket → Bucket → Bucket → ℕ
@@ -48,9 +48,9 @@ rowFrom kind a row refs cost volume all kept ends =
       misses = all .count - kept .count;
       volume = all .volume - kept .volume;
       load = record { 0 = loadFrom a all kept };
-      optmem = record { 0 = cost + kept .retention };
-      opttotal = totalCost (row .h) (row .d) (cost + kept .retention) (loadFrom a all kept);
-      optocc = volume + byKind kind (kept .retentionz) (kept .retention);
+      optmem = record { 0 = cost + kept .retention .0 };
+      opttotal = totalCost (row .h) (row .d) (cost + kept .retention .0) (loadFrom a all kept);
+      optocc = volume + byKind kind (kept .retentionz .0) (kept .retention .0);
       wsmem = wsmemFrom row cost all kept ends;
       wsocc = wsoccFrom kind row cost volume all kept ends;
       mean = meanFrom refs (row .d) (wsoccFrom kind row cost volume all kept ends);
@@ -67,17 +67,17 @@ retentionBound = mostSteps * largestSize
 pub record Holds (n : ℕ) (b : Bucket) : Type 0 where
   pub counts : b .count ≤ n
   pub volumes : b .volume ≤ n * largestSize
-  pub retentions : b .retention ≤ n * retentionBound
-  pub swaps : b .swap ≤ n * largestSwap
-  pub retentionzs : b .retentionz ≤ n * (retentionBound * largestSize)
-  pub swapzs : b .swapz ≤ n * (largestSwap * largestSize)
+  pub retentions : b .retention .0 ≤ n * retentionBound
+  pub swaps : b .swap .0 ≤ n * largestSwap
+  pub retentionzs : b .retentionz .0 ≤ n * (retentionBound * largestSize)
+  pub swapzs : b .swapz .0 ≤ n * (largestSwap * largestSize)
 
 -- what is kept is within the whole: of the swap costs, also together with the end intervals that are kept
 pub record KeptWithin (all kept ends : Bucket) : Type 0 where
   pub counts : kept .count ≤ all .count
   pub volumes : kept .volume ≤ all .volume
-  pub swaps : kept .swap + ends .swap ≤ all .swap
-  pub swapzs : kept .swapz + ends .swapz ≤ all .swapz
+  pub swaps : kept .swap .0 + ends .swap .0 ≤ all .swap .0
+  pub swapzs : kept .swapz .0 + ends .swapz .0 ≤ all .swapz .0
 
 -- the most items of all buckets: the touches, and the warm segments
 abbrev pub mostItems : ℕ

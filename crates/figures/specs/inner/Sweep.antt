@@ -22,10 +22,10 @@ added x y =
     record {
       count = x .count + y .count;
       volume = x .volume + y .volume;
-      retention = x .retention + y .retention;
-      swap = x .swap + y .swap;
-      retentionz = x .retentionz + y .retentionz;
-      swapz = x .swapz + y .swapz;
+      retention = record { 0 = x .retention .0 + y .retention .0 };
+      swap = record { 0 = x .swap .0 + y .swap .0 };
+      retentionz = record { 0 = x .retentionz .0 + y .retentionz .0 };
+      swapz = record { 0 = x .swapz .0 + y .swapz .0 };
     }
 
 -- the first n buckets of a list, added
@@ -34,10 +34,10 @@ summed bs n =
     record {
       count = sum n (λ k. getD bs k noBucket .count);
       volume = sum n (λ k. getD bs k noBucket .volume);
-      retention = sum n (λ k. getD bs k noBucket .retention);
-      swap = sum n (λ k. getD bs k noBucket .swap);
-      retentionz = sum n (λ k. getD bs k noBucket .retentionz);
-      swapz = sum n (λ k. getD bs k noBucket .swapz);
+      retention = record { 0 = sum n (λ k. getD bs k noBucket .retention .0) };
+      swap = record { 0 = sum n (λ k. getD bs k noBucket .swap .0) };
+      retentionz = record { 0 = sum n (λ k. getD bs k noBucket .retentionz .0) };
+      swapz = record { 0 = sum n (λ k. getD bs k noBucket .swapz .0) };
     }
 
 -- the sum of g i over the first n segments i that are warm
@@ -48,8 +48,8 @@ warmSum warm n g = sum n (λ i. cond (listed warm i) (g i) 0)
 unfoldable pub swapsUpTo : ℕ → List ℕ → List ℕ → ℕ → StartSwaps
 swapsUpTo a sizes warm n =
     record {
-      swap = warmSum warm n (λ i. swapCost a (getD sizes i 0));
-      swapz = warmSum warm n (λ i. swapCost a (getD sizes i 0) * getD sizes i 0);
+      swap = record { 0 = warmSum warm n (λ i. swapCost a (getD sizes i 0)) };
+      swapz = record { 0 = warmSum warm n (λ i. swapCost a (getD sizes i 0) * getD sizes i 0) };
     }
 
 -- those of all warm segments
@@ -57,15 +57,15 @@ abbrev pub startSwaps : ℕ → List ℕ → List ℕ → StartSwaps
 startSwaps a sizes warm = swapsUpTo a sizes warm (length sizes)
 
 -- a bucket with the swap costs of the start set, also multiplied by z; they are no touches
-abbrev pub withStart : ℕ → ℕ → Bucket → Bucket
-withStart swap swapz b =
+abbrev pub withStart : StartSwaps → Bucket → Bucket
+withStart start b =
     record {
       count = b .count;
       volume = b .volume;
       retention = b .retention;
-      swap = b .swap + swap;
+      swap = record { 0 = b .swap .0 + start .swap .0 };
       retentionz = b .retentionz;
-      swapz = b .swapz + swapz;
+      swapz = record { 0 = b .swapz .0 + start .swapz .0 };
     }
 
 -- no row has figures yet

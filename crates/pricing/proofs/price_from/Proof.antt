@@ -60,15 +60,16 @@ loop-again c =
 
 total-requires : tie.Need-total-requires Inv-loop μ-loop
 total-requires c κs =
-    let start = c .before .before .before .before .before .before .before .before in
+    let l = c .before .before .before in
+    let start = l .before .before .before .before .before .before .before in
     let within =
-    through-within _ (start .pre .0) _ _ _ (omega (arith, start .pre .0 .steps-within)) (c .before .loop .inv .1) in
+    through-within _ (start .pre .0) _ _ _ (omega (arith, start .pre .0 .steps-within)) (l .loop .inv .1) in
     (omega (arith, within .1), omega (arith, within .2))
 
 returns-3 : tie.Need-returns-3 Inv-loop μ-loop
 returns-3 c =
-    through-all _ _ _ _ _ _ _ (c .before .before .before .before .if1 .left) (c .before .before .loop .inv .1) (omega arith)
-    (c .total .ensures)
+    let l = c .before .before .before .before in
+    through-all _ _ _ _ _ _ _ (l .before .before .if1 .left) (l .loop .inv .1) (omega arith) (c .total .ensures)
 
 pub price-from-spec : {M : Type 1} → statement M
 price-from-spec =

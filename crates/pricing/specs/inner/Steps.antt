@@ -39,9 +39,9 @@ loadThrough T p n = sum n (touching T (λ t i. cond (held T p t i) 0 (swapOf T i
 -- the first n steps are accepted, and these are the cost for one step of what is held after them, their memory and their load
 pub record Through (T : Trace) (p : List ℕ) (n : ℕ) (c : Costs) : Type 0 where
   pub accepted : stepsVerdict T p n ≡ Accepted
-  pub held-cost : c .held ≡ heldCost T p n
-  pub memory-cost : c .memory ≡ memoryThrough T p n
-  pub load-cost : c .load ≡ loadThrough T p n
+  pub held-cost : c .held .0 ≡ heldCost T p n
+  pub memory-cost : c .memory .0 ≡ memoryThrough T p n
+  pub load-cost : c .load .0 ≡ loadThrough T p n
 
 -- one step more, at place t: the fault of that step, or the costs with it
 abbrev pub After : Trace → List ℕ → ℕ → Stepped → Type 0

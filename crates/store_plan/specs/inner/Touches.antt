@@ -54,7 +54,7 @@ joinsBy hw s = cond (eqb s 0) false (keeps (s - 1) hw)
 -- all that a touch gives, where s is the number with its excess
 abbrev pub touchWith : Bool → ℕ → ℕ → ℕ → ℕ → ℕ → Touched
 touchWith marked hw mark t x s =
-    record { since = codeAfter marked s; added = storeBy marked hw s; kept = keptBy mark t x; joined = joinsBy hw s }
+    record { since = codeAfter marked s; added = record { 0 = storeBy marked hw s }; kept = keptBy mark t x; joined = joinsBy hw s }
 
 abbrev pub touchBy : Kind → ℕ → PriceRow → ℕ → ℕ → ℕ → ℕ → Bool → Touched
 touchBy kind a row z mark since t marked =

@@ -12,7 +12,7 @@ ghost use Rattle.store_plan.specs.inner.Touches.{codePlus, codeAfter, st
 // whether it is a kept reuse; and whether, modifying, it belongs to the stay of the modifying touch before.
 pub struct Touched {
     pub since: u64,
-    pub added: u64,
+    pub added: Priced,
     pub kept: bool,
     pub joined: bool,
 }
@@ -25,26 +25,26 @@ pub(crate) fn none_since() -> [u64; Sheet::MAX_SEGS]
 }
 
 // What holding a segment of size z, with that mark in the table of last touches, for a touch after so many steps costs beyond a load.
-fn excess(kind: Kind, a: u8, row: PriceRow, z: u16, mark: u16, steps: u16) -> u64
-    ensures { λ r. ⌜ r ≡ excessBy kind a row z mark steps ⌝ }
+fn excess(kind: Kind, a: u8, row: PriceRow, z: u16, mark: u16, steps: u16) -> Priced
+    ensures { λ r. ⌜ r .0 ≡ excessBy kind a row z mark steps ⌝ }
 {
     if mark <= steps {
-        let held = model::retention_cost(kind, z, steps - mark).priced(row.d).0;
-        let load = model::swap_cost(a, z).priced(row.h).0;
-        if load < held {
-            return held - load;
+        let held = model::retention_cost(kind, z, steps - mark).priced(row.d);
+        let load = model::swap_cost(a, z).priced(row.h);
+        if load.0 < held.0 {
+            return Priced(held.0 - load.0);
         }
-        return 0;
+        return Priced(0);
     }
-    0
+    Priced(0)
 }
 
 // The excess with x more, where there is one.
-fn plus(since: u64, x: u64) -> u64
-    requires { ⌜ (since < 2 ^ 62) × (x < 2 ^ 62) ⌝ }
-    ensures { λ r. ⌜ r ≡ codePlus since x ⌝ }
+fn plus(since: u64, x: Priced) -> u64
+    requires { ⌜ (since < 2 ^ 62) × (x .0 < 2 ^ 62) ⌝ }
+    ensures { λ r. ⌜ r ≡ codePlus since (x .0) ⌝ }
 {
-    if since == 0 { 0 } else { since + x }
+    if since == 0 { 0 } else { since + x.0 }
 }
 
 // The excess after a touch.
@@ -55,37 +55,37 @@ fn after(marked: bool, since: u64) -> u64
 }
 
 // What a touch adds to opttotal, where a store costs so much.
-fn added(marked: bool, store: u64, since: u64) -> u64
-    ensures { λ r. ⌜ r ≡ storeBy marked store since ⌝ }
+fn added(marked: bool, store: Priced, since: u64) -> Priced
+    ensures { λ r. ⌜ r .0 ≡ storeBy marked (store .0) since ⌝ }
 {
     if marked {
         if since == 0 {
             return store;
         }
-        if store < since - 1 {
+        if store.0 < since - 1 {
             return store;
         }
-        return since - 1;
+        return Priced(since - 1);
     }
-    0
+    Priced(0)
 }
 
 // Whether a modifying touch belongs to the stay of the one before.
-fn joins(store: u64, since: u64) -> bool
-    ensures { λ r. ⌜ r ≡ joinsBy store since ⌝ }
+fn joins(store: Priced, since: u64) -> bool
+    ensures { λ r. ⌜ r ≡ joinsBy (store .0) since ⌝ }
 {
     if since == 0 {
         return false;
     }
-    model::kept(Priced(since - 1), Priced(store))
+    model::kept(Priced(since - 1), store)
 }
 
 // Whether a touch after so many steps, of a segment with that mark in the table of last touches, is a kept reuse: it has no excess.
-fn kept(mark: u16, steps: u16, x: u64) -> bool
-    ensures { λ r. ⌜ r ≡ keptBy mark steps x ⌝ }
+fn kept(mark: u16, steps: u16, x: Priced) -> bool
+    ensures { λ r. ⌜ r ≡ keptBy mark steps (x .0) ⌝ }
 {
     if mark <= steps {
-        return x == 0;
+        return x.0 == 0;
     }
     false
 }
@@ -105,7 +105,7 @@ pub(crate) fn touch(
     ensures { λ r. ⌜ r ≡ touchBy kind a row z mark since steps marked ⌝ }
 {
     let x = excess(kind, a, row, z, mark, steps);
-    let store = model::swap_cost(a, z).priced(row.h).0;
+    let store = model::swap_cost(a, z).priced(row.h);
     let s = plus(since, x);
     Touched {
         since: after(marked, s),

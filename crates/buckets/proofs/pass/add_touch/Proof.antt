@@ -1,31 +1,51 @@
 -- `pass::add_touch` meets its contract: the sums and products are within their bounds. Assumes nothing.
 use borrow.Author.Needs.{needs}
-use Prim.Native.Nat.{_*_, _^_, _≤_}
+use Prim.Native.Nat.{_^_}
 use native.Mathlib.Omega.{arith}
 use Rattle.model.proofs.Bounds.{product-within}
+use Rattle.model.proofs.Units.{memory-is, load-is}
 use Rattle.buckets.proofs.pass.add_touch.Statement.{statement}
 use Rattle.buckets.proofs.pass.add_touch.Tie as tie
 
-products : (c : tie.Start) → (c .args .x .costs .retention .0 * c .args .x .size ≤ 2 ^ 48) × (c .args .x .costs .swap .0 * c .args .x .size ≤ 2 ^ 48)
-products c =
-    let x = c .args .x in (
+-- the function's entry
+abbrev start : tie.After-plus2 → tie.Start
+start c = c .before .before .before .before .before .before .before
+
+plus-requires-3 : tie.Need-plus-requires-3
+plus-requires-3 c κs =
+    let s = start (c .before) in
+    let x = s .args .x in
+    omega (
+      arith,
+      s .pre,
+      c .times .ensures,
       product-within (x .costs .retention .0) (x .size) (2 ^ 32) (2 ^ 16) (omega arith) (omega arith),
+    )
+
+plus-requires-4 : tie.Need-plus-requires-4
+plus-requires-4 c κs =
+    let s = start (c .before .before .before) in
+    let x = s .args .x in
+    omega (
+      arith,
+      s .pre,
+      c .times2 .ensures,
       product-within (x .costs .swap .0) (x .size) (2 ^ 32) (2 ^ 16) (omega arith) (omega arith),
     )
 
-mul-t10 : tie.Need-mul-t10
-mul-t10 c = let s = c .before .before .before .before .before in omega (arith, products s)
-
-add-t11 : tie.Need-add-t11
-add-t11 c = let s = c .before .before .before .before .before .before in omega (arith, products s, s .pre)
-
-mul-t12 : tie.Need-mul-t12
-mul-t12 c = let s = c .before .before .before .before .before .before in omega (arith, products s)
-
-add-t13 : tie.Need-add-t13
-add-t13 c = let s = c .before .before .before .before .before .before .before in omega (arith, products s, s .pre)
+returns : tie.Need-returns
+returns c =
+    let t = c .before .before in
+    rw (
+      load-is (c .plus4 .ensures),
+      c .before .times2 .ensures,
+      memory-is (t .plus3 .ensures),
+      t .before .times .ensures,
+      load-is (t .before .before .plus2 .ensures),
+      memory-is (t .before .before .before .plus .ensures),
+    )
 
 pub add-touch-spec : {M : Type 1} → statement M
 add-touch-spec =
-    tie.close (tie.spec (λ c. search needs) (λ c. search needs) (λ c. search needs) (λ c. search needs)
-    (λ c. search needs) mul-t10 add-t11 mul-t12 add-t13 (λ c. search needs))
+    tie.close (tie.spec (λ c. search needs) (λ c. search needs) (λ c. search needs) (λ c κs. search needs)
+    (λ c κs. search needs) (λ c κs. search needs) plus-requires-3 (λ c κs. search needs) plus-requires-4 returns)

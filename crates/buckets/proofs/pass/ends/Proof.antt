@@ -52,10 +52,17 @@ add-end-requires c κs =
     let l = d .before .before .before .before in
     (omega (arith, l .before .loop .inv .1 .each _ (d .bucket-of .ensures .0), l .loop-test .taken, entry l .pre .1 .0), touch-limited d)
 
+-- the turn of the loop
+abbrev turn : tie.After-add-end Inv-loop μ-loop → tie.In-loop Inv-loop μ-loop
+turn c = c .before .before .before .before .before .before
+
+add-i : tie.Need-add-i Inv-loop μ-loop
+add-i c = omega (arith, turn c .loop-test .taken, entry (turn c) .pre .1 .0)
+
 loop-again : tie.Need-loop-again Inv-loop μ-loop
 loop-again c =
     let d = c .before .before in
-    let l = d .before .before .before .before in
+    let l = turn c in
     let s = entry l in
     let here = l .loop-test .taken in
     let i = l .before .loop .i in
@@ -92,7 +99,7 @@ ends-spec =
     add-end-requires
     (λ c. search needs)
     (λ c. search needs)
-    (λ c. search needs)
+    add-i
     (λ c. search needs)
     loop-again
     returns)

@@ -1,12 +1,11 @@
 -- `figures::row_sums::row_figures` meets its contract: each item is what the callee says, and the sums fit as `RowFits` says.
 -- Assumes nothing.
 use Prim.Native.Nat.{_-_, _^_}
-use mathlib.Core.Path.{_≡_, ap}
 use native.Mathlib.Omega.{arith}
 use borrow.Author.Needs.{needs}
-use Rattle.model.specs.declared.LoadUnits.{LoadUnits}
 use Rattle.model.proofs.Bounds.{product-within}
-use Rattle.figures.specs.inner.OneRow.{rowFrom, loadFrom}
+use Rattle.model.proofs.Units.{memory-is, load-is}
+use Rattle.figures.specs.inner.OneRow.{rowFrom}
 use Rattle.figures.proofs.ByKind.{byKind-within}
 use Rattle.figures.proofs.row_sums.row_figures.Statement.{statement}
 use Rattle.figures.proofs.row_sums.row_figures.Tie as tie
@@ -26,6 +25,7 @@ total-requires c κs =
     omega (
       arith,
       s .pre,
+      c .before .before .before .before .before .plus .ensures,
       c .before .before .before .before .before .before .load-of .ensures,
       product-within (s .args .a) missed (2 ^ 8) (2 ^ 24) (omega (arith, s)) (omega (arith, s .pre)),
     )
@@ -38,24 +38,21 @@ add-t21 c =
       arith,
       s .pre,
       c .by-kind2 .ensures,
-      byKind-within (s .args .kind) (k .retentionz) (k .retention) (2 ^ 46) (omega (arith, s .pre)) (omega (arith, s .pre)),
+      byKind-within (s .args .kind) (k .retentionz .0) (k .retention .0) (2 ^ 46) (omega (arith, s .pre)) (omega (arith, s .pre)),
     )
 
 returns : tie.Need-returns
 unfolding rowFrom
 returns c =
     let s = c .before .before .before .before .before .before .before .before .before .before .before .before .before in
-    let l = c .before .before .before .before .before .before .before .before .load-of in
-    let loads : l .result ≡ record { 0 = loadFrom (s .args .a) (s .args .all) (s .args .kept) } =
-    ap {B = LoadUnits} (λ n. record { 0 = n }) (l .ensures)
-    in
     rw (
       c .by-kind2 .ensures,
       c .before .total .ensures,
       c .before .before .before .before .mean .ensures,
       c .before .before .before .before .before .by-kind .ensures,
       c .before .before .before .before .before .before .working-set .ensures,
-      loads,
+      memory-is (c .before .before .before .before .before .before .before .plus .ensures),
+      load-is (c .before .before .before .before .before .before .before .before .load-of .ensures),
     )
 
 pub row-figures-spec : {M : Type 1} → statement M

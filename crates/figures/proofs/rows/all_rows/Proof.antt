@@ -64,7 +64,7 @@ start-swaps-requires c κs = c .before .before .before .before .before .before .
 
 -- the sums of all buckets with those of the warm segments
 all-from : (c : tie.After-start-swaps Inv-loop μ-loop)
-    → withStart (c .start-swaps .result .swap) (c .start-swaps .result .swapz) (c .before .add-up .result)
+    → withStart (c .start-swaps .result) (c .before .add-up .result)
     ≡ allFrom (list (first c)) (run (first c)) (first c .args .tally) (first c .pre .1)
 all-from c =
     let s = first c in

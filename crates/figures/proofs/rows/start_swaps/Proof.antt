@@ -14,7 +14,7 @@ use Rattle.figures.proofs.rows.start_swaps.Tie as tie
 
 abbrev Inv-loop : tie.InvT-loop
 Inv-loop a sizes warm swap₀ swapz₀ table i₀ swap swapz i =
-    (i ≤ length sizes) × (swap ≤ i * 2 ^ 25) × (swapz ≤ i * 2 ^ 41)
+    (i ≤ length sizes) × (swap .0 ≤ i * 2 ^ 25) × (swapz .0 ≤ i * 2 ^ 41)
     × (record { swap = swap; swapz = swapz } ≡ swapsUpTo a sizes warm i)
 
 abbrev μ-loop : tie.MeasureT-loop
@@ -50,30 +50,29 @@ size-fits : (c : tie.After-start-swap Inv-loop μ-loop) → getD (start (turn c)
 size-fits c = omega (arith, c .before .shared-slice-known3 .given (turn c .before .loop .i))
 
 adds-within : (c : tie.After-start-swap Inv-loop μ-loop)
-    → c .start-swap .result * getD (start (turn c) .args .sizes .now) (turn c .before .loop .i) 0 ≤ 2 ^ 25 * 2 ^ 16
+    → c .start-swap .result .0 * getD (start (turn c) .args .sizes .now) (turn c .before .loop .i) 0 ≤ 2 ^ 25 * 2 ^ 16
 adds-within c = product-within _ _ (2 ^ 25) (2 ^ 16) (omega (arith, c .start-swap .ensures .0)) (size-fits c)
 
-add-swap : tie.Need-add-swap Inv-loop μ-loop
-add-swap c = omega (arith, in-table (turn c), turn c .before .loop .inv .1, c .start-swap .ensures .0)
+plus-requires : tie.Need-plus-requires Inv-loop μ-loop
+plus-requires c κs = omega (arith, in-table (turn c), turn c .before .loop .inv .1, c .start-swap .ensures .0)
 
-cast-swapz : tie.Need-cast-swapz Inv-loop μ-loop
-cast-swapz c = omega (arith, size-fits c)
-
-mul-swapz : tie.Need-mul-swapz Inv-loop μ-loop
-mul-swapz c = omega (arith, adds-within c)
-
-add-swapz : tie.Need-add-swapz Inv-loop μ-loop
-add-swapz c = omega (arith, in-table (turn c), turn c .before .loop .inv .2, adds-within c)
+plus-requires-2 : tie.Need-plus-requires-2 Inv-loop μ-loop
+plus-requires-2 c κs =
+    let w = c .before .before in
+    omega (arith, in-table (turn w), turn w .before .loop .inv .2, c .times .ensures, adds-within w)
 
 loop-again : tie.Need-loop-again Inv-loop μ-loop
 loop-again c =
-    let l = turn c .before in
-    let s = start (turn c) in (
-      omega (arith, turn c .loop-test .taken),
-      omega (arith, l .loop .inv .1, c .start-swap .ensures .0),
-      omega (arith, l .loop .inv .2, adds-within c),
-      swaps-more (s .args .a) (s .args .sizes .now) (s .args .warm .now) (l .loop .i) (in-table (turn c)) (l .loop .swap) (l .loop .swapz) _
-          (l .loop .inv .3) (rw (← l .before .start-table .ensures) (c .start-swap .ensures .1)),
+    let x = c .before in
+    let w = x .before .before in
+    let l = turn w .before in
+    let s = start (turn w) in (
+      omega (arith, turn w .loop-test .taken),
+      omega (arith, l .loop .inv .1, w .start-swap .ensures .0, x .before .plus .ensures),
+      omega (arith, l .loop .inv .2, adds-within w, x .times .ensures, c .plus2 .ensures),
+      swaps-more (s .args .a) (s .args .sizes .now) (s .args .warm .now) (l .loop .i) (in-table (turn w)) (l .loop .inv .3)
+          (rw (← l .before .start-table .ensures) (w .start-swap .ensures .1)) (x .before .plus .ensures)
+          (omega (arith, x .times .ensures, c .plus2 .ensures)),
     )
 
 returns-2 : tie.Need-returns-2 Inv-loop μ-loop
@@ -93,10 +92,9 @@ start-swaps-spec =
     mul-start-swap
     array-read-start-swap
     (λ c κs. search needs)
-    add-swap
-    cast-swapz
-    mul-swapz
-    add-swapz
+    plus-requires
+    (λ c κs. search needs)
+    plus-requires-2
     (λ c. search needs)
     (λ c. search needs)
     loop-again

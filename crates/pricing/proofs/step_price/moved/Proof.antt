@@ -1,4 +1,7 @@
 -- `pricing::step_price::moved` meets its contract. Assumes nothing.
+use Prim.Native.Nat.{_≤_}
+use mathlib.Core.Path.{refl}
+use Rattle.model.specs.Costs.{unitCost}
 use Rattle.model.proofs.Bounds.{product-within, unit-within}
 use Rattle.pricing.proofs.StepCosts.{moved-kept, moved-loaded}
 use native.Mathlib.Omega.{arith}
@@ -6,52 +9,57 @@ use borrow.Author.Needs.{needs}
 use Rattle.pricing.proofs.step_price.moved.Statement.{statement}
 use Rattle.pricing.proofs.step_price.moved.Tie as tie
 
-sub-stay : tie.Need-sub-stay
-sub-stay c = omega (arith, rw (c .before .if1 .taken) at (c .before .before .pre .1))
+minus-requires : tie.Need-minus-requires
+minus-requires c κs = omega (arith, rw (c .if1 .taken) at (c .before .pre .1))
 
 returns : tie.Need-returns
-returns c = moved-kept _ _ _ _ _ (c .before .before .if1 .taken) (c .before .before .before .pre .1)
+returns c =
+    let m = c .before .before in
+    moved-kept _ _ _ _ _ _ (m .before .if1 .taken) (m .before .before .pre .1) (m .minus .ensures) (c .plus .ensures) refl
 
-add-held : tie.Need-add-held
-add-held c =
-    let s = c .before .before .before in
-    omega (arith, c .before .unit-cost .ensures, unit-within (s .args .kind) (s .args .z) 65535 (omega arith) (omega arith))
+-- the cost of the touched segment is small
+unit-small : (c : tie.After-unit-cost) → c .unit-cost .result .0 ≤ 65535
+unit-small c =
+    let a = c .before .before .args in
+    omega (arith, c .unit-cost .ensures, unit-within (a .kind) (a .z) 65535 (omega arith) (omega arith))
 
-sub-held : tie.Need-sub-held
-sub-held c = omega (arith, rw (c .before .before .if1 .left) at (c .before .before .before .pre .1))
+plus-requires-2 : tie.Need-plus-requires-2
+plus-requires-2 c κs = omega (arith, unit-small c)
 
-add-t11 : tie.Need-add-t11
-add-t11 c =
-    let s = c .before .before .before .before in
-    omega (arith, c .before .before .unit-cost .ensures, unit-within (s .args .kind) (s .args .z) 65535 (omega arith) (omega arith))
+minus-requires-2 : tie.Need-minus-requires-2
+minus-requires-2 c κs =
+    let u = c .before in
+    omega (arith, c .plus2 .ensures, u .unit-cost .ensures, rw (u .before .if1 .left) at (u .before .before .pre .1))
 
-add-t12 : tie.Need-add-t12
-add-t12 c =
-    let start = c .before .before .before .before .before .before .before in
-    omega (
-      arith,
-      c .before .before .swap-cost .ensures,
-      product-within (start .args .a) (start .args .z) 255 65535 (omega arith) (omega arith),
-    )
+plus-requires-3 : tie.Need-plus-requires-3
+plus-requires-3 c κs = let p = c .before in omega (arith, c .minus2 .ensures, p .plus2 .ensures, unit-small (p .before))
+
+plus-requires-4 : tie.Need-plus-requires-4
+plus-requires-4 c κs =
+    let s = c .before .before .before .before .before .before in
+    omega (arith, c .swap-cost .ensures, product-within (s .args .a) (s .args .z) 255 65535 (omega arith) (omega arith))
 
 returns-2 : tie.Need-returns-2
 returns-2 c =
-    let priced = c .before .before .before .before .before in
-    let start = priced .before .before in
-    moved-loaded _ _ _ _ _ _ _ (priced .before .if1 .left) (priced .unit-cost .ensures)
-    (c .before .before .swap-cost .ensures) (start .pre .1)
+    let w = c .before in
+    let m = w .before .before in
+    let p = m .before in
+    let u = p .before in
+    moved-loaded _ _ _ _ _ _ (u .before .if1 .left) (u .before .before .pre .1)
+    (omega (arith, m .minus2 .ensures, p .plus2 .ensures, u .unit-cost .ensures)) (w .before .plus3 .ensures)
+    (omega (arith, c .plus4 .ensures, w .swap-cost .ensures))
 
 pub moved-spec : {M : Type 1} → statement M
 moved-spec =
     tie.close
     (tie.spec
-    sub-stay
-    (λ c. search needs)
+    minus-requires
+    (λ c κs. search needs)
     returns
     (λ c κs. search needs)
-    add-held
-    sub-held
-    add-t11
+    plus-requires-2
+    minus-requires-2
+    plus-requires-3
     (λ c κs. search needs)
-    add-t12
+    plus-requires-4
     returns-2)

@@ -5,6 +5,9 @@ use Rattle.recorder.proofs.Telling.{tells-false}
 use Rattle.recorder.proofs.guards.within.Statement.{statement}
 use Rattle.recorder.proofs.guards.within.Tie as tie
 
+add-if4 : tie.Need-add-if4
+add-if4 c = omega (arith, c .before .before .before .before .before .before .before .before .before .before .before .before .pre)
+
 pub within-spec : {M : Type 1} → statement M
 within-spec =
     tie.close
@@ -13,6 +16,6 @@ within-spec =
     (λ c. tells-false (λ w. omega arith))
     (λ c. search needs)
     (λ c. tells-false (λ w. omega arith))
-    (λ c. search needs)
+    add-if4
     (λ c. tells-false (λ w. omega arith))
     (λ c. search needs))

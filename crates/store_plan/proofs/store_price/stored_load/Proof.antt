@@ -12,7 +12,7 @@ use Rattle.store_plan.proofs.store_price.stored_load.Statement.{stateme
 use Rattle.store_plan.proofs.store_price.stored_load.Tie as tie
 
 abbrev Inv-loop : tie.InvT-loop
-Inv-loop a sizes refs marks schedule flags₀ load₀ t₀ flags load t = Storing a sizes refs (marksOf marks) schedule flags load t
+Inv-loop a sizes refs marks schedule flags₀ load₀ t₀ flags load t = Storing a sizes refs (marksOf marks) schedule flags (load .0) t
 
 abbrev μ-loop : tie.MeasureT-loop
 μ-loop a sizes refs marks schedule flags₀ load₀ t₀ flags load t = length refs - t
@@ -38,8 +38,8 @@ modified-requires c κs =
     (omega (arith, s .pre .1 .1, turn .loop-test .taken), omega (arith, s .pre .0 .0, c .if1 .taken))
 
 -- a touch: what it is found to be, and what it stores
-add-load : tie.Need-add-load Inv-loop μ-loop
-add-load c =
+plus-requires : tie.Need-plus-requires Inv-loop μ-loop
+plus-requires c κs =
     let found = c .before .before .before in
     let turn = found .before .before .before in
     let s = Entry turn in
@@ -47,7 +47,7 @@ add-load c =
     let l = turn .before .loop in
     let i = getD (now (a .refs)) (l .t) 0 in
     let next = storing-touch (a .a) (now (a .sizes)) (now (a .refs)) (marksOf (now (a .marks))) (now (a .schedule))
-    (s .pre .0 .0) (s .pre .0 .1) (l .flags) (l .load) (l .t) (l .inv) (turn .loop-test .taken) i (c .stored .result)
+    (s .pre .0 .0) (s .pre .0 .1) (l .flags) (l .load .0) (l .t) (l .inv) (turn .loop-test .taken) i (c .stored .result .0)
     (found .modified .result)
     (marksOf (now (a .marks)) (l .t) || found .modified .result) refl (found .before .if1 .taken) (omega (arith, s .fits))
     (omega (arith, c .before .before .shared-slice-known6 .given i)) (found .modified .ensures) (c .stored .ensures) refl
@@ -56,17 +56,19 @@ add-load c =
 
 loop-again : tie.Need-loop-again Inv-loop μ-loop
 loop-again c =
-    let put = c .before .before in
+    let put = c .before .before .before in
     let found = put .before .before .before in
     let turn = found .before .before .before in
     let s = Entry turn in
     let a = s .args in
     let l = turn .before .loop in
     let i = getD (now (a .refs)) (l .t) 0 in
-    storing-touch (a .a) (now (a .sizes)) (now (a .refs)) (marksOf (now (a .marks))) (now (a .schedule)) (s .pre .0 .0) (s .pre .0 .1)
-    (l .flags) (l .load) (l .t) (l .inv) (turn .loop-test .taken) i (put .stored .result) (found .modified .result)
+    rw (c .before .before .plus .ensures)
+    (storing-touch (a .a) (now (a .sizes)) (now (a .refs)) (marksOf (now (a .marks))) (now (a .schedule)) (s .pre .0 .0) (s .pre .0 .1)
+    (l .flags) (l .load .0) (l .t) (l .inv) (turn .loop-test .taken) i (put .stored .result .0) (found .modified .result)
     (c .flag .result) refl (found .before .if1 .taken) (omega (arith, s .fits))
-    (omega (arith, put .before .before .shared-slice-known6 .given i)) (found .modified .ensures) (put .stored .ensures) (c .flag .ensures)
+    (omega (arith, put .before .before .shared-slice-known6 .given i)) (found .modified .ensures) (put .stored .ensures)
+    (c .flag .ensures))
 
 loop-again-2 : tie.Need-loop-again-2 Inv-loop μ-loop
 loop-again-2 c =
@@ -75,7 +77,7 @@ loop-again-2 c =
     let a = s .args in
     let l = turn .before .loop in
     storing-idle (a .a) (now (a .sizes)) (now (a .refs)) (marksOf (now (a .marks))) (now (a .schedule)) (s .pre .0 .0) (s .pre .0 .1)
-    (l .flags) (l .load) (l .t) (l .inv) (turn .loop-test .taken) (c .if1 .left)
+    (l .flags) (l .load .0) (l .t) (l .inv) (turn .loop-test .taken) (c .if1 .left)
 
 returns : tie.Need-returns Inv-loop μ-loop
 returns c =
@@ -83,7 +85,7 @@ returns c =
     let a = s .args in
     let l = c .before .loop in (
       storing-end (a .a) (now (a .sizes)) (now (a .refs)) (marksOf (now (a .marks))) (now (a .schedule)) (s .pre .0 .0) (s .pre .0 .1)
-          (l .flags) (l .load) (l .t) (l .inv) (c .loop-test .left),
+          (l .flags) (l .load .0) (l .t) (l .inv) (c .loop-test .left),
       omega (arith, l .inv .load-within, l .inv .within, s .pre .0 .1),
     )
 
@@ -104,7 +106,7 @@ stored-load-spec =
     (λ c. search needs)
     (λ c. search needs)
     (λ c κs. search needs)
-    add-load
+    plus-requires
     (λ c. search needs)
     (λ c κs. search needs)
     (λ c. search needs)

@@ -21,15 +21,16 @@ priced-requires-2 c κs =
 
 returns : tie.Need-returns
 returns c =
-    let s = c .before .before .before .before .before in
+    let s = c .before .before .before .before .before .before .before .before .before in
     rw (le-leb (s .before .args .mark) (s .before .args .steps) (s .if1 .taken)) cc
 
 returns-2 : tie.Need-returns-2
 returns-2 c =
-    let s = c .before .before .before .before .before in
+    let l = c .before .before .before in
+    let s = l .before .before .before .before in
     let p = s .before .args in
-    let held : c .before .before .before .priced .result .0 ≡ p .row .d * retention (p .kind) (p .z) (p .steps - p .mark) = cc in
-    let load : c .before .priced2 .result .0 ≡ p .row .h * swapCost (p .a) (p .z) = cc in
+    let held : l .before .before .priced .result .0 ≡ p .row .d * retention (p .kind) (p .z) (p .steps - p .mark) = cc in
+    let load : l .priced2 .result .0 ≡ p .row .h * swapCost (p .a) (p .z) = cc in
     rw (le-leb (p .mark) (p .steps) (s .if1 .taken)) (omega (arith, held, load, c .if2 .left))
 
 returns-3 : tie.Need-returns-3

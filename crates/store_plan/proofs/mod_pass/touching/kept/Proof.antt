@@ -5,7 +5,7 @@ use Rattle.store_plan.proofs.mod_pass.touching.kept.Statement.{statemen
 use Rattle.store_plan.proofs.mod_pass.touching.kept.Tie as tie
 
 returns : tie.Need-returns
-returns c = rw (le-leb _ _ (c .if1 .taken)) refl
+returns c = rw (le-leb _ _ (c .before .if1 .taken)) refl
 
 returns-2 : tie.Need-returns-2
 returns-2 c = rw (lt-leb _ _ (c .if1 .left))

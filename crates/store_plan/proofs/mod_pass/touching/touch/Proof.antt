@@ -1,8 +1,9 @@
 -- `touch` meets its contract: what its parts give. Assumes nothing.
+use mathlib.Core.Path.{refl}
 use native.Mathlib.Omega.{arith}
 use borrow.Author.Needs.{needs}
 use Rattle.model.proofs.Bounds.{swap-within}
-use Rattle.store_plan.proofs.Touches.{excess-small}
+use Rattle.store_plan.proofs.Touches.{excess-small, priced-is}
 use Rattle.store_plan.proofs.mod_pass.touching.touch.Statement.{statement}
 use Rattle.store_plan.proofs.mod_pass.touching.touch.Tie as tie
 
@@ -24,7 +25,18 @@ plus-requires c κs =
     )
 
 returns : tie.Need-returns
-returns c = cc
+returns c =
+    let s = c .before .before .before .before in
+    rw (
+      c .joins .ensures,
+      c .before .kept .ensures,
+      priced-is (c .before .before .added .ensures),
+      c .before .before .before .after .ensures,
+      s .plus .ensures,
+      s .before .priced .ensures,
+      s .before .before .swap-cost .ensures,
+      s .before .before .before .excess .ensures,
+    ) refl
 
 pub touch-spec : {M : Type 1} → statement M
 touch-spec =
