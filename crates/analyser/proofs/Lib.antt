@@ -7,10 +7,12 @@ pub mod Handed
 pub mod Imported
 pub mod ImportedWhere
 pub mod Joined
+pub mod ListingExamples
 pub mod LookedAt
 pub mod LruFromBytes
 pub mod MarginSigns
 pub mod Modified
+pub mod NumberExamples
 pub mod PointsFromBytes
 pub mod Printing
 pub mod RoundTrips

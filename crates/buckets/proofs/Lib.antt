@@ -1,4 +1,5 @@
 pub mod Ending
+pub mod Examples
 pub mod Filling
 pub mod FirstRow
 pub mod Passing

@@ -1,4 +1,5 @@
 pub mod BucketSums
+pub mod Examples
 pub mod PriceRows
 pub mod RecorderLists
 pub mod RowNumbers

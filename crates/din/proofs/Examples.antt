@@ -1,13 +1,13 @@
 -- Traces worked by hand, each with what its import comes to, in one table. Assumes nothing.
 use Prim.Native.Nat.{ℕ, zero, suc}
-use Prim.Native.Char.{code}
-use Prim.Native.String.{String, [] as []ˢ, _∷_ as _∷ˢ_}
+use Prim.Native.String.{String}
 use mathlib.Core.Path.{_≡_, refl}
 use mathlib.Core.Bool.{Bool, true, false, _&&_}
 use mathlib.Core.List.{List, [], _∷_}
 use lib.Dec.{eqb}
 use lib.ListN.{replicate}
 use Rattle.model.specs.Refusals.{numberOf}
+use Rattle.text.proofs.Strings.{bytes}
 use Rattle.sheet.specs.Lines.{sameBytes}
 use Rattle.sheet.specs.Reading.{Outcome, accepted, rejected}
 use Rattle.din.specs.Lines.{traceLines, digitOf, allDigits, valueFrom, addressOf}
@@ -21,10 +21,6 @@ pub data Example : Type 0 where
   taken : ℕ → String → ℕ → List ℕ → Example
   refusal : ℕ → String → ℕ → Example
   after : List ℕ → String → ℕ → Example
-
-bytes : String → List ℕ
-bytes []ˢ = []
-bytes (c ∷ˢ s) = code c ∷ bytes s
 
 numbered : Outcome → ℕ
 numbered (accepted v) = 0

@@ -1,5 +1,6 @@
 pub mod Answers
 pub mod Engines
+pub mod Examples
 pub mod Filling
 pub mod Fronts
 pub mod Indexes

@@ -11,6 +11,7 @@ use Rattle.model.specs.Sums.{sum, tabulate}
 use Rattle.model.specs.Traces.{Trace, entry, touching, later, unreferenced, refsBy, refsOf, refPlace, placeOf}
 use Rattle.model.specs.Figures.{misses, volume, load, optmem, opttotal, optocc, wsmem, wsocc, mean, kept, marginAt, refCost}
 use Rattle.model.specs.Figures.{refVolume, smaller, wsspace}
+use Rattle.model.specs.Rows.{rowFigures}
 use Rattle.model.specs.Schedules.{Permitted, held, scheduleMemory, scheduleLoad, scheduleTotal, optimalSchedule, nextKept}
 use Rattle.model.specs.Schedules.{optimalHeld, optimalByte}
 use Rattle.model.specs.Sheets.{idle, listed, runOf}
@@ -222,6 +223,43 @@ unfolding allHold claims valueOf bytesOf above below _is_ table listing paper un
     wsocc mean optimalSchedule sum tabulate touching refsBy refPlace later unreferenced kept refCost refVolume smaller wsspace
     nextKept optimalHeld optimalByte listed
 table-holds = refl
+
+-- the eleven items of `timed` at the rows 1/2 and 1/1, each in its place
+timed-half : rowFigures timed 1 2
+    ≡ record {
+      h = 1;
+      d = 2;
+      misses = 3;
+      volume = 5;
+      load = record { 0 = 8 };
+      optmem = record { 0 = 8 };
+      opttotal = 24;
+      optocc = 16;
+      wsmem = 20;
+      wsocc = 40;
+      mean = 3333;
+    }
+unfolding timed rowFigures misses volume load optmem opttotal optocc wsmem wsocc mean sum touching later unreferenced kept refCost refVolume
+    smaller wsspace listed
+timed-half = refl
+
+timed-one : rowFigures timed 1 1
+    ≡ record {
+      h = 1;
+      d = 1;
+      misses = 2;
+      volume = 4;
+      load = record { 0 = 6 };
+      optmem = record { 0 = 10 };
+      opttotal = 16;
+      optocc = 18;
+      wsmem = 11;
+      wsocc = 21;
+      mean = 3500;
+    }
+unfolding timed rowFigures misses volume load optmem opttotal optocc wsmem wsocc mean sum touching later unreferenced kept refCost refVolume
+    smaller wsspace listed
+timed-one = refl
 
 -- the last schedule of the table drops segment 0 in step 2 and lets it enter again, untouched, in step 3. It would cost less than the
 -- optimum, and it is not permitted

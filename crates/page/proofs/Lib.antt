@@ -1,4 +1,5 @@
 pub mod Blanks
+pub mod Examples
 pub mod Fitting
 pub mod Lines
 pub mod Parts

@@ -134,3 +134,35 @@ pub record Fits (f : RowFigures) : Type 0 where
   pub volume-fits : length (written (f .volume)) ≤ 12
   pub load-fits : length (written (f .load .0)) ≤ 12
   pub mean-fits : length (written (f .mean)) ≤ 12
+
+-- the largest figures: the largest prices; a miss in every step, of the largest size and at the largest weight; and every segment, of the
+-- largest size, in memory in every step
+abbrev pub largestFigures : RowFigures
+largestFigures =
+    record {
+      h = 65535;
+      d = 65535;
+      misses = 2048;
+      volume = 8386560;
+      load = record { 0 = 2138574848 };
+      optmem = record { 0 = 2146959360 };
+      opttotal = 280852484321280;
+      optocc = 2146959360;
+      wsmem = 140700981657600;
+      wsocc = 140700981657600;
+      mean = 1048320000;
+    }
+
+-- no figure of f exceeds that of g
+pub record NoneAbove (f g : RowFigures) : Type 0 where
+  pub h-within : f .h ≤ g .h
+  pub d-within : f .d ≤ g .d
+  pub misses-within : f .misses ≤ g .misses
+  pub volume-within : f .volume ≤ g .volume
+  pub load-within : f .load .0 ≤ g .load .0
+  pub optmem-within : f .optmem .0 ≤ g .optmem .0
+  pub opttotal-within : f .opttotal ≤ g .opttotal
+  pub optocc-within : f .optocc ≤ g .optocc
+  pub wsmem-within : f .wsmem ≤ g .wsmem
+  pub wsocc-within : f .wsocc ≤ g .wsocc
+  pub mean-within : f .mean ≤ g .mean

@@ -1,8 +1,9 @@
--- Schedules of a run with a warm segment, computed from the definitions. Assumes nothing.
+-- The numbers of schedules of a run with a warm segment and of one without, computed from the definitions. Assumes nothing.
 use Prim.Native.Nat.{ℕ}
 use mathlib.Core.Path.{_≡_, refl}
-use mathlib.Core.List.{List, [], _∷_, _++_}
+use mathlib.Core.List.{List, [], _∷_, _++_, map}
 use lib.ListN.{replicate}
+use Rattle.model.specs.Refusals.{verdictNumber}
 use Rattle.model.specs.Sheets.{listed, runOf, idle}
 use Rattle.model.specs.Schedules.{held}
 use Rattle.model.specs.Traces.{Trace}
@@ -34,3 +35,20 @@ comes-back = refl
 pub cold-held : scheduleVerdict run (steps 2 0) ≡ Refused HeldNotBefore
 unfolding scheduleVerdict stepsVerdict stepVerdict missing someEnters enters held listed
 cold-held = refl
+
+-- the same segments, none warm, with touches of 0 and of 1
+abbrev touching : Trace
+touching = runOf Time 0 (1 ∷ 1 ∷ []) [] (0 ∷ 1 ∷ [])
+
+numberOn : List ℕ → ℕ
+numberOn p = verdictNumber (scheduleVerdict touching p)
+
+-- two permitted ones; a byte more and a byte less (8); step 1 without its touch (9), also where segment 1 enters there (9 before 10);
+-- segment 1 in step 1 beside the touch (10), also before a step 2 without its touch (the earliest faulty step decides); step 2 without its
+-- touch (9), and with segment 2 beside it, which the sheet does not have (10)
+numbers : map numberOn
+    (steps 1 2 ∷ steps 1 3 ∷ (0 ∷ steps 1 2) ∷ (1 ∷ replicate 62 0) ∷ steps 0 2 ∷ steps 2 2 ∷ steps 3 2 ∷ steps 3 0 ∷ steps 1 1
+    ∷ steps 1 6 ∷ [])
+    ≡ 0 ∷ 0 ∷ 8 ∷ 8 ∷ 9 ∷ 9 ∷ 10 ∷ 10 ∷ 9 ∷ 10 ∷ []
+unfolding numberOn scheduleVerdict stepsVerdict stepVerdict missing someEnters enters held listed
+numbers = refl

@@ -1,5 +1,6 @@
 pub mod Answers
 pub mod Bulk
+pub mod Examples
 pub mod Fitting
 pub mod Guarding
 pub mod Moves

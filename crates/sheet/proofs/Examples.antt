@@ -1,17 +1,19 @@
 -- The sheet of document 01's listing, read and written by the definitions; the limits of a sheet, each reached by a text that is
--- accepted and left by one that is refused; the warm segments of form 3 and the letter w of form 4, each case decided by hand. Assumes
--- nothing.
+-- accepted and left by one that is refused; which refusal comes first; the warm segments of form 3 and the letter w of form 4, each case
+-- decided by hand. Assumes nothing.
 use Prim.Native.Nat.{ℕ}
 use mathlib.Core.Path.{_≡_, refl}
 use mathlib.Core.Bool.{Bool, true, false, _&&_}
 use mathlib.Core.List.{List, [], _∷_, _++_}
 use lib.Dec.{eqb}
-use lib.ListN.{length}
-use Rattle.model.specs.Refusals.{numberOf}
+use lib.ListN.{length, replicate}
+use Rattle.model.specs.Refusals.{numberOf, verdictNumber}
 use Rattle.model.specs.Sheets.{SheetValue, idle}
+use Rattle.model.specs.Values.{headOf, sheetOf, emptyHead, emptySheet}
 use Rattle.model.specs.declared.Kind.the-variants.{Time, Space}
 use Rattle.model.specs.declared.PriceRow.{PriceRow}
 use Rattle.decimal.specs.Decimal.{allDigits, valueFrom, isNumber, written, writtenIn}
+use Rattle.sheet.specs.Answers.{answerOf}
 use Rattle.sheet.specs.Lines.{splitAt, afterKey, valueLine, numberLine, sameBytes, numberLines}
 use Rattle.text.specs.Keys.{formKey, kindKey, aKey, segsKey, sizeKey, rowsKey, rowKey, warmKey, holdKey, stepsKey, refsKey, refKey}
 use Rattle.text.specs.Keys.{kindWord}
@@ -20,6 +22,7 @@ use Rattle.sheet.specs.Touches.{touchLine, touchLines, placedFrom, touch
 use Rattle.sheet.specs.Values.{kindLine, rowLine, rowLines}
 use Rattle.sheet.specs.Warm.{holdLine, holdLines}
 use Rattle.text.specs.Texts.{lineText, numberText, linesText}
+use Rattle.text.proofs.Strings.{bytes}
 use Rattle.sheet.specs.Order.{sizesPart, pricesPart, warmPart, tablesPart, headPart}
 use Rattle.sheet.specs.Order.{refsPart, plainPart, stepsPart, runPart, bodyPart, sheetPart}
 use Rattle.sheet.specs.Writing.{sheetText}
@@ -27,11 +30,7 @@ use Rattle.sheet.specs.Writing.{sheetText}
 -- the bytes of the sheet
 listing : List ℕ
 listing =
-    107 ∷ 105 ∷ 110 ∷ 100 ∷ 61 ∷ 115 ∷ 112 ∷ 97 ∷ 99 ∷ 101 ∷ 10 ∷ 97 ∷ 61 ∷ 49 ∷ 10 ∷ 115 ∷ 101 ∷ 103 ∷ 115 ∷ 61 ∷ 50 ∷ 10 ∷ 115 ∷ 105 ∷
-    122 ∷ 101 ∷ 61 ∷ 49 ∷ 10 ∷ 115 ∷ 105 ∷ 122 ∷ 101 ∷ 61 ∷ 51 ∷ 10 ∷ 114 ∷ 111 ∷ 119 ∷ 115 ∷ 61 ∷ 50 ∷ 10 ∷ 114 ∷ 111 ∷ 119 ∷ 61 ∷
-    49 ∷ 47 ∷ 50 ∷ 10 ∷ 114 ∷ 111 ∷ 119 ∷ 61 ∷ 49 ∷ 47 ∷ 49 ∷ 10 ∷ 114 ∷ 101 ∷ 102 ∷ 115 ∷ 61 ∷ 54 ∷ 10 ∷ 114 ∷ 101 ∷ 102 ∷ 61 ∷
-    48 ∷ 10 ∷ 114 ∷ 101 ∷ 102 ∷ 61 ∷ 49 ∷ 10 ∷ 114 ∷ 101 ∷ 102 ∷ 61 ∷ 48 ∷ 10 ∷ 114 ∷ 101 ∷ 102 ∷ 61 ∷ 49 ∷ 10 ∷ 114 ∷ 101 ∷
-    102 ∷ 61 ∷ 49 ∷ 10 ∷ 114 ∷ 101 ∷ 102 ∷ 61 ∷ 48 ∷ 10 ∷ []
+    bytes "kind=space\na=1\nsegs=2\nsize=1\nsize=3\nrows=2\nrow=1/2\nrow=1/1\nrefs=6\nref=0\nref=1\nref=0\nref=1\nref=1\nref=0\n"
 
 -- its value
 value-of-listing : SheetValue
@@ -51,12 +50,12 @@ value-of-listing =
     }
 
 listing-read : readSheet listing ≡ accepted value-of-listing
-unfolding listing value-of-listing readForms namedForm sheetPart bodyPart headPart tablesPart runPart sizesPart pricesPart refsPart
+unfolding bytes listing value-of-listing readForms namedForm sheetPart bodyPart headPart tablesPart runPart sizesPart pricesPart refsPart
     plainPart kindLine numberLines rowLine rowLines splitAt afterKey valueLine numberLine sameBytes allDigits valueFrom isNumber
 listing-read = refl
 
 listing-written : sheetText value-of-listing ≡ listing
-unfolding listing value-of-listing sheetText sheetPart bodyPart headPart tablesPart runPart sizesPart pricesPart refsPart plainPart
+unfolding bytes listing value-of-listing sheetText sheetPart bodyPart headPart tablesPart runPart sizesPart pricesPart refsPart plainPart
     linesText written writtenIn
 listing-written = refl
 
@@ -134,6 +133,89 @@ unfolding outcomeNumber _reads_ allRead price textOf toSegs toRows toRefs limits
     tablesPart runPart sizesPart pricesPart refsPart plainPart kindLine numberLines rowLine rowLines splitAt afterKey valueLine
     numberLine sameBytes allDigits valueFrom isNumber sheetText linesText written writtenIn
 limits-hold = refl
+
+-- ---- which refusal comes first
+
+-- the lines of a sheet up to the second of its two rows, and what follows them
+afterRow : List ℕ → List ℕ
+afterRow more = bytes "kind=time\na=0\nsegs=1\nsize=1\nrows=2\nrow=1/2\n" ++ more
+
+pub firstRefusals : List Read
+firstRefusals =
+    -- no bytes; a line of another key, without its line feed, of a word that is none
+    [] reads 2
+    ∷ bytes "\n" reads 2
+    ∷ bytes "Kind=time\n" reads 2
+    ∷ bytes "kind=time" reads 2
+    ∷ bytes "kind=tim\n" reads 3
+    ∷ bytes "kind=\n" reads 3
+    -- the first faulty line decides
+    ∷ bytes "kind=tim\nb=0\n" reads 3
+    ∷ bytes "kind=time\na=256\nsegs=x\n" reads 4
+    -- a number as document 01 writes it
+    ∷ bytes "kind=time\na=00\n" reads 3
+    ∷ bytes "kind=time\na=+1\n" reads 3
+    ∷ bytes "kind=time\na= 1\n" reads 3
+    ∷ bytes "kind=time\na=\n" reads 3
+    -- on a row line 2, then 3, then 4, then 5
+    ∷ afterRow (bytes "roe=0/x\n") reads 2
+    ∷ afterRow (bytes "row=0/x") reads 2
+    ∷ afterRow (bytes "row=65536/x\n") reads 3
+    ∷ afterRow (bytes "row=65536\n") reads 3
+    ∷ afterRow (bytes "row=0/65536\n") reads 4
+    ∷ afterRow (bytes "row=0/0\n") reads 4
+    ∷ afterRow (bytes "row=0/65535\n") reads 5
+    ∷ afterRow (bytes "row=2/3\nrefs=0\n") reads 0
+    -- 6 after all lines, also for a line feed alone
+    ∷ afterRow (bytes "row=2/3\nrefs=0\n\n") reads 6
+    ∷ afterRow (bytes "row=2/3\nrefs=1\nref=1\n\n") reads 4
+    -- the form line: 2, 3, then 4; form=1 is not known there, and what does not begin with form= is a kind line
+    ∷ bytes "form=2" reads 2
+    ∷ bytes "form=x\n" reads 3
+    ∷ bytes "form=02\n" reads 3
+    ∷ bytes "form=0\n" reads 4
+    ∷ bytes "form=1\nkind=time\n" reads 4
+    ∷ bytes "form=5\n" reads 4
+    ∷ bytes "form\n" reads 2
+    ∷ bytes "Form=2\n" reads 2
+    -- the most bytes, by the form that the first line names: 1 before all lines
+    ∷ replicate 20012 10 reads 2
+    ∷ replicate 20013 10 reads 1
+    ∷ (bytes "form=2" ++ replicate 20006 32) reads 2
+    ∷ (bytes "form=2" ++ replicate 20007 32) reads 1
+    ∷ (bytes "form=02\n" ++ replicate 20004 10) reads 3
+    ∷ (bytes "form=02\n" ++ replicate 20005 10) reads 1
+    ∷ (bytes "form=5\n" ++ replicate 20005 10) reads 4
+    ∷ (bytes "form=5\n" ++ replicate 20006 10) reads 1
+    ∷ (bytes "form=2\n" ++ replicate 29156 10) reads 2
+    ∷ (bytes "form=2\n" ++ replicate 29157 10) reads 1
+    ∷ (bytes "form=3\n" ++ replicate 31359 10) reads 2
+    ∷ (bytes "form=3\n" ++ replicate 31360 10) reads 1
+    ∷ (bytes "form=4\n" ++ replicate 33407 10) reads 2
+    ∷ (bytes "form=4\n" ++ replicate 33408 10) reads 1
+    ∷ []
+
+pub first-refusals-hold : allRead firstRefusals ≡ true
+unfolding bytes outcomeNumber _reads_ allRead afterRow firstRefusals readForms namedForm sheetPart bodyPart headPart tablesPart runPart
+    sizesPart pricesPart refsPart plainPart kindLine numberLines rowLine rowLines splitAt afterKey valueLine numberLine sameBytes
+    allDigits valueFrom isNumber
+first-refusals-hold = refl
+
+-- what reading answers: the number, and the form, the segments, the rows and the steps of the sheet, all of them 0 where it is refused
+answered : List ℕ → List ℕ
+answered s =
+    verdictNumber (answerOf (readSheet s) .verdict)
+    ∷ answerOf (readSheet s) .sheet .form
+    ∷ answerOf (readSheet s) .sheet .head .segs
+    ∷ answerOf (readSheet s) .sheet .head .rows
+    ∷ answerOf (readSheet s) .sheet .steps
+    ∷ []
+
+reading-answers : answered listing ++ answered [] ≡ 0 ∷ 1 ∷ 2 ∷ 2 ∷ 6 ∷ 2 ∷ 0 ∷ 0 ∷ 0 ∷ 0 ∷ []
+unfolding bytes listing answered answerOf sheetOf headOf emptySheet emptyHead readForms namedForm sheetPart bodyPart headPart tablesPart
+    runPart sizesPart pricesPart refsPart plainPart kindLine numberLines rowLine rowLines splitAt afterKey valueLine numberLine sameBytes
+    allDigits valueFrom isNumber
+reading-answers = refl
 
 -- ---- the warm segments of form 3
 

@@ -3,6 +3,7 @@ pub mod Accepting
 pub mod Examples
 pub mod Held
 pub mod Lengths
+pub mod OrderExamples
 pub mod Parsing
 pub mod PartTexts
 pub mod PartsKept

@@ -1,4 +1,23 @@
 -- A sheet in parts: the order of its lines, once. Reading goes along it; the text of a sheet and what a reader shows are made from it.
+-- The lines from the top down, each with its range, its refusals in their order, and the forms that have it. Before all lines stands
+-- refusal 1, after them 6. One sheet of each form is written out in proofs/OrderExamples.antt.
+--
+--   line            how often   range                                                     refusals      forms
+--   form=n          once        2 to 4, and made for the call                             2, 3, 4       2 to 4
+--   kind=word       once        time or space; 4 where the call is not made for form 1    2, 3, 4       1 to 4
+--   a=n             once        0 to 255                                                  2, 3, 4       1 to 4
+--   segs=n          once        1 to 256                                                  2, 3, 4       1 to 4
+--   size=n          segs        1 to 4,095                                                2, 3, 4       1 to 4
+--   rows=n          once        1 to 64                                                   2, 3, 4       1 to 4
+--   row=h/d         rows        h 0 to 65,535, d 1 to 65,535, h/d above the one before    2, 3, 4, 5    1 to 4
+--   warm=n          once        0 to segs                                                 2, 3, 4       3, 4
+--   hold=i          warm        below segs, above the one before                          2, 3, 4, 19   3, 4
+--   steps=n         once        0 to 2,048                                                2, 3, 4       2 to 4
+--   refs=n          once        0 to 2,048; from form 2 on 0 to steps                     2, 3, 4       1 to 4
+--   ref=i           refs        below segs                                                2, 3, 4       1
+--   ref=i@t         refs        i below segs, t above the one before, at most steps       2, 3, 4, 16   2 to 4
+--   ref=i@tw        refs        the same; the touch modifies                              2, 3, 4, 16   4
+--
 -- Assumes nothing.
 use Prim.Native.Nat.{ℕ, _-_, max}
 use mathlib.Core.Bool.{Bool, cond}

@@ -1,10 +1,10 @@
--- Bills in one table; a single proof goes over it, computed from the definitions. Assumes nothing.
+-- Bills in one table; a single proof goes over it, computed from the definitions. And both sides of each limit. Assumes nothing.
 use Prim.Native.Nat.{ℕ}
 use mathlib.Core.Path.{_≡_, refl}
-use mathlib.Core.Bool.{Bool, true, _&&_}
+use mathlib.Core.Bool.{Bool, true, false, _&&_}
 use mathlib.Core.List.{List, [], _∷_}
 use lib.Dec.{eqb}
-use Rattle.tariff.specs.Tariff.{billOf}
+use Rattle.tariff.specs.Tariff.{tariffInRange, billOf}
 use Rattle.tariff.specs.declared.Tariff.{Tariff}
 
 -- so many cents for 1,000 memory units, for 1,000 load units, and the minimum
@@ -57,3 +57,17 @@ bills =
 pub bills-hold : allBilled bills ≡ true
 unfolding allBilled bills at tariff billOf
 bills-hold = refl
+
+-- the ranges: both rates up to 9,999, the minimum up to 99,999
+ranges : List Bool
+ranges =
+    tariffInRange (tariff 9999 9999 99999)
+    ∷ tariffInRange (tariff 0 0 0)
+    ∷ tariffInRange (tariff 10000 0 0)
+    ∷ tariffInRange (tariff 0 10000 0)
+    ∷ tariffInRange (tariff 0 0 100000)
+    ∷ []
+
+ranges-are : ranges ≡ true ∷ true ∷ false ∷ false ∷ false ∷ []
+unfolding ranges tariff
+ranges-are = refl
