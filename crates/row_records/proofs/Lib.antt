@@ -1,2 +1,4 @@
+pub mod Arrays
+pub mod Examples
 pub mod Found
 pub mod Fronts

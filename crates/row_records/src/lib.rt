@@ -13,12 +13,19 @@ ghost use Rattle.model.specs.Rows.{zeroFigures};
 ghost use Rattle.model.specs.Standing.{Standing};
 ghost use Rattle.model.specs.Values.{valueOf};
 ghost use Rattle.row_records.specs.Listed.{listAnswer, listAfter};
-ghost use Rattle.row_records.specs.Held.{noRecords, recordsFor, recordsFound};
+ghost use Rattle.row_records.specs.Held.{zeroList, noRecords, recordsFor, recordsFound};
 
 // The records to be written: the answer, whose length is how many they are, and the figures of every row, zeros where there is none.
 pub struct Records {
     pub answer: PlaceAnswer,
     pub figures: [RowFigures; Sheet::MAX_ROWS],
+}
+
+// A list of as many records as a sheet can have rows, all zero.
+fn zero_list() -> [RowFigures; Sheet::MAX_ROWS]
+    ensures { λ l. ⌜ l ≡ zeroList ⌝ }
+{
+    [RowFigures::zero(); Sheet::MAX_ROWS]
 }
 
 // No records, and why.
@@ -30,7 +37,7 @@ fn no_records(why: Refusal) -> Records
             verdict: Verdict::Refused(why),
             length: 0,
         },
-        figures: [RowFigures::zero(); Sheet::MAX_ROWS],
+        figures: zero_list(),
     }
 }
 
@@ -102,4 +109,24 @@ pub fn row_records(bytes: &[u8], out: &mut [RowFigures]) -> PlaceAnswer
         i = i + 1;
     }
     answer_of(all)
+}
+
+// An answer and a list, as one value.
+fn with_list(answer: PlaceAnswer, figures: [RowFigures; Sheet::MAX_ROWS]) -> Records
+    ensures { λ r. ⌜ r ≡ record { answer = answer; figures = figures } ⌝ }
+{
+    Records { answer, figures }
+}
+
+// The records of a sheet in a list of as many as a sheet can have rows, zero before the call: what `row_records` answers, and the list
+// after it.
+pub fn filled_list(bytes: &[u8]) -> Records
+    ensures { λ r. ⌜ r ≡ record {
+      answer = listAnswer (now (bytes .entry)) zeroList;
+      figures = listAfter (now (bytes .entry)) zeroList;
+    } ⌝ }
+{
+    let mut list = zero_list();
+    let answer = row_records(bytes, &mut list);
+    with_list(answer, list)
 }

@@ -76,6 +76,7 @@ fn call(word: u8, n: u64, sheet: &[u8], place: &mut [u8]) {
         b'e' => lists::every(sheet),
         b'v' => parts::nth(sheet, row),
         b'k' => parts::part(sheet, row),
+        b'n' => parts::records(sheet),
         _ => {}
     }
 }

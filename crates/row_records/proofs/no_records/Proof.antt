@@ -1,16 +1,12 @@
 -- `row_records::no_records` meets its contract: the figures beside the refusal are zero. Assumes nothing.
-use mathlib.Core.Path.{refl}
 use borrow.Author.Needs.{needs}
-use Rattle.model.specs.Rows.{zeroFigures}
-use Rattle.model.specs.Sheets.{mostRows}
-use Rattle.model.proofs.Tables.{tabulate-const}
 use Rattle.row_records.specs.Held.{noRecords}
 use Rattle.row_records.proofs.no_records.Statement.{statement}
 use Rattle.row_records.proofs.no_records.Tie as tie
 
 returns : tie.Need-returns
 unfolding noRecords
-returns c = rw (c .zero .ensures, ← tabulate-const mostRows zeroFigures (λ i. zeroFigures) (λ j lt. refl))
+returns c = rw (c .zero-list .ensures)
 
 pub no-records-spec : {M : Type 1} → statement M
 no-records-spec = tie.close (tie.spec (λ c κs. search needs) returns)
