@@ -62,7 +62,7 @@ pub fn listing(bytes: &[u8], out: &mut [u8]) -> PlaceAnswer
     let s = answer.sheet;
     match verdict {
         Verdict::Refused(why) => PlaceAnswer::refused(why),
-        Verdict::Accepted => prints::sheet_listing(s, out),
+        Verdict::Accepted => listing::of_sheet::sheet_listing(s, out),
     }
 }
 
@@ -76,7 +76,7 @@ pub fn printed(bytes: &[u8], out: &mut [u8]) -> PlaceAnswer
     let s = answer.sheet;
     match verdict {
         Verdict::Refused(why) => listing::write_refusal(why, out),
-        Verdict::Accepted => prints::sheet_listing(s, out),
+        Verdict::Accepted => listing::of_sheet::sheet_listing(s, out),
     }
 }
 
@@ -90,7 +90,7 @@ pub fn page(bytes: &[u8], out: &mut [u8]) -> PlaceAnswer
     let s = answer.sheet;
     match verdict {
         Verdict::Refused(why) => PlaceAnswer::refused(why),
-        Verdict::Accepted => prints::sheet_page(s, out),
+        Verdict::Accepted => page::sheet_page(s, out),
     }
 }
 

@@ -13,7 +13,7 @@ use Rattle.decimal.proofs.Written.{written-length}
 use Rattle.model.specs.Figures.{load}
 use Rattle.model.specs.Refusals.{numberOf}
 use Rattle.model.specs.Rows.{rowFigures, zeroFigures}
-use Rattle.model.specs.Sheets.{SheetValue, Valid, RunWithin, traceOf, marksOf, rowAt, largestPrice}
+use Rattle.model.specs.Sheets.{SheetValue, Valid, traceOf, marksOf, rowAt}
 use Rattle.model.specs.Traces.{Trace, segs, steps, entry, refsBy, refsOf}
 use Rattle.model.specs.declared.Refusal.{Refusal}
 use Rattle.model.specs.declared.RowFigures.{RowFigures}
@@ -42,8 +42,7 @@ use Rattle.model.proofs.FigureBounds.{
   sizes-within,
 }
 use Rattle.stores.specs.Rows.{rowModtotal}
-use Rattle.stores.specs.Modtotal.{modtotal}
-use Rattle.stores.proofs.Within.{modAdded-within}
+use Rattle.store_plan.proofs.RowTotals.{modtotal-within}
 use Rattle.listing.proofs.RowLines.{rows-most}
 use Rattle.listing.proofs.RowParts.{three-length, row-length, marked-length}
 use Rattle.listing.proofs.ListingParts.{counts-length, head-length, listing-length}
@@ -151,12 +150,6 @@ all-most form refs steps segs fs ms r t s few row =
         → all ≤ cond b mostListing olderListing
     go true few le l e = omega arith
     go false few le l e = omega arith
-
--- modtotal of a run within the limits has at most 15 digits
-pub modtotal-within : (T : Trace) → RunWithin T → (marks : ℕ → Bool) (h d : ℕ) → h ≤ largestPrice → d ≤ largestPrice
-    → modtotal T marks h d < 10 ^ 15
-unfolding modtotal
-modtotal-within T c marks h d high-h high-d = omega (arith, opttotal-within T c h d high-h high-d, modAdded-within T c marks h d high-h)
 
 module _ (v : SheetValue) (c : Valid v) where
   pub row-modtotal-within : (r : ℕ) → r < length (v .head .rows) → rowModtotal v r < 10 ^ 15

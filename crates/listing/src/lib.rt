@@ -1,5 +1,6 @@
 // The listing as text: its length first where the place may be too short, then its lines one after the other into the lent place.
 // What the text is stands in specs/Listing.antt, and its parts in specs/Parts.antt. Nothing is assumed.
+pub mod of_sheet;
 pub mod row_text;
 
 use model::PlaceAnswer;

@@ -4,3 +4,4 @@ pub mod Fitting
 pub mod Lines
 pub mod Parts
 pub mod Printed
+pub mod SheetPage

@@ -15,10 +15,12 @@ ghost use Rattle.model.specs.Sheets.{mostRows};
 ghost use Rattle.decimal.specs.Decimal.{written};
 ghost use Rattle.model.specs.Places.{gives, PlaceLeft};
 ghost use Rattle.model.specs.Rows.{zeroFigures};
+ghost use Rattle.model.specs.Standing.{Standing};
+ghost use Rattle.model.specs.Values.{valueOf};
 ghost use Rattle.text.specs.inner.Puts.{Put};
 ghost use Rattle.text.specs.Keys.{kindKey, kindWord, aKey};
 ghost use Rattle.page.specs.Page.{blank, blanks, field, titleLine, namesLine, rowLine, blankLine};
-ghost use Rattle.page.specs.Page.{pageLines, concatenated, pages, pagesLength, Fits};
+ghost use Rattle.page.specs.Page.{pageLines, concatenated, pages, pagesOf, pagesLength, Fits};
 
 // Writes `n` blanks, and gives the index after them.
 fn put_blanks(n: usize, out: &mut [u8], at: usize) -> usize
@@ -207,4 +209,15 @@ pub fn write(
         verdict: Verdict::Accepted,
         length,
     }
+}
+
+// The page or the two pages of an accepted sheet into a lent place, or 11.
+pub fn sheet_page(s: Sheet, out: &mut [u8]) -> PlaceAnswer
+    requires { ⌜ Standing s ⌝ }
+    ensures { λ r. ⌜ PlaceLeft (gives (pagesOf (valueOf s))) (now (out .entry)) (now (out .exit)) r ⌝ }
+{
+    let all = rows::all_figures(s);
+    let head = s.head;
+    let kind = head.kind;
+    write(kind, head.a, all, head.rows, out)
 }

@@ -3,5 +3,6 @@ pub mod Bounds
 pub mod Finding
 pub mod Folding
 pub mod Passing
+pub mod RowTotals
 pub mod Tables
 pub mod Touches

@@ -1,3 +1,4 @@
 pub mod Decisions
+pub mod Modtotals
 pub mod Passing
 pub mod Touches

@@ -1,4 +1,4 @@
--- The listing and the pages of a sheet, from the figures of all its rows. Assumes nothing.
+-- The listing of a sheet, from the figures of all its rows. Assumes nothing.
 use Prim.Native.Nat.{ℕ, _≤_, _<_}
 use mathlib.Core.Path.{_≡_, sym, ap, _∙_}
 use mathlib.Core.Logic.{_⊎_, ⊎-elim}
@@ -7,28 +7,22 @@ use mathlib.Core.List.{List}
 use native.Mathlib.Omega.{arith}
 use lib.Dec.{leb}
 use lib.ListN.{length, take, getD}
-use Rattle.model.specs.Figures.{opttotal}
-use Rattle.model.specs.Rows.{rowFigures, zeroFigures}
-use Rattle.model.specs.Sheets.{SheetValue, Valid, traceOf, marksOf, rowIn, mostRows}
+use Rattle.model.specs.Sheets.{SheetValue, traceOf, marksOf, mostRows}
 use Rattle.model.specs.Standing.{Standing}
 use Rattle.model.specs.Traces.{refsOf}
 use Rattle.model.specs.Values.{valueOf}
-use Rattle.model.specs.declared.Kind.{Kind}
-use Rattle.model.specs.declared.RowFigures.{RowFigures}
 use Rattle.model.specs.declared.Sheet.{Sheet}
 use Rattle.model.specs.Sums.{tabulate}
-use Rattle.model.proofs.Standing.{segs-counted, rows-counted, steps-counted, form-is, kind-is, a-is, row-of}
+use Rattle.model.proofs.Standing.{segs-counted, rows-counted, steps-counted, form-is, row-of}
 use Rattle.model.proofs.Tables.{length-tabulate, getD-tabulate}
 use Rattle.figures.specs.Rows.{figuresAt, allFigures}
-use Rattle.page.specs.Page.{pages, pagesOf, Fits}
-use Rattle.page.proofs.Fitting.{every-field-fits}
 use Rattle.listing.specs.Listing.{listing, listingBytes, listingOf}
 use Rattle.listing.proofs.ListingMost.{listing-within}
 use Rattle.listing.proofs.ListingParts.{listing-same}
-use Rattle.rows.proofs.RowFigures.{figures-at, figures-front}
+use Rattle.rows.proofs.RowFigures.{figures-front}
 use Rattle.stores.specs.Rows.{rowModtotal}
-use Rattle.prints.specs.inner.Modtotals.{firstModtotals}
-use Rattle.prints.proofs.RowTotals.{modtotals-at}
+use Rattle.store_plan.specs.inner.Modtotals.{firstModtotals}
+use Rattle.store_plan.proofs.RowTotals.{modtotals-at}
 
 -- the listing of a sheet from its form, its counts, the figures of all rows and, where the form has them, their modtotals
 pub listing-is : (v : SheetValue) (form steps segs rows : ℕ) (totals : List ℕ) → v .form ≡ form → length (v .entries) ≡ steps
@@ -44,31 +38,8 @@ listing-is v form steps segs rows totals f a b c most each =
     (λ y r lt. let here : r < n = omega (arith, length-tabulate n (figuresAt v)) in
     each (rw f at y) r (omega (arith, c)) ∙ sym (getD-tabulate n (rowModtotal v) r 0 here)))
 
--- the page of a sheet from its kind, its a and the figures of all rows
-pub page-is : (v : SheetValue) {kind : Kind} {a : ℕ} (rows : ℕ) → v .head .kind ≡ kind → v .head .a ≡ a → length (v .head .rows) ≡ rows
-    → length (v .head .rows) ≤ mostRows → pages kind a (take rows (allFigures v)) ≡ pagesOf v
-unfolding pagesOf
-page-is v rows k a c most = rw (← k, ← a, ← c, figures-front v most)
-
--- and every field of it fits
-pub page-fits : (v : SheetValue) → Valid v → {rows : ℕ} {all : List RowFigures} → length (v .head .rows) ≡ rows → all ≡ allFigures v
-    → (r : ℕ) → r < rows → Fits (getD all r zeroFigures)
-page-fits v ok {rows} c e r lt =
-    let here : r < length (v .head .rows) = omega (arith, c) in
-    rw (e, figures-at v r zeroFigures here (ok .rows .rows-within)) (every-field-fits v ok r here)
-
 -- those of a standing sheet, from its counts
 module _ (s : Sheet) (c : Standing s) where
-  -- opttotal of a row among the figures of all rows
-  pub opttotal-of : (all : List RowFigures) → all ≡ allFigures (valueOf s) → (r : ℕ) → r < s .head .rows
-      → getD all r zeroFigures .opttotal
-      ≡ opttotal (traceOf (valueOf s)) (rowIn (s .head .prices) r .h) (rowIn (s .head .prices) r .d)
-  unfolding rowFigures
-  opttotal-of all e r lt =
-      let here : r < length (valueOf s .head .rows) = omega (arith, rows-counted s c) in
-      let at = ap (λ fs. getD fs r zeroFigures) e ∙ figures-at (valueOf s) r zeroFigures here (c .valid .rows .rows-within) in
-      ap (λ f. f .opttotal) at ∙ rw (row-of s c r lt)
-
   -- the modtotals of all rows are those of the sheet's value, or the form has none
   pub totals-of : (totals : List ℕ) (b : Bool) → b ≡ leb 4 (s .form)
       → ((totals ≡ firstModtotals (traceOf (valueOf s)) (marksOf (valueOf s .marks)) (s .head .prices) (s .head .rows)) ⊎ (b ≡ false))
@@ -93,6 +64,3 @@ module _ (s : Sheet) (c : Standing s) where
   pub listing-fits : length (listingOf (valueOf s)) ≤ listingBytes (s .form)
   unfolding valueOf
   listing-fits = listing-within (valueOf s) (c .valid)
-
-  pub pages-of : pages (s .head .kind) (s .head .a) (take (s .head .rows) (allFigures (valueOf s))) ≡ pagesOf (valueOf s)
-  pages-of = page-is (valueOf s) (s .head .rows) (kind-is s c) (a-is s c) (rows-counted s c) (c .valid .rows .rows-within)

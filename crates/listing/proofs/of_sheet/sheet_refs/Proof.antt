@@ -1,13 +1,13 @@
--- `prints::sheet_refs` meets its contract. The loop's invariant: `refs` counts the segments among the entries passed.
+-- `listing::of_sheet::sheet_refs` meets its contract. The loop's invariant: `refs` counts the segments among the entries passed.
 -- Assumes nothing.
 use Prim.Native.Nat.{_-_}
 use mathlib.Core.Path.{_≡_, ap, _∙_}
 use mathlib.Core.Logic.{inl, inr, ⊎-elim}
 use native.Mathlib.Omega.{arith}
 use borrow.Author.Needs.{needs}
-use Rattle.prints.proofs.Counting.{touchesBy, Counted, counted-none, counted-next, counted-all}
-use Rattle.prints.proofs.sheet_refs.Statement.{statement}
-use Rattle.prints.proofs.sheet_refs.Tie as tie
+use Rattle.listing.proofs.Counting.{touchesBy, Counted, counted-none, counted-next, counted-all}
+use Rattle.listing.proofs.of_sheet.sheet_refs.Statement.{statement}
+use Rattle.listing.proofs.of_sheet.sheet_refs.Tie as tie
 
 abbrev Inv-loop : tie.InvT-loop
 Inv-loop segs steps touches refs₀ t₀ refs t = Counted segs steps touches t refs

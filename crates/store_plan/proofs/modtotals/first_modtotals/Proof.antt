@@ -1,4 +1,4 @@
--- `prints::modtotals::first_modtotals` meets its contract. The loop's invariant: the modtotals of the rows passed. Assumes nothing.
+-- `store_plan::modtotals::first_modtotals` meets its contract. The loop's invariant: the modtotals of the rows passed. Assumes nothing.
 use Prim.Native.Nat.{_-_, _≤_}
 use mathlib.Core.Path.{_≡_, ap, _∙_}
 use native.Mathlib.Omega.{arith}
@@ -6,10 +6,10 @@ use denote.Ref.{now}
 use borrow.Author.Needs.{needs}
 use Rattle.model.specs.Sheets.{runOf, marksOf}
 use Rattle.model.specs.Traces.{Trace}
-use Rattle.prints.specs.inner.Modtotals.{firstModtotals}
-use Rattle.prints.proofs.RowTotals.{modtotals-none, modtotals-next}
-use Rattle.prints.proofs.modtotals.first_modtotals.Statement.{statement}
-use Rattle.prints.proofs.modtotals.first_modtotals.Tie as tie
+use Rattle.store_plan.specs.inner.Modtotals.{firstModtotals}
+use Rattle.store_plan.proofs.RowTotals.{modtotals-none, modtotals-next}
+use Rattle.store_plan.proofs.modtotals.first_modtotals.Statement.{statement}
+use Rattle.store_plan.proofs.modtotals.first_modtotals.Tie as tie
 
 abbrev Inv-loop : tie.InvT-loop
 Inv-loop kind a sizes warm refs marks n prices all any totals₀ r₀ totals r =

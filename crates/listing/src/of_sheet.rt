@@ -1,7 +1,5 @@
-// The listing and the page of an accepted sheet, written into a lent place.
-// What the texts are is written in crates `listing` and `page`; nothing is assumed.
-pub mod modtotals;
-
+// The listing of an accepted sheet, written into a lent place.
+// What the text is stands in specs/Listing.antt.
 use model::PlaceAnswer;
 use model::Sheet;
 ghost use mathlib.Core.Path.{_≡_};
@@ -10,8 +8,7 @@ ghost use Rattle.model.specs.Sheets.{traceOf};
 ghost use Rattle.model.specs.Standing.{Standing};
 ghost use Rattle.model.specs.Traces.{refsOf};
 ghost use Rattle.model.specs.Values.{valueOf};
-ghost use Rattle.page.specs.Page.{pagesOf};
 ghost use Rattle.listing.specs.Listing.{listingOf};
 
 // How many references an accepted sheet has: the steps whose entry is a segment.
 pub fn sheet_refs(s: Sheet) -> usize
@@ -39,11 +36,11 @@ pub fn sheet_listing(s: Sheet, out: &mut [u8]) -> PlaceAnswer
 {
     let all = rows::all_figures(s);
     let refs = sheet_refs(s);
-    let mut totals = modtotals::no_modtotals();
-    if listing::row_text::has_modtotal(s.form) {
-        totals = modtotals::all_modtotals(s, all);
+    let mut totals = store_plan::modtotals::no_modtotals();
+    if crate::row_text::has_modtotal(s.form) {
+        totals = store_plan::modtotals::all_modtotals(s, all);
     }
-    listing::write(
+    crate::write(
         s.form,
         refs,
         s.steps,
@@ -53,15 +50,4 @@ pub fn sheet_listing(s: Sheet, out: &mut [u8]) -> PlaceAnswer
         s.head.rows,
         out,
     )
-}
-
-// The page or the two pages of an accepted sheet into a lent place, or 11.
-pub fn sheet_page(s: Sheet, out: &mut [u8]) -> PlaceAnswer
-    requires { ⌜ Standing s ⌝ }
-    ensures { λ r. ⌜ PlaceLeft (gives (pagesOf (valueOf s))) (now (out .entry)) (now (out .exit)) r ⌝ }
-{
-    let all = rows::all_figures(s);
-    let head = s.head;
-    let kind = head.kind;
-    page::write(kind, head.a, all, head.rows, out)
 }

@@ -1,5 +1,5 @@
 -- The modtotals of the rows of a run, one row after another, and the search for a touch that modifies. Assumes nothing.
-use Prim.Native.Nat.{ℕ, zero, suc, _+_, _≤_, _<_}
+use Prim.Native.Nat.{ℕ, zero, suc, _+_, _≤_, _<_, _^_}
 use mathlib.Core.Path.{_≡_, refl, sym, ap, _∙_}
 use mathlib.Core.Bool.{Bool, true, false, cond, _||_}
 use mathlib.Core.List.{List, [], _∷_}
@@ -10,14 +10,23 @@ use lib.Dec.{ltb}
 use lib.ListN.{length, getD, set, drop, drop-of-length-le}
 use lib.Seq.{drop-cons}
 use Rattle.model.specs.Figures.{opttotal}
-use Rattle.model.specs.Sheets.{marksOf, mostRows}
+use Rattle.model.specs.Sheets.{marksOf, mostRows, traceOf, rowIn, RunWithin, largestPrice}
 use Rattle.model.specs.Traces.{Trace}
-use Rattle.model.specs.Values.{zeros}
+use Rattle.model.specs.Values.{zeros, valueOf}
 use Rattle.model.specs.declared.PriceRow.{PriceRow}
 use Rattle.model.proofs.Tables.{getD-tabulate, tabulate-const, tabulate-set}
 use Rattle.stores.specs.Modtotal.{modAdded, modtotal}
 use Rattle.stores.proofs.Unmarked.{unmarked-total}
-use Rattle.prints.specs.inner.Modtotals.{someMark, modtotalIn, firstModtotals}
+use Rattle.model.specs.Rows.{rowFigures, zeroFigures}
+use Rattle.model.specs.Standing.{Standing}
+use Rattle.model.specs.declared.RowFigures.{RowFigures}
+use Rattle.model.specs.declared.Sheet.{Sheet}
+use Rattle.model.proofs.Standing.{rows-counted, row-of}
+use Rattle.figures.specs.Rows.{allFigures}
+use Rattle.rows.proofs.RowFigures.{figures-at}
+use Rattle.model.proofs.FigureBounds.{opttotal-within}
+use Rattle.stores.proofs.Within.{modAdded-within}
+use Rattle.store_plan.specs.inner.Modtotals.{someMark, modtotalIn, firstModtotals}
 
 -- ---- a touch that modifies
 
@@ -97,3 +106,20 @@ module _ (T : Trace) (marks : ℕ → Bool) (rows : List PriceRow) where
   pub modtotals-at : (n r : ℕ) → r < n → n ≤ mostRows → getD (firstModtotals T marks rows n) r 0 ≡ modtotalIn T marks rows r
   unfolding firstModtotals
   modtotals-at n r lt most = getD-tabulate mostRows (entryIn n) r 0 (omega arith) ∙ entry-is n r lt
+
+-- opttotal of a row of a standing sheet among the figures of all rows
+module _ (s : Sheet) (c : Standing s) where
+  pub opttotal-of : (all : List RowFigures) → all ≡ allFigures (valueOf s) → (r : ℕ) → r < s .head .rows
+      → getD all r zeroFigures .opttotal
+      ≡ opttotal (traceOf (valueOf s)) (rowIn (s .head .prices) r .h) (rowIn (s .head .prices) r .d)
+  unfolding rowFigures
+  opttotal-of all e r lt =
+      let here : r < length (valueOf s .head .rows) = omega (arith, rows-counted s c) in
+      let at = ap (λ fs. getD fs r zeroFigures) e ∙ figures-at (valueOf s) r zeroFigures here (c .valid .rows .rows-within) in
+      ap (λ f. f .opttotal) at ∙ rw (row-of s c r lt)
+
+-- modtotal of a run within the limits has at most 15 digits
+pub modtotal-within : (T : Trace) → RunWithin T → (marks : ℕ → Bool) (h d : ℕ) → h ≤ largestPrice → d ≤ largestPrice
+    → modtotal T marks h d < 10 ^ 15
+unfolding modtotal
+modtotal-within T c marks h d high-h high-d = omega (arith, opttotal-within T c h d high-h high-d, modAdded-within T c marks h d high-h)

@@ -1,4 +1,4 @@
--- `prints::modtotals::row_modtotal` meets its contract: what the pass gives is added, and nothing where no touch modifies.
+-- `store_plan::modtotals::row_modtotal` meets its contract: what the pass gives is added, and nothing where no touch modifies.
 -- Assumes nothing.
 use Prim.Native.Nat.{_+_}
 use mathlib.Core.Path.{_≡_, sym, _∙_}
@@ -8,10 +8,9 @@ use borrow.Author.Needs.{needs}
 use Rattle.model.specs.Sheets.{runOf, marksOf}
 use Rattle.model.specs.Traces.{Trace}
 use Rattle.stores.specs.Modtotal.{modtotal}
-use Rattle.listing.proofs.ListingMost.{modtotal-within}
-use Rattle.prints.proofs.RowTotals.{modtotal-adds, modtotal-plain}
-use Rattle.prints.proofs.modtotals.row_modtotal.Statement.{statement}
-use Rattle.prints.proofs.modtotals.row_modtotal.Tie as tie
+use Rattle.store_plan.proofs.RowTotals.{modtotal-adds, modtotal-plain, modtotal-within}
+use Rattle.store_plan.proofs.modtotals.row_modtotal.Statement.{statement}
+use Rattle.store_plan.proofs.modtotals.row_modtotal.Tie as tie
 
 -- the run that the function is called with
 abbrev Run : tie.Start → Trace

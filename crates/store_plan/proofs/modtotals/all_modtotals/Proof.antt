@@ -1,13 +1,13 @@
--- `prints::modtotals::all_modtotals` meets its contract: the rows are those of the sheet's value. Assumes nothing.
+-- `store_plan::modtotals::all_modtotals` meets its contract: the rows are those of the sheet's value. Assumes nothing.
 use mathlib.Core.Path.{sym, _∙_}
 use native.Mathlib.Omega.{arith}
 use borrow.Author.Needs.{needs}
 use lib.Seq.{length-take-le}
 use Rattle.model.specs.Values.{headValueOf, valueOf}
 use Rattle.model.proofs.Standing.{marks-counted, marks-steps, steps-counted}
-use Rattle.prints.proofs.PrintedTexts.{opttotal-of}
-use Rattle.prints.proofs.modtotals.all_modtotals.Statement.{statement}
-use Rattle.prints.proofs.modtotals.all_modtotals.Tie as tie
+use Rattle.store_plan.proofs.RowTotals.{opttotal-of}
+use Rattle.store_plan.proofs.modtotals.all_modtotals.Statement.{statement}
+use Rattle.store_plan.proofs.modtotals.all_modtotals.Tie as tie
 
 -- where the function begins
 abbrev Entry : tie.After-sizes2 → tie.Start

@@ -14,7 +14,7 @@ ghost use Rattle.model.specs.Standing.{Standing};
 ghost use Rattle.model.specs.Values.{valueOf, zeros};
 ghost use Rattle.figures.specs.Rows.{allFigures};
 ghost use Rattle.stores.specs.Modtotal.{modtotal};
-ghost use Rattle.prints.specs.inner.Modtotals.{someMark, firstModtotals};
+ghost use Rattle.store_plan.specs.inner.Modtotals.{someMark, firstModtotals};
 
 // Whether any touch modifies.
 fn any_mark(marks: &[bool]) -> bool
@@ -56,7 +56,7 @@ fn row_modtotal(
         (row .h) (row .d) ⌝ }
 {
     if any {
-        return total + store_plan::mod_pass::stores(kind, a, row, sizes, warm, refs, marks);
+        return total + crate::mod_pass::stores(kind, a, row, sizes, warm, refs, marks);
     }
     total
 }

@@ -1,4 +1,4 @@
--- `prints::sheet_listing` meets its contract: the listing is that of the sheet's value. Assumes nothing.
+-- `listing::of_sheet::sheet_listing` meets its contract: the listing is that of the sheet's value. Assumes nothing.
 use Prim.Native.Nat.{ℕ, _<_}
 use mathlib.Core.Path.{_≡_, sym, _∙_}
 use mathlib.Core.Logic.{inl, inr, ⊎-elim}
@@ -9,9 +9,9 @@ use lib.Dec.{leb}
 use lib.ListN.{getD}
 use Rattle.model.specs.Values.{valueOf}
 use Rattle.stores.specs.Rows.{rowModtotal}
-use Rattle.prints.proofs.PrintedTexts.{totals-of, listing-of, listing-fits}
-use Rattle.prints.proofs.sheet_listing.Statement.{statement}
-use Rattle.prints.proofs.sheet_listing.Tie as tie
+use Rattle.listing.proofs.SheetListing.{totals-of, listing-of, listing-fits}
+use Rattle.listing.proofs.of_sheet.sheet_listing.Statement.{statement}
+use Rattle.listing.proofs.of_sheet.sheet_listing.Tie as tie
 
 -- where the function begins
 abbrev Entry : tie.After-has-modtotal → tie.Start

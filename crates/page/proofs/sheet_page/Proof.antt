@@ -1,10 +1,10 @@
--- `prints::sheet_page` meets its contract: the page is that of the sheet's value, and every field fits. Assumes nothing.
+-- `page::sheet_page` meets its contract: the page is that of the sheet's value, and every field fits. Assumes nothing.
 use borrow.Author.Needs.{needs}
 use Rattle.model.specs.Values.{valueOf}
 use Rattle.model.proofs.Standing.{rows-counted}
-use Rattle.prints.proofs.PrintedTexts.{page-fits, pages-of}
-use Rattle.prints.proofs.sheet_page.Statement.{statement}
-use Rattle.prints.proofs.sheet_page.Tie as tie
+use Rattle.page.proofs.SheetPage.{page-fits, pages-of}
+use Rattle.page.proofs.sheet_page.Statement.{statement}
+use Rattle.page.proofs.sheet_page.Tie as tie
 
 write-requires : tie.Need-write-requires
 write-requires c κs =

@@ -1,12 +1,12 @@
--- `prints::modtotals::any_mark` meets its contract. The loop's invariant: what the marks left say decides. Assumes nothing.
+-- `store_plan::modtotals::any_mark` meets its contract. The loop's invariant: what the marks left say decides. Assumes nothing.
 use Prim.Native.Nat.{_-_}
 use mathlib.Core.Path.{_≡_, refl, sym, _∙_}
 use borrow.Author.Needs.{needs}
 use lib.ListN.{length, drop}
-use Rattle.prints.specs.inner.Modtotals.{someMark}
-use Rattle.prints.proofs.RowTotals.{some-here, some-after, some-end}
-use Rattle.prints.proofs.modtotals.any_mark.Statement.{statement}
-use Rattle.prints.proofs.modtotals.any_mark.Tie as tie
+use Rattle.store_plan.specs.inner.Modtotals.{someMark}
+use Rattle.store_plan.proofs.RowTotals.{some-here, some-after, some-end}
+use Rattle.store_plan.proofs.modtotals.any_mark.Statement.{statement}
+use Rattle.store_plan.proofs.modtotals.any_mark.Tie as tie
 
 abbrev Inv-loop : tie.InvT-loop
 Inv-loop marks t₀ t = someMark (drop t marks) ≡ someMark marks
