@@ -34,7 +34,8 @@ module _ (s : List ℕ) (v : SheetValue) (reads : readForms 4 4 s ≡ accepted v
 
   demand : MarkedDemand (traceOf v) (marksOf (v .marks)) (rowAt v r .h) (rowAt v r .d)
   demand =
-      run-demand (v .head .kind) (v .head .a) (v .head .sizes) (v .head .warm) (v .entries) (marksOf (v .marks)) (rowAt v r .h) (rowAt v r .d)
+      run-demand (v .head .kind) (v .head .a) (v .head .sizes) (v .head .warm) (v .entries) (marksOf (v .marks)) (rowAt v r .h)
+      (rowAt v r .d)
       (valid .run) (valid .warm) (valid .rows .some-d r row)
 
   -- what the schedule call answers and leaves

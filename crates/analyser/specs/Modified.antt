@@ -46,8 +46,8 @@ pub record HasModtotal (s : List ℕ) (v : SheetValue) (r : ℕ) (p : List ℕ) 
 pub record ModifiedFromBytes (s : List ℕ) (v : SheetValue) (r : ℕ) : Type 0 where
   -- the listing call has modtotal of each row after its mean
   pub listed : listingResult s
-      ≡ gives (listing 4 (refsOf (traceOf v)) (length (v .entries)) (length (v .head .sizes)) (tabulate (length (v .head .rows)) (figuresAt v))
-      (tabulate (length (v .head .rows)) (rowModtotal v)))
+      ≡ gives (listing 4 (refsOf (traceOf v)) (length (v .entries)) (length (v .head .sizes))
+      (tabulate (length (v .head .rows)) (figuresAt v)) (tabulate (length (v .head .rows)) (rowModtotal v)))
   -- no permitted schedule, whatever it holds and drops, costs less, stores counted
   pub lower : (p : List ℕ) → Permitted (traceOf v) p → rowModtotal v r ≤ sheetTotal v r p
   -- the schedule call accepts every place that is long enough, whatever stands there

@@ -60,7 +60,8 @@ module _ (v : SheetValue) (c : Valid v) (w : v .head .warm ≡ []) where
         form-within = omega arith;
         rows = c .rows;
         run = c .run;
-        whole = λ e t l. ⊎-elim (λ m. m) (λ i. absurd (none-idle (v .entries) t (length (v .head .sizes)) n l i)) (c .run .entry-within t l);
+        whole = λ e t l.
+            ⊎-elim (λ m. m) (λ i. absurd (none-idle (v .entries) t (length (v .head .sizes)) n l i)) (c .run .entry-within t l);
         warm = c .warm;
         cold = λ _. w;
         marked = λ l. absurd (omega (arith, l));

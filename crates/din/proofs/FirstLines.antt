@@ -197,7 +197,8 @@ line-unlabelled (b ∷ s) long e = go (eqb b lineFeed)
     go false = sym (not-label b (traceLines s) e)
 
 -- without its blank
-pub line-unparted : (s : List ℕ) → 2 ≤ length s → isLabel (getD s 0 0) ≡ true → (getD s 1 0 ≡ blank → ⊥) → malformed ≡ firstOf (traceLines s)
+pub line-unparted : (s : List ℕ) → 2 ≤ length s → isLabel (getD s 0 0) ≡ true → (getD s 1 0 ≡ blank → ⊥)
+    → malformed ≡ firstOf (traceLines s)
 unfolding traceLines firstOf addressOf
 line-unparted [] long e ne = absurd (omega arith)
 line-unparted (b ∷ []) long e ne = absurd (omega arith)

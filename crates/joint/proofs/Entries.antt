@@ -50,7 +50,11 @@ module _ (v : SheetValue) (ok : Valid v) where
     where
       beyond : length (v .entries) ≤ t → eqb (entry (traceOf v) t) i ≡ eqb (entryOf v t) i
       beyond le =
-          rw (List·getD-eq-default (v .entries) (segs (traceOf v)) le, entry-beyond v t le, ne-eqb (segs (traceOf v)) i (λ same. omega arith))
+          rw (
+            List·getD-eq-default (v .entries) (segs (traceOf v)) le,
+            entry-beyond v t le,
+            ne-eqb (segs (traceOf v)) i (λ same. omega arith),
+          )
           (sym (ne-eqb idle i (λ same. omega (arith, ok .run .segs-within))))
 
 -- where no step has touches of both, one of the two entries is idle

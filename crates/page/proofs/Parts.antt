@@ -101,7 +101,8 @@ unfolding blankLine pageLine
 blank-parts = refl
 
 -- one line of blanks more
-pub blank-lines-next : (i : ℕ) → concatenated (replicate (i + 1) blankLine) ≡ concatenated (replicate i blankLine) ++ (blanks 72 ++ (lineFeed ∷ []))
+pub blank-lines-next : (i : ℕ)
+    → concatenated (replicate (i + 1) blankLine) ≡ concatenated (replicate i blankLine) ++ (blanks 72 ++ (lineFeed ∷ []))
 blank-lines-next i = rw (← replicate-next i blankLine, concatenated-next) (ap (λ l. concatenated (replicate i blankLine) ++ l) blank-parts)
 
 -- ---- pages

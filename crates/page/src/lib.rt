@@ -150,7 +150,8 @@ fn put_page(
 ) -> usize
     requires { ⌜ (first ≤ end) × (end ≤ 64) × (end ≤ first + 58) × ((r : ℕ) → r < end → Fits (getD figures r zeroFigures))
         × (at + 4380 ≤ length (now out)) ⌝ }
-    ensures { λ r. ⌜ Put (concatenated (pageLines kind a (take (end - first) (drop first figures)))) at (now (out .entry)) r (now (out .exit))
+    ensures { λ r. ⌜ Put (concatenated (pageLines kind a (take (end - first) (drop first figures)))) at (now (out .entry)) r
+        (now (out .exit))
         × (r ≡ at + 4380) ⌝ }
 {
     let names = put_title(kind, a, out, at);

@@ -31,7 +31,8 @@ pub record Later (T : Trace) (k : ℕ) (x : Ratio) : Type 0 where
 
 module _ (T : Trace) where
   -- what is below a threshold is below every later one
-  pub below-later : (q : Ratio) (k j : ℕ) → k ≤ j → j < length (thresholds T) → LessRatio q (thresholdAt T k) → LessRatio q (thresholdAt T j)
+  pub below-later : (q : Ratio) (k j : ℕ) → k ≤ j → j < length (thresholds T) → LessRatio q (thresholdAt T k)
+      → LessRatio q (thresholdAt T j)
   below-later q k j le lt b =
       ⊎-elim (λ e. rw (← e) b)
       (λ l. below-trans q (thresholdAt T k) (thresholdAt T j) (thresholds-positive T k (omega arith)) (thresholds-positive T j lt) b

@@ -19,7 +19,8 @@ use Rattle.model.proofs.Touches.{touched-at, entry-touched}
 use Rattle.model.proofs.Loads.{overTouches-eq, overTouches-total, touching-le, load-swaps}
 use Rattle.model.proofs.Ascent.{cross-trans, kept-later}
 use Rattle.model.proofs.LowerBound.{schedule-lower-bound}
-use Rattle.points.specs.Points.{Ratio, reuses, ratioAt, thresholds, thresholdAt, pointMemory, pointLoad, LessRatio, EqualRatio, Earliest}
+use Rattle.points.specs.Points.{Ratio, reuses, ratioAt, thresholds, thresholdAt, pointMemory, pointLoad}
+use Rattle.points.specs.Points.{LessRatio, EqualRatio, Earliest}
 use Rattle.points.proofs.Lists.{below-same}
 use Rattle.points.proofs.Thresholds.{ratio-positive, thresholds-positive, thresholds-ascending, thresholds-of-run}
 use Rattle.points.proofs.Between.{Within, Later, side, kept-ratio}

@@ -8,7 +8,8 @@ use lib.ListN.{length}
 use Rattle.model.specs.Traces.{Trace, segs, steps, touched}
 use Rattle.model.specs.Figures.{kept, optmem, load}
 use Rattle.model.specs.Schedules.{Permitted, scheduleMemory, scheduleLoad}
-use Rattle.points.specs.Points.{Ratio, reuses, ratioAt, zeroOne, thresholds, thresholdAt, pointMemory, pointLoad, LessRatio, EqualRatio, Has}
+use Rattle.points.specs.Points.{Ratio, reuses, ratioAt, zeroOne, thresholds, thresholdAt, pointMemory, pointLoad}
+use Rattle.points.specs.Points.{LessRatio, EqualRatio, Has}
 use Rattle.points.specs.Points.{Earliest}
 
 -- 0 and 1, and no reuse has the ratio 0

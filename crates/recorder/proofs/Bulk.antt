@@ -174,7 +174,8 @@ record OneByOne (v : SheetValue) (xs : List ℕ) (r : TouchAnswer) (w : Verdict)
   all-taken : r .verdict ≡ Accepted → r .recorder ≡ recorderOf (appended v xs)
 
 one-by-one-step : (v : SheetValue) (x : ℕ) (xs : List ℕ)
-    → OneByOne (taken v x) xs (oneByOne (taken v x) xs) (refsVerdict (min (length (v .head .sizes)) mostSegs) (suc (length (v .entries))) xs)
+    → OneByOne (taken v x) xs (oneByOne (taken v x) xs)
+    (refsVerdict (min (length (v .head .sizes)) mostSegs) (suc (length (v .entries))) xs)
     → (w : Verdict)
     → OneByOne v (x ∷ xs) (rest-touched v x xs w) (rest-verdict (min (length (v .head .sizes)) mostSegs) (length (v .entries)) xs w)
 unfolding rest-touched rest-verdict

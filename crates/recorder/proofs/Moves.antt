@@ -107,7 +107,8 @@ sheet-moves v valid =
     (moves-entries (started v) (movesOf v) ∙ entries-again (length (v .head .sizes)) (v .entries) (valid .run .entry-within))
 
 -- one move that is accepted, and then the rest
-first-move : (v : SheetValue) (m : Move) (ms : List Move) → moveVerdict (recorderOf v) m ≡ Accepted → movesVerdict (afterMove v m) ms ≡ Accepted
+first-move : (v : SheetValue) (m : Move) (ms : List Move) → moveVerdict (recorderOf v) m ≡ Accepted
+    → movesVerdict (afterMove v m) ms ≡ Accepted
     → movesVerdict v (m ∷ ms) ≡ Accepted
 unfolding movesVerdict
 first-move v m ms a rest =

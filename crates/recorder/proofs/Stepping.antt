@@ -113,7 +113,8 @@ rested-of v valid =
     (standing v ∙ passed-agree rows T (v .entries ++ (idle ∷ [])) n (grown-agree T idle)) (rw (entry-grown T idle) none) in
     let cost : refCost T ≡ refCost (grown T idle) = omega (arith, rw (le-ltb idle (segs T) none) at (cost-grown T idle)) in
     let volume : refVolume T ≡ refVolume (grown T idle) = omega (arith, rw (le-ltb idle (segs T) none) at (volume-grown T idle)) in
-    recorder-passed (withIdle v) (n + 1) end (recorderOf v .buckets) (recorderOf v .last) (refCost T) (refVolume T) (passed ∙ all) cost volume
+    recorder-passed (withIdle v) (n + 1) end (recorderOf v .buckets) (recorderOf v .last) (refCost T) (refVolume T) (passed ∙ all) cost
+    volume
 
 -- from any recorder that stands for v
 pub rested-stands : (R : Recorder) (v : SheetValue) → Valid v → R ≡ recorderOf v → withStep R ≡ recorderOf (withIdle v)

@@ -19,7 +19,8 @@ segment-within n x few = go (ltb x n) refl
 
 -- what a step touches is the segment of its reference, if it has one
 pub touched-ref : (T : Trace) (t i : ℕ) → t < steps T → i < 256 → touched T t i ≡ eqb (segmentOf (segs T) (getD (T .entries) t 0)) i
-touched-ref T t i lt few = rw (entry-ref T t lt) (go (getD (T .entries) t 0) (ltb (getD (T .entries) t 0) (segs T)) refl (ltb i (segs T)) refl)
+touched-ref T t i lt few =
+    rw (entry-ref T t lt) (go (getD (T .entries) t 0) (ltb (getD (T .entries) t 0) (segs T)) refl (ltb i (segs T)) refl)
   where
     go : (x : ℕ) (b : Bool) → ltb x (segs T) ≡ b → (c : Bool) → ltb i (segs T) ≡ c → c && eqb x i ≡ eqb (cond b x 256) i
     go x true e true f = refl

@@ -134,7 +134,8 @@ plain-kept : (segs : ℕ) → Kept (plainPart segs)
     (λ e. Counted 0 mostSteps (From 0 (segs - 1)) (e .entries) × (e ≡ record { entries = e .entries; marks = [] }))
 unfolding plainPart
 plain-kept segs =
-    then-kept (refs-kept segs) (λ refs _. whole-kept (record { entries = refs; marks = [] })) (λ refs e f g. ap (λ (w : Entries). w .entries) g)
+    then-kept (refs-kept segs) (λ refs _. whole-kept (record { entries = refs; marks = [] }))
+    (λ refs e f g. ap (λ (w : Entries). w .entries) g)
 
 -- what n lines of touches ask of entries and marks
 abbrev TouchesFit : Bool → ℕ → ℕ → ℕ → Entries → Type 0
@@ -285,7 +286,8 @@ head-segs taken later s h rest e = head-kept taken later .both .back s h rest e 
 abbrev BodyFits : ℕ → ℕ → SheetValue → Type 0
 BodyFits lo form v =
     HeadFits (leb lo form) (leb 3 form) (v .head)
-    × ((EntriesFit (leb 2 form) (length (v .head .sizes)) (v .entries) × MarksFit (leb 4 form) (length (v .head .sizes)) (v .entries) (v .marks))
+    × ((EntriesFit (leb 2 form) (length (v .head .sizes)) (v .entries)
+    × MarksFit (leb 4 form) (length (v .head .sizes)) (v .entries) (v .marks))
     × (v ≡ record { form = form; head = v .head; entries = v .entries; marks = v .marks }))
 
 body-kept : (lo form : ℕ) → Kept (bodyPart lo form) (BodyFits lo form)

@@ -160,7 +160,8 @@ folded-decides T marks row found on told folded t lt touch =
     folded t (omega arith) lt touch
     ∙ rw (
       told .kept-are t lt touch,
-      nextMarked-eq T marks (decisionsOf (found .joined)) (joinsBefore T marks (row .h) (row .d)) (told .joined-are) (steps T - t) t (entry T t)
+      nextMarked-eq T marks (decisionsOf (found .joined)) (joinsBefore T marks (row .h) (row .d)) (told .joined-are) (steps T - t) t
+          (entry T t)
           (omega arith),
     )
 

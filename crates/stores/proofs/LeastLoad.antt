@@ -19,7 +19,8 @@ use Rattle.model.proofs.Sums.{term-le}
 use Rattle.model.proofs.Decisions.{heldBytes-eq, nextDecided-eq}
 use Rattle.model.proofs.Optimal.{next-kept}
 use Rattle.model.proofs.LeastLoad.{kept-scaled}
-use Rattle.stores.specs.Modtotal.{excess, plus, sinceMark, sinceThrough, modtotal, joins, joinsBefore, nextMarked, modHeld, modSchedule}
+use Rattle.stores.specs.Modtotal.{excess, plus, sinceMark, sinceThrough, modtotal, joins, joinsBefore, nextMarked}
+use Rattle.stores.specs.Modtotal.{modHeld, modSchedule}
 use Rattle.stores.specs.Stays.{markedLoad, markedTotal}
 use Rattle.stores.proofs.LowerBound.{marked-lower-bound}
 use Rattle.stores.proofs.Nexts.{nextMarked-eq}
@@ -144,7 +145,8 @@ module _ (T : Trace) (marks : ℕ → Bool) (h d M : ℕ) (big : (i : ℕ) → i
       marked-same : nextMarked T marks (joinsBefore T marks (M * h + 1) (M * d)) k (suc t) i
           ≡ nextMarked T marks (joinsBefore T marks h d) k (suc t) i
       marked-same =
-          nextMarked-eq T marks (joinsBefore T marks (M * h + 1) (M * d)) (joinsBefore T marks h d) (λ t lt l. joined-same t (entry T t) lt l)
+          nextMarked-eq T marks (joinsBefore T marks (M * h + 1) (M * d)) (joinsBefore T marks h d)
+          (λ t lt l. joined-same t (entry T t) lt l)
           k (suc t) i (omega arith)
 
   -- and the schedule
