@@ -18,10 +18,11 @@ use Rattle.sheet.specs.Accepting.{onSheet}
 use Rattle.sheet.specs.Reading.{Outcome, accepted, rejected, readForms}
 use Rattle.sheet.specs.Writing.{sheetText}
 use Rattle.sheet.proofs.Accepted.{accepted-valid}
-use Rattle.convert.specs.Forms.{inForm, hasIdle, toForm1, toForm2}
+use Rattle.sheet.specs.Forms.{inForm, hasIdle, toForm1, toForm2}
 use Rattle.convert.proofs.Conversions.{there-and-back, back-and-there}
 use Rattle.convert.proofs.Idle.{none-idle, idle-none}
-use Rattle.analyser.specs.Converting.{toForm2Result, toForm1Result, ThereAndBack}
+use Rattle.analyser.specs.Sheets.{toForm2Result, toForm1Result}
+use Rattle.analyser.specs.RoundTrip.{ThereAndBack}
 use Rattle.analyser.proofs.Given.{given-same, given-by}
 
 -- ---- references and steps

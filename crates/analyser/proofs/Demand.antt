@@ -18,15 +18,17 @@ use Rattle.model.proofs.Demand.{demand-3}
 use Rattle.sheet.specs.Reading.{accepted, readForms, readSheet}
 use Rattle.sheet.proofs.Accepted.{accepted-valid, accepted-form}
 use Rattle.sheet.proofs.RoundTrip.{every-form}
-use Rattle.figures.specs.Rows.{figuresOf, figuresAt}
+use Rattle.model.specs.RowAnswers.{figuresOf, figuresAt}
 use Rattle.pricing.proofs.Verdicts.{permitted-accepted}
 use Rattle.sheet_schedules.proofs.PlanResults.{schedule-length, schedule-placed, price-at}
 use Rattle.sheet_schedules.proofs.Prices.{accepted-at}
 use Rattle.stores.specs.Rows.{sheetLoad, sheetTotal}
 use Rattle.stores.specs.Stays.{markedTotal}
 use Rattle.stores.proofs.Unmarked.{unmarked-load}
-use Rattle.analyser.specs.Answers.{figuresAnswer, scheduleResult, pricing}
-use Rattle.analyser.specs.Demand.{priceOf, leftSchedule, HasOptimum, Demand3FromBytes}
+use Rattle.analyser.specs.Figures.{figuresAnswer}
+use Rattle.analyser.specs.Schedules.{scheduleResult, pricing}
+use Rattle.analyser.specs.DemandFromBytes.{leftSchedule, HasOptimum, Demand3FromBytes}
+use Rattle.analyser.specs.Schedules.{priceOf}
 
 -- of a sheet of any form
 module _ (s : List ℕ) (v : SheetValue) (reads : readSheet s ≡ accepted v) (r : ℕ) (row : r < length (v .head .rows)) where

@@ -18,14 +18,17 @@ use Rattle.model.specs.declared.Verdict.the-variants.{Accepted}
 use Rattle.sheet.specs.Reading.{accepted, readForms, readSheet}
 use Rattle.sheet.proofs.Accepted.{accepted-form}
 use Rattle.sheet.proofs.RoundTrip.{taken-form}
-use Rattle.figures.specs.Rows.{figuresAt}
+use Rattle.model.specs.RowAnswers.{figuresAt}
 use Rattle.listing.specs.Listing.{listing}
 use Rattle.sheet_schedules.proofs.PlanResults.{schedule-length, modified-length}
 use Rattle.stores.specs.Rows.{rowModtotal, rowModSchedule, sheetLoad, sheetTotal}
-use Rattle.analyser.specs.Answers.{listingResult, scheduleResult}
-use Rattle.analyser.specs.Demand.{priceOf, leftSchedule, HasOptimum, Demand3FromBytes}
+use Rattle.analyser.specs.Texts.{listingResult}
+use Rattle.analyser.specs.Schedules.{scheduleResult}
+use Rattle.analyser.specs.DemandFromBytes.{leftSchedule, HasOptimum, Demand3FromBytes}
+use Rattle.analyser.specs.Schedules.{priceOf}
 use Rattle.analyser.specs.DemandThree.{rowOptimum, leftByForm, OwnOptimum, DemandThree, EveryRow}
-use Rattle.analyser.specs.Modified.{modifiedResult, leftModified, HasModtotal, ModifiedFromBytes}
+use Rattle.analyser.specs.Schedules.{modifiedResult}
+use Rattle.analyser.specs.ModifiedFromBytes.{leftModified, HasModtotal, ModifiedFromBytes}
 use Rattle.analyser.proofs.Demand.{stores-priced, load-is, total-is, demand-3-from-bytes}
 use Rattle.analyser.proofs.Modified.{modified-from-bytes}
 

@@ -6,7 +6,7 @@ use native.Mathlib.Omega.{arith}
 use Rattle.model.specs.Places.{Result, gives, refuses}
 use Rattle.model.specs.declared.Verdict.{Verdict}
 use Rattle.model.specs.declared.Verdict.the-variants.{Accepted, Refused}
-use Rattle.lru_curve.specs.Frames.{listAfter}
+use Rattle.lru.specs.Answers.{listAfter}
 
 -- what a result gives, and whether it does
 abbrev given : Result → List ℕ

@@ -13,8 +13,8 @@ use Rattle.model.specs.declared.Verdict.{Verdict}
 use Rattle.model.specs.declared.Verdict.the-variants.{Accepted, Refused}
 use Rattle.sheet.specs.Reading.{Outcome, accepted, rejected, readForms}
 use Rattle.sheet.proofs.Accepted.{accepted-valid, accepted-form}
-use Rattle.figures.specs.Rows.{figuresOf}
-use Rattle.figures.specs.declared.FiguresAnswer.{FiguresAnswer}
+use Rattle.model.specs.RowAnswers.{figuresOf}
+use Rattle.model.specs.declared.FiguresAnswer.{FiguresAnswer}
 use Rattle.recorder.specs.Recorders.{recorderOf, emptyRecorder, started, withIdle, withStep, touchVerdict, refsVerdict}
 use Rattle.recorder.specs.Recorders.{TouchedAll, Rested, Figured}
 use Rattle.recorder.specs.declared.Recorder.{Recorder}

@@ -15,7 +15,8 @@ use Rattle.din.specs.Import.{imported}
 use Rattle.din.specs.Lines.{traceLines}
 use Rattle.din.specs.Traced.{lineCount}
 use Rattle.din.proofs.Results.{imported-is, imported-valid, imported-read, imported-refs, imported-number, imported-new, imported-same}
-use Rattle.analyser.specs.Importing.{importedResult, importResult, importedValue, ImportedFromBytes}
+use Rattle.analyser.specs.Sheets.{importedResult, importResult}
+use Rattle.analyser.specs.ImportedFromBytes.{importedValue, ImportedFromBytes}
 use Rattle.analyser.proofs.Given.{given-accepted}
 
 module _ (trace : List ℕ) (k : ℕ) (s text : List ℕ) (v : SheetValue) (reads : readSheet s ≡ accepted v)

@@ -27,7 +27,8 @@ use Rattle.din.specs.Pages.{leastPower, largestPower, segmentCount, touchedWith
 use Rattle.din.specs.Traced.{andAddress, addresses, lineCount, pagesIn}
 use Rattle.din.proofs.Firsts.{with-length, firsts-append}
 use Rattle.din.proofs.Results.{imported-is, imported-valid, imported-refs}
-use Rattle.analyser.specs.Importing.{importedResult, importResult, wellFormed, Importable, GivenExactly}
+use Rattle.analyser.specs.Sheets.{importedResult, importResult}
+use Rattle.analyser.specs.ImportedFromBytes.{wellFormed, Importable, GivenExactly}
 use Rattle.analyser.proofs.Given.{given-accepted}
 
 -- ---- lines that are taken are well formed

@@ -20,10 +20,11 @@ use Rattle.joint.specs.Joining.{joinOf}
 use Rattle.joint.specs.Joint.{jointHead, joined, Joins}
 use Rattle.joint.proofs.Joined.{same-heads, joined-valid, joint-figures, side-by-side}
 use Rattle.joint.proofs.Joining.{join-joined, join-accepted}
-use Rattle.analyser.specs.Answers.{figuresAnswer}
+use Rattle.analyser.specs.Figures.{figuresAnswer}
 use Rattle.analyser.proofs.Demand.{figures-are}
 use Rattle.analyser.proofs.Given.{given-accepted}
-use Rattle.analyser.specs.Joining.{jointResult, joinResult, FiguresAdd, JoinedFromBytes}
+use Rattle.analyser.specs.Sheets.{jointResult, joinResult}
+use Rattle.analyser.specs.JoinedFromBytes.{FiguresAdd, JoinedFromBytes}
 
 module _ (s1 s2 : List ℕ) (v w : SheetValue) (first : readForms 2 3 s1 ≡ accepted v) (second : readForms 2 3 s2 ≡ accepted w) where
   -- the call goes by what joining the two comes to

@@ -26,7 +26,7 @@ use Rattle.listing.specs.RowListing.{rowListing, modListing, rowsListing}
 use Rattle.listing.specs.Listing.{stepsListing, listing, listingOf, refusedText}
 use Rattle.page.specs.Page.{columns, pageLine, titleLine, namesLine, rowLine as pageRow, blankLine, pageLines, secondPage, allLines}
 use Rattle.page.specs.Page.{concatenated, pages, pagesOf}
-use Rattle.analyser.specs.Answers.{printedText, pageResult}
+use Rattle.analyser.specs.Texts.{printedText, pageResult}
 
 -- ---- the listing of each form
 

@@ -14,9 +14,10 @@ use Rattle.sheet.specs.Reading.{readSheet}
 use Rattle.sheet.specs.declared.SheetAnswer.{SheetAnswer}
 use Rattle.sheet.proofs.Accepting.{on-refused, on-accepted, result-refused, result-accepted}
 use Rattle.lru.specs.Recency.{distinct}
-use Rattle.lru_curve.specs.Answers.{noCurve, curveFor, lookedFor, CurveLeft}
-use Rattle.lru_curve.specs.declared.CurveAnswer.{CurveAnswer}
-use Rattle.analyser.specs.Curving.{lruResult, lruLooked, lruMost, LruLeft}
+use Rattle.lru.specs.Answers.{noCurve, curveFor, lookedFor}
+use Rattle.lru_curve.specs.inner.Left.{CurveLeft}
+use Rattle.lru.specs.declared.CurveAnswer.{CurveAnswer}
+use Rattle.analyser.specs.Curves.{lruResult, lruLooked, lruMost, LruLeft}
 
 -- what is looked at for a sheet
 abbrev lookedAt : List ℕ → SheetValue → ℕ

@@ -18,10 +18,11 @@ use Rattle.lru.specs.Demand.{LruDemand}
 use Rattle.lru.specs.Recency.{lruMisses, lruCurve, entriesLooked, distinct}
 use Rattle.lru.proofs.Agree.{curves-agree}
 use Rattle.lru.proofs.Demand.{lru-demand}
-use Rattle.lru_curve.specs.Frames.{onesVerdict, onesFor}
+use Rattle.lru.specs.Answers.{onesVerdict, onesFor}
 use Rattle.lru_curve.proofs.Ones.{every-run}
-use Rattle.lru_curve.specs.Answers.{curveFor, plainFor, lookedFor}
-use Rattle.analyser.specs.Curving.{lruResult, lruPlainResult, lruLooked, Misses, LruFromBytes}
+use Rattle.lru.specs.Answers.{curveFor, plainFor, lookedFor}
+use Rattle.analyser.specs.Curves.{lruResult, lruPlainResult, lruLooked}
+use Rattle.analyser.specs.LruFromBytes.{Misses, LruFromBytes}
 use Rattle.analyser.proofs.GivenLists.{given-after}
 
 -- the two engines have the same for what reading came to

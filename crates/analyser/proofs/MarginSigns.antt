@@ -12,9 +12,9 @@ use Rattle.model.specs.Traces.{entry, unreferenced, refsOf, placeOf}
 use Rattle.model.specs.declared.Verdict.the-variants.{Accepted}
 use Rattle.model.proofs.Margins.{reuse-margin}
 use Rattle.sheet.specs.Reading.{accepted, readSheet}
-use Rattle.margin.specs.Margins.{touchMargin}
+use Rattle.model.specs.Margins.{touchMargin}
 use Rattle.margin.proofs.MarginResults.{margin-at}
-use Rattle.analyser.specs.RowAnswers.{marginAnswer}
+use Rattle.analyser.specs.Figures.{marginAnswer}
 
 -- the n-th reference, counted from 1, at row r of the sheet v that a run of bytes s reads as
 module _ (s : List ℕ) (v : SheetValue) (reads : readSheet s ≡ accepted v) (r n : ℕ) (row : r < length (v .head .rows)) (some : 1 ≤ n)

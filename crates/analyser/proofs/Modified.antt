@@ -18,9 +18,10 @@ use Rattle.stores.specs.Demand.{MarkedDemand}
 use Rattle.stores.specs.Rows.{rowModSchedule}
 use Rattle.stores.proofs.Demand.{run-demand}
 use Rattle.stores.proofs.Unmarked.{unmarked-total, unmarked-schedule}
-use Rattle.analyser.specs.Answers.{listingResult}
+use Rattle.analyser.specs.Texts.{listingResult}
 use Rattle.analyser.proofs.Demand.{stores-priced}
-use Rattle.analyser.specs.Modified.{modifiedResult, leftModified, HasModtotal, ModifiedFromBytes}
+use Rattle.analyser.specs.Schedules.{modifiedResult}
+use Rattle.analyser.specs.ModifiedFromBytes.{leftModified, HasModtotal, ModifiedFromBytes}
 
 module _ (s : List ℕ) (v : SheetValue) (reads : readForms 4 4 s ≡ accepted v) (r : ℕ) (row : r < length (v .head .rows)) where
   any : readSheet s ≡ accepted v

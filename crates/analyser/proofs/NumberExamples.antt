@@ -30,17 +30,17 @@ use Rattle.sheet.specs.Touches.{touchLine, touchLines, placedFrom, touchesFrom}
 use Rattle.sheet.specs.Values.{kindLine, rowLine, rowLines}
 use Rattle.sheet.specs.Warm.{holdLine, holdLines}
 use Rattle.sheet.specs.Writing.{sheetText}
-use Rattle.figures.specs.Rows.{figuresOf}
+use Rattle.model.specs.RowAnswers.{figuresOf}
 use Rattle.stores.specs.Modtotal.{sinceMark, joinsBefore, nextMarked, modHeld, modSchedule}
 use Rattle.stores.specs.Stays.{all, any, everyStep, someStep, heldBefore, heldAfter, isStay, modifiesIn, isModifiedStay, storesOf}
 use Rattle.stores.specs.Stays.{markedLoad, markedTotal}
-use Rattle.pricing.specs.StepVerdicts.{missing, enters, someEnters, stepVerdict, stepsVerdict}
-use Rattle.pricing.specs.Checking.{scheduleVerdict}
-use Rattle.sheet_schedules.specs.Plans.{scheduleFor, modifiedFor, pricedAt, priceFor}
-use Rattle.margin.specs.Margins.{touchMargin, marginFor}
+use Rattle.model.specs.Pricing.{missing, enters, someEnters, stepVerdict, stepsVerdict}
+use Rattle.model.specs.Pricing.{scheduleVerdict}
+use Rattle.stores.specs.Plans.{scheduleFor, modifiedFor, pricedAt, priceFor}
+use Rattle.model.specs.Margins.{touchMargin, marginFor}
 use Rattle.tariff.specs.Tariff.{billOf}
-use Rattle.rows.specs.Billing.{rowBill, billFor}
-use Rattle.convert.specs.Forms.{someIdle}
+use Rattle.tariff.specs.Billing.{rowBill, billFor}
+use Rattle.sheet.specs.Forms.{someIdle}
 use Rattle.joint.specs.Joint.{sameRows, sameHeads, bothTouch, jointRefs, jointHead, joined as joint}
 use Rattle.joint.specs.Joining.{joinOf}
 use Rattle.din.specs.Lines.{traceLines, digitOf, addressOf, allDigits as hexDigits, valueFrom as hexValue}
@@ -49,24 +49,26 @@ use Rattle.din.specs.Import.{imported}
 use Rattle.lru.specs.Orders.{without, placeOf}
 use Rattle.lru.specs.Recency.{recency, distance, lruMisses, entriesLooked}
 use Rattle.lru.specs.Memory.{has, leastRecent, replaced, swapped, reloaded, memory, lruSimulated}
-use Rattle.lru_curve.specs.Frames.{allOnes, onesVerdict}
-use Rattle.lru_curve.specs.Answers.{curveFor, plainFor}
-use Rattle.window_list.specs.Answers.{timeZero, wsoccs, windowsFor}
+use Rattle.lru.specs.Answers.{allOnes, onesVerdict}
+use Rattle.lru.specs.Answers.{curveFor, plainFor}
+use Rattle.windows.specs.Answers.{timeZero, wsoccs, windowsFor}
 use Rattle.points.specs.Points.{insert, ratios, thresholds, pointNumbers, operatingPoints}
-use Rattle.point_list.specs.Answers.{pointsFor}
+use Rattle.points.specs.Answers.{pointsFor}
 use Rattle.listing.specs.RowListing.{rowListing, modListing, rowsListing}
 use Rattle.listing.specs.Listing.{stepsListing, listingOf, listing as listingText}
 use Rattle.recorder.specs.Recorders.{recorderOf, emptyRecorder}
-use Rattle.analyser.specs.Answers.{figuresAnswer, listingResult, pageResult, scheduleResult, pricing}
-use Rattle.analyser.specs.RowAnswers.{marginAnswer, sizeAnswer, billAnswer}
-use Rattle.analyser.specs.Converting.{toForm2Result, toForm1Result}
-use Rattle.analyser.specs.Curving.{lruResult, lruPlainResult, lruLooked}
-use Rattle.analyser.specs.Importing.{importResult}
-use Rattle.analyser.specs.Joining.{joinResult}
-use Rattle.analyser.specs.Modified.{modifiedResult}
-use Rattle.analyser.specs.Operating.{pointsResult}
+use Rattle.analyser.specs.Figures.{figuresAnswer}
+use Rattle.analyser.specs.Texts.{listingResult, pageResult}
+use Rattle.analyser.specs.Schedules.{scheduleResult, pricing}
+use Rattle.analyser.specs.Figures.{marginAnswer, sizeAnswer, billAnswer}
+use Rattle.analyser.specs.Sheets.{toForm2Result, toForm1Result}
+use Rattle.analyser.specs.Curves.{lruResult, lruPlainResult, lruLooked}
+use Rattle.analyser.specs.Sheets.{importResult}
+use Rattle.analyser.specs.Sheets.{joinResult}
+use Rattle.analyser.specs.Schedules.{modifiedResult}
+use Rattle.analyser.specs.Curves.{pointsResult}
 use Rattle.analyser.specs.Recording.{startAnswer}
-use Rattle.analyser.specs.Windowing.{windowsResult}
+use Rattle.analyser.specs.Curves.{windowsResult}
 
 -- ---- the sheets
 

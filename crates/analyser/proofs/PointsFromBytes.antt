@@ -20,15 +20,16 @@ use Rattle.sheet.proofs.Accepted.{accepted-valid}
 use Rattle.points.specs.Points.{thresholds, pointMemory, operatingPoints}
 use Rattle.points.proofs.Sheets.{sheet-curve, sheet-place, row-point}
 use Rattle.point_list.proofs.Running.{numbers-length}
-use Rattle.point_list.specs.Answers.{pointsFor}
+use Rattle.points.specs.Answers.{pointsFor}
 use Rattle.point_list.proofs.Fitting.{points-fit}
-use Rattle.pricing.specs.Checking.{noPrice, scheduleVerdict}
+use Rattle.model.specs.Pricing.{noPrice, scheduleVerdict}
 use Rattle.pricing.proofs.Verdicts.{accepted-permitted}
-use Rattle.sheet_schedules.specs.Plans.{pricedAt, priceFor}
+use Rattle.stores.specs.Plans.{pricedAt, priceFor}
 use Rattle.stores.specs.Rows.{sheetLoad}
 use Rattle.stores.specs.Stays.{markedLoad}
-use Rattle.analyser.specs.Answers.{pricing}
-use Rattle.analyser.specs.Operating.{pointsResult, RowPoint, OnOrAbove, PointsFromBytes}
+use Rattle.analyser.specs.Schedules.{pricing}
+use Rattle.analyser.specs.Curves.{pointsResult}
+use Rattle.analyser.specs.PointsFromBytes.{RowPoint, OnOrAbove, PointsFromBytes}
 use Rattle.analyser.proofs.Demand.{figures-are, stores-priced}
 
 module _ (s : List ℕ) (v : SheetValue) (reads : readSheet s ≡ accepted v) where

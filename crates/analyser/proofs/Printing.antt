@@ -12,7 +12,7 @@ use Rattle.sheet.proofs.Refusals.{sheet-refusals}
 use Rattle.listing.specs.Listing.{refusedText, mostListing, listingOf}
 use Rattle.listing.proofs.ListingMost.{listing-most, refused-most}
 use Rattle.sheet.specs.Accepting.{onSheet}
-use Rattle.analyser.specs.Answers.{printedText}
+use Rattle.analyser.specs.Texts.{printedText}
 
 module _ (s : List ℕ) where
   printed-on : (o : Outcome) → readSheet s ≡ o → length (onSheet o refusedText listingOf) ≤ mostListing

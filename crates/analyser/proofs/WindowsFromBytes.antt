@@ -14,10 +14,11 @@ use Rattle.model.proofs.Tables.{length-tabulate, getD-tabulate}
 use Rattle.sheet.specs.Reading.{accepted, readSheet}
 use Rattle.windows.specs.Windows.{windowAt, longerThan}
 use Rattle.windows.proofs.Windows.{window-wsocc}
-use Rattle.window_list.specs.Answers.{windowsVerdict, wsoccs, windowsFor}
+use Rattle.windows.specs.Answers.{windowsVerdict, wsoccs, windowsFor}
 use Rattle.window_list.proofs.Answers.{windowed}
 use Rattle.analyser.proofs.Demand.{figures-are}
-use Rattle.analyser.specs.Windowing.{windowsResult, WindowsFromBytes}
+use Rattle.analyser.specs.Curves.{windowsResult}
+use Rattle.analyser.specs.WindowsFromBytes.{WindowsFromBytes}
 use Rattle.analyser.proofs.GivenLists.{given-after}
 
 module _ (s : List ℕ) (v : SheetValue) (reads : readSheet s ≡ accepted v) (list : List ℕ) (gave : windowsResult s ≡ gives list) where

@@ -1,7 +1,7 @@
 -- Demand 3 of document 01 as one statement: of every run of bytes that reads as an accepted sheet, whatever its form, and of each of its
--- rows. Two records, laws of their own, say more: `Demand3FromBytes` (Demand.antt) memory and load as reported, for forms 1 to 3, and
--- `ModifiedFromBytes` (Modified.antt) the rule for ties, for form 4. Assumes nothing.
-use Prim.Native.Nat.{ℕ, _*_, _≤_, _<_}
+-- rows. Two records, laws of their own, say more: `Demand3FromBytes` (DemandFromBytes.antt) memory and load as reported, for forms 1 to 3, and
+-- `ModifiedFromBytes` (ModifiedFromBytes.antt) the rule for ties, for form 4. Assumes nothing.
+use Prim.Native.Nat.{ℕ, _<_, _*_, _≤_}
 use mathlib.Core.Path.{_≡_}
 use mathlib.Core.Bool.{cond}
 use mathlib.Core.List.{List}
@@ -9,18 +9,18 @@ use lib.Dec.{leb}
 use lib.ListN.{length, take, drop}
 use Rattle.model.specs.Demand.{rowOpttotal}
 use Rattle.model.specs.Places.{Result, gives, answerFor, placeFor}
+use Rattle.model.specs.RowAnswers.{figuresAt}
 use Rattle.model.specs.Schedules.{Permitted, scheduleMemory}
-use Rattle.model.specs.Sheets.{SheetValue, newestForm, traceOf}
+use Rattle.model.specs.Sheets.{SheetValue, traceOf, newestForm}
 use Rattle.model.specs.Sums.{tabulate}
 use Rattle.model.specs.Traces.{refsOf}
 use Rattle.model.specs.declared.Verdict.the-variants.{Accepted}
-use Rattle.sheet.specs.Reading.{accepted, readSheet}
-use Rattle.figures.specs.Rows.{figuresAt}
+use Rattle.sheet.specs.Reading.{readSheet, accepted}
 use Rattle.listing.specs.Listing.{listing}
 use Rattle.stores.specs.Rows.{rowModtotal, sheetLoad, sheetTotal}
-use Rattle.analyser.specs.Answers.{figuresAnswer, listingResult, scheduleResult, pricing}
-use Rattle.analyser.specs.Demand.{priceOf}
-use Rattle.analyser.specs.Modified.{modifiedResult}
+use Rattle.analyser.specs.Figures.{figuresAnswer}
+use Rattle.analyser.specs.Schedules.{scheduleResult, pricing, priceOf, modifiedResult}
+use Rattle.analyser.specs.Texts.{listingResult}
 
 -- the optimum of row r of a sheet: opttotal, and modtotal from form 4 on (request F-13)
 abbrev pub rowOptimum : SheetValue → ℕ → ℕ

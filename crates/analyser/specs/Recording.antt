@@ -12,9 +12,9 @@ use Rattle.model.specs.declared.Verdict.{Verdict}
 use Rattle.model.specs.declared.Verdict.the-variants.{Accepted, Refused}
 use Rattle.sheet.specs.Reading.{accepted, rejected, readForms}
 use Rattle.buckets.specs.Buckets.{bucketCount}
-use Rattle.figures.specs.Rows.{figuresOf}
+use Rattle.model.specs.RowAnswers.{figuresOf}
 use Rattle.buckets.specs.Buckets.{noBucket}
-use Rattle.figures.specs.declared.FiguresAnswer.{FiguresAnswer}
+use Rattle.model.specs.declared.FiguresAnswer.{FiguresAnswer}
 use Rattle.recorder.specs.Recorders.{recorderOf, emptyRecorder, started, Touched, TouchedAll, Rested, Figured}
 use Rattle.recorder.specs.declared.Recorder.{Recorder}
 use Rattle.recorder.specs.declared.TouchAnswer.{TouchAnswer}

@@ -1,6 +1,6 @@
 // The recorder's public calls: start from a sheet's bytes, take references, read the figures of a row.
 // What a recorder stands for is written in crate `recorder`; nothing is assumed.
-use figures::FiguresAnswer;
+use model::FiguresAnswer;
 use model::Refusal;
 use model::Verdict;
 use recorder::Recorder;

@@ -50,7 +50,7 @@ recorderIn l =
       steps = getD (l .counts) 0 0;
       last = l .last;
       buckets = tabulate bucketCount (bucketIn (l .sums));
-      cost = getD (l .counts) 1 0;
+      cost = record { 0 = getD (l .counts) 1 0 };
       volume = getD (l .counts) 2 0;
     }
 
@@ -64,7 +64,7 @@ unfoldable pub listsOf : Recorder → RecorderLists
 listsOf R =
     record {
       head = kindNumber (R .head .kind) ∷ R .head .a ∷ R .head .segs ∷ R .head .rows ∷ R .head .warm ∷ [];
-      counts = R .steps ∷ R .cost ∷ R .volume ∷ [];
+      counts = R .steps ∷ R .cost .0 ∷ R .volume ∷ [];
       sizes = R .head .sizes;
       holds = R .head .holds;
       h = map (λ q. q .h) (R .head .prices);

@@ -5,6 +5,7 @@ use buckets::Bucket;
 use buckets::Tally;
 use model::Head;
 use model::Kind;
+use model::MemoryUnits;
 use model::Sheet;
 use model::Verdict;
 use recorder::Recorder;
@@ -79,7 +80,7 @@ pub fn recorder_of(
         steps: counts[0] as usize,
         last: table,
         buckets: buckets,
-        cost: counts[1],
+        cost: MemoryUnits(counts[1]),
         volume: counts[2],
     }
 }
@@ -127,7 +128,7 @@ pub fn store_taken(
 {
     let table = r.last;
     let buckets = r.buckets;
-    *counts = [r.steps as u64, r.cost, r.volume];
+    *counts = [r.steps as u64, r.cost.0, r.volume];
     *last = table;
     tables::store_buckets(buckets, sums);
 }

@@ -18,7 +18,7 @@ use Rattle.sheet.specs.Writing.{sheetText}
 use Rattle.sheet.proofs.Accepted.{accepted-readable, accepted-valid}
 use Rattle.sheet.proofs.PartTexts.{entriesIn}
 use Rattle.sheet.proofs.RoundTrip.{read-then-written, written-then-read}
-use Rattle.convert.specs.Forms.{inForm, hasIdle, toForm1, toForm2}
+use Rattle.sheet.specs.Forms.{inForm, hasIdle, toForm1, toForm2}
 use Rattle.convert.proofs.Idle.{none-idle, idle-none, touches-all, touches-fewer}
 
 -- ---- the figures stay

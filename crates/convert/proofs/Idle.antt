@@ -12,7 +12,7 @@ use lib.ListN.{length, getD, drop, drop-of-length-le}
 use lib.Seq.{drop-cons}
 use Rattle.model.specs.Sheets.{idle}
 use Rattle.sheet.specs.Touches.{Touch, touchesFrom}
-use Rattle.convert.specs.Forms.{someIdle}
+use Rattle.sheet.specs.Forms.{someIdle}
 
 -- ---- one entry after another
 

@@ -12,7 +12,7 @@ use Rattle.model.specs.declared.Refusal.the-variants.{IdleStep}
 use Rattle.model.specs.declared.Sheet.{Sheet}
 use Rattle.model.proofs.Places.{refusal-left}
 use Rattle.sheet.specs.Writing.{sheetText}
-use Rattle.convert.specs.Forms.{inForm, someIdle, toForm1, toForm2}
+use Rattle.sheet.specs.Forms.{inForm, someIdle, toForm1, toForm2}
 
 -- the same result in other words
 left-as : {x y : Result} {p q : List ℕ} {a : PlaceAnswer} → x ≡ y → PlaceLeft x p q a → PlaceLeft y p q a

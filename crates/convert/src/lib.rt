@@ -5,7 +5,7 @@ use model::Refusal;
 use model::Sheet;
 use write_sheet::write;
 ghost use mathlib.Core.Path.{_≡_};
-ghost use Rattle.convert.specs.Forms.{inForm, someIdle, toForm2, toForm1};
+ghost use Rattle.sheet.specs.Forms.{inForm, someIdle, toForm2, toForm1};
 ghost use Rattle.model.specs.Places.{PlaceLeft};
 ghost use Rattle.model.specs.Standing.{Standing};
 ghost use Rattle.model.specs.Values.{valueOf};

@@ -17,9 +17,9 @@ use Rattle.sheet.specs.Reading.{Outcome, accepted, rejected, readSheet}
 use Rattle.sheet.proofs.Accepted.{accepted-valid}
 use Rattle.model.proofs.Places.{text-short}
 use Rattle.model.proofs.Tables.{length-tabulate}
-use Rattle.figures.specs.Rows.{figuresAt}
+use Rattle.model.specs.RowAnswers.{figuresAt}
 use Rattle.sheet.specs.Accepting.{onSheet}
-use Rattle.rows.proofs.RowFigures.{figures-front}
+use Rattle.model.proofs.RowAnswers.{figures-front}
 use Rattle.row_records.specs.Listed.{rowRecords, sheetAnswer}
 use Rattle.row_records.specs.Held.{noRecords, recordsFor, recordsFound}
 use Rattle.row_records.specs.declared.Records.{Records}

@@ -7,7 +7,7 @@ use Rattle.model.specs.Sheets.{SheetValue, Valid}
 use Rattle.model.specs.declared.Refusal.{Refusal}
 use Rattle.model.specs.declared.Verdict.{Verdict}
 use Rattle.model.specs.declared.Verdict.the-variants.{Accepted, Refused}
-use Rattle.figures.specs.declared.FiguresAnswer.{FiguresAnswer}
+use Rattle.model.specs.declared.FiguresAnswer.{FiguresAnswer}
 use Rattle.recorder.specs.Recorders.{recorderOf, appended, Figured}
 use Rattle.recorder.specs.declared.Recorder.{Recorder}
 use Rattle.recorder.specs.declared.TouchAnswer.{TouchAnswer}

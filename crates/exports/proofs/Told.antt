@@ -8,8 +8,8 @@ use Rattle.model.specs.declared.Refusal.{Refusal}
 use Rattle.model.specs.declared.Verdict.{Verdict}
 use Rattle.model.specs.declared.Verdict.the-variants.{Accepted, Refused}
 use Rattle.model.specs.Places.{Result, refuses, answerFor, PlaceLeft}
-use Rattle.lru_curve.specs.declared.CurveAnswer.{CurveAnswer}
-use Rattle.analyser.specs.Curving.{lruResult, LruLeft}
+use Rattle.lru.specs.declared.CurveAnswer.{CurveAnswer}
+use Rattle.analyser.specs.Curves.{lruResult, LruLeft}
 use Rattle.exports.specs.Curving.{LruCall}
 use Rattle.exports.specs.Exported.{orOld, PlaceCall}
 

@@ -3,7 +3,7 @@ use Prim.Native.Nat.{ℕ}
 use mathlib.Core.Path.{_≡_}
 use mathlib.Core.List.{List}
 use Rattle.model.specs.Places.{answerFor}
-use Rattle.analyser.specs.Curving.{lruResult, lruLooked}
+use Rattle.analyser.specs.Curves.{lruResult, lruLooked}
 use Rattle.exports.specs.Exported.{orOld, PlaceCall}
 
 -- a call that writes a list into a lent place, and a second lent number, which becomes the entries looked at

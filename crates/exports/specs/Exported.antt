@@ -8,7 +8,7 @@ use Rattle.model.specs.declared.Verdict.{Verdict}
 use Rattle.model.specs.declared.Verdict.the-variants.{Accepted, Refused}
 use Rattle.sheet.specs.Reading.{readSheet}
 use Rattle.sheet.specs.Writing.{sheetText}
-use Rattle.pricing.specs.declared.PriceAnswer.{PriceAnswer}
+use Rattle.model.specs.declared.PriceAnswer.{PriceAnswer}
 use Rattle.sheet.specs.Accepting.{onSheet}
 use Rattle.row_records.specs.Listed.{rowRecords}
 use Rattle.c_lists.specs.Figures.{figureLists}

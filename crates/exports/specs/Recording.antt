@@ -4,7 +4,7 @@ use mathlib.Core.Path.{_≡_}
 use mathlib.Core.List.{List}
 use lib.ListN.{getD}
 use Rattle.model.specs.Refusals.{verdictNumber}
-use Rattle.figures.specs.declared.FiguresAnswer.{FiguresAnswer}
+use Rattle.model.specs.declared.FiguresAnswer.{FiguresAnswer}
 use Rattle.recorder.specs.Recorders.{Figured, roomVerdict}
 use Rattle.recorder.specs.declared.Recorder.{Recorder}
 use Rattle.recorder.specs.declared.TouchAnswer.{TouchAnswer}

@@ -1,7 +1,7 @@
 // The misses of least-recently-used replacement for other languages.
 // What is returned and left is written in specs/; nothing is assumed.
 use crate::lent_calls::tell;
-ghost use Rattle.analyser.specs.Curving.{lruPlainResult};
+ghost use Rattle.analyser.specs.Curves.{lruPlainResult};
 ghost use Rattle.exports.specs.Curving.{LruCall};
 ghost use Rattle.exports.specs.Exported.{PlaceCall};
 
@@ -26,5 +26,5 @@ pub extern "C" fn segtrace_lru_plain(sheet: &[u8], out: &mut [u64], written: &mu
     ensures { λ r. ⌜ PlaceCall (lruPlainResult (now (sheet .entry))) (now (out .entry)) (now (out .exit))
         (now (written .entry)) (now (written .exit)) r ⌝ }
 {
-    tell(analyser::curving::lru_plain(sheet, out), written)
+    tell(analyser::curves::lru_plain(sheet, out), written)
 }

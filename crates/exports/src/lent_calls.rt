@@ -6,8 +6,8 @@ use model::RowFigures;
 use model::Verdict;
 ghost use mathlib.Core.Path.{_≡_};
 ghost use Rattle.model.specs.Refusals.{verdictNumber};
-ghost use Rattle.analyser.specs.Answers.{pricing};
-ghost use Rattle.analyser.specs.RowAnswers.{sizeAnswer};
+ghost use Rattle.analyser.specs.Schedules.{pricing};
+ghost use Rattle.analyser.specs.Figures.{sizeAnswer};
 ghost use Rattle.exports.specs.Curving.{LruCall};
 ghost use Rattle.exports.specs.Exported.{orOld, priceList, rowsResult, PlaceCall};
 
@@ -42,7 +42,7 @@ pub fn lru(sheet: &[u8], out: &mut [u64], written: &mut u64, looked: &mut u64) -
     ensures { λ r. ⌜ LruCall (now (sheet .entry)) (now (out .entry)) (now (out .exit))
         (now (written .entry)) (now (written .exit)) (now (looked .entry)) (now (looked .exit)) r ⌝ }
 {
-    let answer = analyser::curving::lru(sheet, out);
+    let answer = analyser::curves::lru(sheet, out);
     let placed = answer.placed;
     let verdict = placed.verdict;
     *looked = or_old(verdict, answer.looked, *looked);
@@ -75,7 +75,7 @@ pub fn price(sheet: &[u8], row: u64, schedule: &[u8], price: &mut [u64; 3]) -> u
         × (now (price .exit) ≡ orOld (pricing (now (sheet .entry)) row (now (schedule .entry)) .verdict)
         (priceList (pricing (now (sheet .entry)) row (now (schedule .entry)))) (now (price .entry))) ⌝ }
 {
-    let answer = analyser::price(sheet, row as usize, schedule);
+    let answer = analyser::schedules::price(sheet, row as usize, schedule);
     let verdict = answer.verdict;
     match verdict {
         Verdict::Accepted => {
@@ -92,7 +92,7 @@ pub fn size(sheet: &[u8], ceiling: u64, row: &mut u64) -> u64
         × (now (row .exit) ≡ orOld (sizeAnswer (now (sheet .entry)) ceiling .verdict)
         (sizeAnswer (now (sheet .entry)) ceiling .row) (now (row .entry))) ⌝ }
 {
-    let answer = analyser::sizing::size(sheet, ceiling);
+    let answer = analyser::figures::size(sheet, ceiling);
     let verdict = answer.verdict;
     match verdict {
         Verdict::Accepted => {

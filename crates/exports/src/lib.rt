@@ -20,9 +20,11 @@ ghost use Rattle.model.specs.Refusals.{verdictNumber};
 ghost use Rattle.sheet.specs.Reading.{readSheet};
 ghost use Rattle.sheet.specs.Answers.{answerOf};
 ghost use Rattle.c_lists.specs.Figures.{figureList};
-ghost use Rattle.analyser.specs.Answers.{figuresAnswer, listingResult, pageResult, scheduleResult, pricing};
-ghost use Rattle.analyser.specs.RowAnswers.{marginAnswer, sizeAnswer, billAnswer};
-ghost use Rattle.analyser.specs.Converting.{toForm2Result, toForm1Result};
+ghost use Rattle.analyser.specs.Figures.{figuresAnswer};
+ghost use Rattle.analyser.specs.Texts.{listingResult, pageResult};
+ghost use Rattle.analyser.specs.Schedules.{scheduleResult, pricing};
+ghost use Rattle.analyser.specs.Figures.{marginAnswer, sizeAnswer, billAnswer};
+ghost use Rattle.analyser.specs.Sheets.{toForm2Result, toForm1Result};
 ghost use Rattle.exports.specs.Exported.{orOld, priceList, rewriteResult, rowsResult, PlaceCall};
 
 // Whether the bytes are a sheet: the sheet's refusals.
@@ -30,7 +32,7 @@ ghost use Rattle.exports.specs.Exported.{orOld, priceList, rewriteResult
 pub extern "C" fn segtrace_check(sheet: &[u8]) -> u64
     ensures { λ r. ⌜ r ≡ verdictNumber (answerOf (readSheet (now (sheet .entry))) .verdict) ⌝ }
 {
-    let answer = analyser::read(sheet);
+    let answer = analyser::sheets::read(sheet);
     let verdict = answer.verdict;
     model::verdict_number(verdict)
 }
@@ -59,7 +61,7 @@ pub extern "C" fn segtrace_to_form_2(sheet: &[u8], out: &mut [u8], written: &mut
     ensures { λ r. ⌜ PlaceCall (toForm2Result (now (sheet .entry))) (now (out .entry)) (now (out .exit))
         (now (written .entry)) (now (written .exit)) r ⌝ }
 {
-    tell(analyser::converting::to_form_2(sheet, out), written)
+    tell(analyser::sheets::to_form_2(sheet, out), written)
 }
 
 // A sheet of form 2 in form 1, and its length: the sheet's refusals, where any other form is 4, 17, 11.
@@ -68,7 +70,7 @@ pub extern "C" fn segtrace_to_form_1(sheet: &[u8], out: &mut [u8], written: &mut
     ensures { λ r. ⌜ PlaceCall (toForm1Result (now (sheet .entry))) (now (out .entry)) (now (out .exit))
         (now (written .entry)) (now (written .exit)) r ⌝ }
 {
-    tell(analyser::converting::to_form_1(sheet, out), written)
+    tell(analyser::sheets::to_form_1(sheet, out), written)
 }
 
 // The figures of a row in the listing's order: the sheet's refusals, 7.
@@ -82,7 +84,7 @@ pub extern "C" fn segtrace_figures(
         × (now (figures .exit) ≡ orOld (figuresAnswer (now (sheet .entry)) row .verdict)
         (figureList (figuresAnswer (now (sheet .entry)) row .figures)) (now (figures .entry))) ⌝ }
 {
-    let answer = analyser::figures(sheet, row as usize);
+    let answer = analyser::figures::figures(sheet, row as usize);
     let verdict = answer.verdict;
     match verdict {
         Verdict::Accepted => {
@@ -108,7 +110,7 @@ pub extern "C" fn segtrace_listing(sheet: &[u8], out: &mut [u8], written: &mut u
     ensures { λ r. ⌜ PlaceCall (listingResult (now (sheet .entry))) (now (out .entry)) (now (out .exit))
         (now (written .entry)) (now (written .exit)) r ⌝ }
 {
-    tell(analyser::listing(sheet, out), written)
+    tell(analyser::texts::listing(sheet, out), written)
 }
 
 // The page for the binder, or two pages, and their length: the sheet's refusals, 11.
@@ -117,7 +119,7 @@ pub extern "C" fn segtrace_page(sheet: &[u8], out: &mut [u8], written: &mut u64)
     ensures { λ r. ⌜ PlaceCall (pageResult (now (sheet .entry))) (now (out .entry)) (now (out .exit))
         (now (written .entry)) (now (written .exit)) r ⌝ }
 {
-    tell(analyser::page(sheet, out), written)
+    tell(analyser::texts::page(sheet, out), written)
 }
 
 // The optimal schedule of a row, and its length: the sheet's refusals, where form 4 is 4, 7, 11.
@@ -132,7 +134,7 @@ pub extern "C" fn segtrace_optimal_schedule(
         (now (written .entry)) (now (written .exit)) r ⌝ }
 {
     tell(
-        analyser::optimal_schedule(sheet, row as usize, out),
+        analyser::schedules::optimal_schedule(sheet, row as usize, out),
         written,
     )
 }
@@ -159,7 +161,7 @@ pub extern "C" fn segtrace_margin(sheet: &[u8], row: u64, reference: u64, margin
         × (now (margin .exit) ≡ orOld (marginAnswer (now (sheet .entry)) row reference .verdict)
         (marginAnswer (now (sheet .entry)) row reference .margin) (now (margin .entry))) ⌝ }
 {
-    let answer = analyser::margins::margin(sheet, row as usize, reference as usize);
+    let answer = analyser::figures::margin(sheet, row as usize, reference as usize);
     let verdict = answer.verdict;
     let value = answer.margin;
     match verdict {
@@ -195,7 +197,7 @@ pub extern "C" fn segtrace_bill(
         × (now (cents .exit) ≡ orOld (billAnswer (now (sheet .entry)) row «memory_rate» «load_rate» minimum .verdict)
         (billAnswer (now (sheet .entry)) row «memory_rate» «load_rate» minimum .cents .0) (now (cents .entry))) ⌝ }
 {
-    let answer = analyser::billing::bill(sheet, row as usize, memory_rate, load_rate, minimum);
+    let answer = analyser::figures::bill(sheet, row as usize, memory_rate, load_rate, minimum);
     let verdict = answer.verdict;
     match verdict {
         Verdict::Accepted => {

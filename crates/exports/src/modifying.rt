@@ -1,7 +1,7 @@
 // The schedule call of form 4 for other languages.
 // What is returned and left is written in specs/; nothing is assumed.
 use crate::lent_calls::tell;
-ghost use Rattle.analyser.specs.Modified.{modifiedResult};
+ghost use Rattle.analyser.specs.Schedules.{modifiedResult};
 ghost use Rattle.exports.specs.Exported.{PlaceCall};
 
 // The schedule of the least total with stores counted of a row, and its length: the sheet's refusals, where any form but 4 is 4, 7, 11.
@@ -16,7 +16,7 @@ pub extern "C" fn segtrace_modified_schedule(
         (now (written .entry)) (now (written .exit)) r ⌝ }
 {
     tell(
-        analyser::modifying::modified_schedule(sheet, row as usize, out),
+        analyser::schedules::modified_schedule(sheet, row as usize, out),
         written,
     )
 }

@@ -1,7 +1,7 @@
 // The call on two sheets: the two as one.
 // What it returns and leaves is written in specs/ and in crate `analyser`; nothing is assumed.
 use crate::lent_calls::tell;
-ghost use Rattle.analyser.specs.Joining.{joinResult};
+ghost use Rattle.analyser.specs.Sheets.{joinResult};
 ghost use Rattle.exports.specs.Exported.{PlaceCall};
 
 // Two sheets of form 2 or 3 as one of form 3, and its length: the first's refusals, then the second's, where form 1 is 4, 20, 21, 22, 11.
@@ -15,5 +15,5 @@ pub extern "C" fn segtrace_join(
     ensures { λ r. ⌜ PlaceCall (joinResult (now (first .entry)) (now (second .entry))) (now (out .entry)) (now (out .exit))
         (now (written .entry)) (now (written .exit)) r ⌝ }
 {
-    tell(analyser::pairing::join(first, second, out), written)
+    tell(analyser::sheets::join(first, second, out), written)
 }

@@ -19,7 +19,7 @@ use Rattle.model.specs.declared.PriceRow.{PriceRow}
 use Rattle.model.specs.declared.RowFigures.{RowFigures}
 use Rattle.buckets.specs.Buckets.{bucketCount}
 use Rattle.model.specs.Sums.{tabulate}
-use Rattle.figures.specs.Rows.{figuresIn, runFigures}
+use Rattle.model.specs.RowAnswers.{figuresIn, runFigures}
 use Rattle.figures.specs.inner.Sweep.{summed, withStart, noRowFigures, Tallied}
 use Rattle.figures.specs.inner.OneRow.{byKind, rowFrom, mostItems, Holds, RowFits}
 use Rattle.buckets.specs.declared.Bucket.{Bucket}

@@ -6,18 +6,11 @@ pub mod rows;
 use model::Head;
 use model::RowFigures;
 use model::Sheet;
-use model::Verdict;
 ghost use mathlib.Core.Path.{_≡_};
 ghost use Prim.Native.Nat.{_≤_};
 ghost use Rattle.model.specs.Sheets.{RowsWithin, RunWithin, headRun, mostSegs, mostRows};
 ghost use Rattle.model.specs.Values.{headValueOf};
-ghost use Rattle.figures.specs.Rows.{runFigures};
-
-// The figures of a row, all zero where a call is refused.
-pub struct FiguresAnswer {
-    pub verdict: Verdict,
-    pub figures: RowFigures,
-}
+ghost use Rattle.model.specs.RowAnswers.{runFigures};
 
 // The figures of every row of a sheet with this head and these entries, one per step; zeros beyond the rows.
 pub fn figures(head: Head, refs: &[u16]) -> [RowFigures; Sheet::MAX_ROWS]

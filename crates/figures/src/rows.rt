@@ -16,7 +16,7 @@ ghost use lib.ListN.{length, take};
 ghost use Rattle.model.specs.Costs.{swapCost};
 ghost use Rattle.model.specs.Sheets.{runOf, mostSteps, mostSegs, mostRows};
 ghost use Rattle.buckets.specs.Buckets.{bucketCount, noBucket};
-ghost use Rattle.figures.specs.Rows.{runFigures};
+ghost use Rattle.model.specs.RowAnswers.{runFigures};
 ghost use Rattle.figures.specs.inner.Sweep.{added, summed, startSwaps, withStart, noRowFigures, Tallied};
 ghost use Rattle.figures.specs.inner.OneRow.{mostItems, Holds};
 

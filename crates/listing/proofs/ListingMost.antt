@@ -22,7 +22,7 @@ use Rattle.model.proofs.References.{refs-none, refs-next}
 use Rattle.text.specs.Texts.{numberText}
 use Rattle.text.proofs.Lengths.{line-length}
 use Rattle.model.specs.Sums.{tabulate}
-use Rattle.figures.specs.Rows.{figuresAt}
+use Rattle.model.specs.RowAnswers.{figuresAt}
 use Rattle.model.proofs.Tables.{length-tabulate, getD-tabulate}
 use Rattle.listing.specs.RowListing.{hKey, dKey, missesKey, volumeKey, loadKey, optmemKey, opttotalKey, optoccKey, wsmemKey, wsoccKey}
 use Rattle.listing.specs.RowListing.{meanKey, modtotalKey, rowListing, modListing, markedText}

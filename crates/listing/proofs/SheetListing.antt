@@ -15,11 +15,11 @@ use Rattle.model.specs.declared.Sheet.{Sheet}
 use Rattle.model.specs.Sums.{tabulate}
 use Rattle.model.proofs.Standing.{segs-counted, rows-counted, steps-counted, form-is, row-of}
 use Rattle.model.proofs.Tables.{length-tabulate, getD-tabulate}
-use Rattle.figures.specs.Rows.{figuresAt, allFigures}
+use Rattle.model.specs.RowAnswers.{figuresAt, allFigures}
 use Rattle.listing.specs.Listing.{listing, listingBytes, listingOf}
 use Rattle.listing.proofs.ListingMost.{listing-within}
 use Rattle.listing.proofs.ListingParts.{listing-same}
-use Rattle.rows.proofs.RowFigures.{figures-front}
+use Rattle.model.proofs.RowAnswers.{figures-front}
 use Rattle.stores.specs.Rows.{rowModtotal}
 use Rattle.store_plan.specs.inner.Modtotals.{firstModtotals}
 use Rattle.store_plan.proofs.RowTotals.{modtotals-at}

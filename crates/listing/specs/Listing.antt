@@ -13,7 +13,7 @@ use Rattle.model.specs.declared.RowFigures.{RowFigures}
 use Rattle.text.specs.Keys.{refsKey, stepsKey, segsKey, rowsKey}
 use Rattle.text.specs.Texts.{numberText}
 use Rattle.model.specs.Sums.{tabulate}
-use Rattle.figures.specs.Rows.{figuresAt}
+use Rattle.model.specs.RowAnswers.{figuresAt}
 use Rattle.stores.specs.Rows.{rowModtotal}
 use Rattle.listing.specs.RowListing.{rowsListing}
 

@@ -10,3 +10,4 @@ pub mod Orders
 pub mod Replacing
 pub mod Same
 pub mod Touches
+pub mod VerdictExamples

@@ -1,3 +1,4 @@
+pub mod Answers
 pub mod ByTime
 pub mod Demand
 pub mod Memory

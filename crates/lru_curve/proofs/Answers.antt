@@ -14,8 +14,10 @@ use Rattle.model.proofs.Places.{text-short, text-fits}
 use Rattle.model.proofs.Tables.{length-tabulate}
 use Rattle.lru.specs.Recency.{lruMisses, lruCurve}
 use Rattle.lru.specs.Memory.{lruSimulated, simulatedCurve}
-use Rattle.lru_curve.specs.Answers.{noCurve, curveFor, plainFor, CurveLeft}
-use Rattle.lru_curve.specs.Frames.{onesVerdict, EveryRun, ByDistances, BySimulation}
+use Rattle.lru.specs.Answers.{noCurve, curveFor, plainFor}
+use Rattle.lru_curve.specs.inner.Left.{CurveLeft}
+use Rattle.lru.specs.Answers.{onesVerdict}
+use Rattle.lru_curve.specs.inner.Left.{EveryRun, ByDistances, BySimulation}
 use Rattle.lru_curve.proofs.Ones.{every-run}
 
 -- whether every size is 1 and no segment is warm

@@ -5,7 +5,7 @@ use mathlib.Core.List.{List, _++_}
 use lib.ListN.{drop}
 use Rattle.model.specs.Traces.{Trace, segs}
 use Rattle.lru.proofs.Agree.{curves-agree}
-use Rattle.lru_curve.specs.Frames.{ByDistances, BySimulation}
+use Rattle.lru_curve.specs.inner.Left.{ByDistances, BySimulation}
 
 pub engines-agree : (T : Trace) (place by-distances by-simulation : List ℕ) (looked : ℕ)
     → ByDistances T place by-distances looked → BySimulation T place by-simulation → by-distances ≡ by-simulation

@@ -8,7 +8,7 @@ use lib.ListN.{length, drop, set, length-set}
 use Rattle.model.specs.Sheets.{runOf}
 use Rattle.lru.specs.Memory.{lruSimulated}
 use Rattle.lru.proofs.Same.{simulated-same}
-use Rattle.lru_curve.specs.Frames.{EveryRun, touchRun, BySimulation}
+use Rattle.lru_curve.specs.inner.Left.{EveryRun, touchRun, BySimulation}
 use Rattle.lru_curve.proofs.Writing.{fromFront, front-next, front-end}
 
 -- the list of misses, written as far as k frames

@@ -1,6 +1,5 @@
 pub mod Answers
 pub mod Engines
-pub mod Examples
 pub mod Filling
 pub mod Fronts
 pub mod Indexes

@@ -15,7 +15,8 @@ use Rattle.model.specs.Sheets.{SheetValue, traceOf}
 use Rattle.model.specs.Traces.{Trace}
 use Rattle.model.specs.declared.Refusal.the-variants.{SizeNotOne, WarmSegment}
 use Rattle.model.specs.declared.Verdict.the-variants.{Accepted, Refused}
-use Rattle.lru_curve.specs.Frames.{allOnes, onesVerdict, EveryRun}
+use Rattle.lru.specs.Answers.{allOnes, onesVerdict}
+use Rattle.lru_curve.specs.inner.Left.{EveryRun}
 
 -- a list of no element
 pub length-zero : (l : List ℕ) → length l ≡ 0 → l ≡ []

@@ -22,7 +22,7 @@ use Rattle.lru.specs.Recency.{recency, distance, lookedIn, entriesLooked}
 use Rattle.lru.proofs.Bounds.{recency-on, recency-off, length-recency, recency-within}
 use Rattle.lru.proofs.Orders.{looked-within}
 use Rattle.lru.proofs.Touches.{cond-within, adds-on, adds-off, touches-within}
-use Rattle.lru_curve.specs.Frames.{touchRun}
+use Rattle.lru_curve.specs.inner.Left.{touchRun}
 use Rattle.lru_curve.specs.declared.recency_list.Walk.{Walk}
 use Rattle.lru_curve.specs.inner.Entries.{walkOf, moved}
 use Rattle.lru_curve.specs.inner.Used.{frameIn}

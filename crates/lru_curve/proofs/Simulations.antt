@@ -18,7 +18,7 @@ use Rattle.lru.specs.Memory.{has, lruSimulated}
 use Rattle.lru.proofs.Frames.{simulated-ordered}
 use Rattle.lru.proofs.Ordered.{reordered, ordered}
 use Rattle.lru.proofs.Touches.{cond-within, adds-on, adds-off, touches-within}
-use Rattle.lru_curve.specs.Frames.{touchRun}
+use Rattle.lru_curve.specs.inner.Left.{touchRun}
 use Rattle.lru_curve.specs.inner.Entries.{moved}
 use Rattle.lru_curve.specs.inner.Used.{frameIn, usedAfter}
 use Rattle.lru_curve.proofs.Fronts.{length-moved, front-found}

@@ -16,7 +16,7 @@ use Rattle.lru.specs.Recency.{distance, missBeyond, lruMisses, entriesLooked, d
 use Rattle.lru.proofs.Bounds.{misses-distinct, distinct-within, looked-bound}
 use Rattle.lru.proofs.Same.{curve-same, looked-same}
 use Rattle.lru.proofs.Touches.{cond-within, touches-within}
-use Rattle.lru_curve.specs.Frames.{EveryRun, touchRun, ByDistances}
+use Rattle.lru_curve.specs.inner.Left.{EveryRun, touchRun, ByDistances}
 use Rattle.lru_curve.specs.declared.distance_pass.Counts.{Counts}
 use Rattle.lru_curve.specs.inner.Passes.{isAt, touchesAt, Counted}
 use Rattle.lru_curve.proofs.Passes.{at-within}

@@ -1,3 +1,4 @@
 pub mod Entries
+pub mod Left
 pub mod Passes
 pub mod Used

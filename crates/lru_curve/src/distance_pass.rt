@@ -7,7 +7,7 @@ ghost use Prim.Native.Nat.{_≤_};
 ghost use lib.ListN.{length, take};
 ghost use Rattle.model.specs.Sheets.{mostSegs, mostSteps};
 ghost use Rattle.model.specs.Values.{zeros};
-ghost use Rattle.lru_curve.specs.Frames.{EveryRun, touchRun, ByDistances};
+ghost use Rattle.lru_curve.specs.inner.Left.{EveryRun, touchRun, ByDistances};
 ghost use Rattle.lru_curve.specs.inner.Entries.{walkOf, moved};
 ghost use Rattle.lru_curve.specs.inner.Passes.{mostEntries, Counted};
 

@@ -3,7 +3,7 @@
 use model::Refusal;
 use model::Verdict;
 ghost use mathlib.Core.Path.{_≡_};
-ghost use Rattle.lru_curve.specs.Frames.{allOnes, onesVerdict};
+ghost use Rattle.lru.specs.Answers.{allOnes, onesVerdict};
 
 // Whether every size is 1.
 pub fn all_ones(sizes: &[u16]) -> bool

@@ -1,10 +1,11 @@
 // The misses of an accepted sheet with 1, 2, .., segs frames, by either engine, into a lent place.
-// What is answered is written in specs/Answers.antt, what the misses are in crate `lru`; nothing is assumed.
+// What is answered, and what the misses are, is written in crate `lru`; nothing is assumed.
 mod distance_pass;
 pub mod frames;
 mod plain_frames;
 mod recency_list;
 
+use lru::CurveAnswer;
 use model::PlaceAnswer;
 use model::Refusal;
 use model::Sheet;
@@ -13,26 +14,8 @@ ghost use mathlib.Core.Path.{_≡_};
 ghost use Rattle.model.specs.Places.{PlaceLeft};
 ghost use Rattle.model.specs.Standing.{Standing};
 ghost use Rattle.model.specs.Values.{valueOf};
-ghost use Rattle.lru_curve.specs.Answers.{noCurve, plainFor, CurveLeft};
-
-// Whether the list of misses was written and how long it is, and the entries looked at, 0 where it was not.
-pub struct CurveAnswer {
-    pub placed: PlaceAnswer,
-    pub looked: u64,
-}
-
-// No list, and why.
-pub fn no_curve(why: Refusal) -> CurveAnswer
-    ensures { λ r. ⌜ r ≡ noCurve why ⌝ }
-{
-    CurveAnswer {
-        placed: PlaceAnswer {
-            verdict: Verdict::Refused(why),
-            length: 0,
-        },
-        looked: 0,
-    }
-}
+ghost use Rattle.lru.specs.Answers.{noCurve, plainFor};
+ghost use Rattle.lru_curve.specs.inner.Left.{CurveLeft};
 
 // The misses of an accepted sheet with 1, 2, .., segs frames into a lent place, by stack distances: 26, 27, 11.
 pub fn sheet_curve(s: Sheet, out: &mut [u64]) -> CurveAnswer
@@ -46,10 +29,10 @@ pub fn sheet_curve(s: Sheet, out: &mut [u64]) -> CurveAnswer
     let sizes = head.sizes;
     let touches = s.touches;
     match frames::ones_verdict(&sizes[..segs], warm) {
-        Verdict::Refused(why) => no_curve(why),
+        Verdict::Refused(why) => CurveAnswer::refused(why),
         Verdict::Accepted => {
             if out.len() < segs {
-                return no_curve(Refusal::PlaceTooShort);
+                return CurveAnswer::refused(Refusal::PlaceTooShort);
             }
             let looked = distance_pass::curve(&sizes[..segs], &touches[..steps], out);
             CurveAnswer {

@@ -7,7 +7,7 @@ ghost use lib.ListN.{length};
 ghost use Rattle.model.specs.Sheets.{mostSegs, mostSteps};
 ghost use Rattle.model.specs.Values.{zeros};
 ghost use Rattle.lru.specs.Memory.{lruSimulated};
-ghost use Rattle.lru_curve.specs.Frames.{EveryRun, touchRun, BySimulation};
+ghost use Rattle.lru_curve.specs.inner.Left.{EveryRun, touchRun, BySimulation};
 ghost use Rattle.lru_curve.specs.inner.Used.{frameIn, atFront, usedAfter};
 
 // No frame in use.

@@ -6,7 +6,7 @@ use borrow.Author.Tests.{le-ltb, lt-ltb, le-leb, lt-leb}
 use Rattle.model.specs.Sheets.{SheetValue, traceOf}
 use Rattle.model.specs.Traces.{refsOf, placeOf}
 use Rattle.model.specs.declared.Refusal.the-variants.{NoSuchRow, NoSuchReference}
-use Rattle.margin.specs.Margins.{noMargin, touchMargin, marginFor}
+use Rattle.model.specs.Margins.{noMargin, touchMargin, marginFor}
 
 module _ (v : SheetValue) (r n : ℕ) where
   pub margin-no-row : length (v .head .rows) ≤ r → marginFor v r n ≡ noMargin NoSuchRow

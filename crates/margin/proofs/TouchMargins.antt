@@ -14,7 +14,7 @@ use Rattle.model.specs.declared.PriceRow.{PriceRow}
 use Rattle.model.specs.declared.Refusal.the-variants.{FirstTouch}
 use Rattle.model.specs.declared.Verdict.the-variants.{Accepted}
 use Rattle.model.proofs.Bounds.{product-within}
-use Rattle.margin.specs.Margins.{noMargin, touchMargin}
+use Rattle.model.specs.Margins.{noMargin, touchMargin}
 use Rattle.margin.specs.inner.Times.{timeOf}
 use Rattle.margin.specs.declared.Unreferenced.{Unreferenced}
 

@@ -1,2 +1,1 @@
-pub mod Margins
 pub mod inner

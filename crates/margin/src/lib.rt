@@ -1,6 +1,7 @@
 // The margin of one reference of an accepted sheet at one of its rows.
-// What is answered is written in specs/Margins.antt, what a margin is in crate `model`; nothing is assumed.
+// What is answered, and what a margin is, is written in crate `model`; nothing is assumed.
 use model::Kind;
+use model::MarginAnswer;
 use model::PriceRow;
 use model::Refusal;
 use model::Sheet;
@@ -14,29 +15,13 @@ ghost use Rattle.model.specs.Sheets.{SheetValue, mostSegs, mostSteps, listed, r
 ghost use Rattle.model.specs.Traces.{Trace, unreferenced};
 ghost use Rattle.model.specs.Values.{valueOf};
 ghost use Rattle.model.specs.Standing.{Standing};
-ghost use Rattle.margin.specs.Margins.{noMargin, touchMargin, marginFor};
+ghost use Rattle.model.specs.Margins.{noMargin, touchMargin, marginFor};
 ghost use Rattle.margin.specs.inner.Times.{timeOf, untouchedTime, leftAfter, PlaceFound};
-
-// The margin of a reference, signed; 0 where the call is refused.
-pub struct MarginAnswer {
-    pub verdict: Verdict,
-    pub margin: i64,
-}
 
 // The unreferenced time of a segment: whether it was touched before, and the steps since its last touch, 0 where it was not.
 struct Unreferenced {
     reuse: bool,
     time: u16,
-}
-
-// No margin, and why.
-pub fn no_margin(why: Refusal) -> MarginAnswer
-    ensures { λ r. ⌜ r ≡ noMargin why ⌝ }
-{
-    MarginAnswer {
-        verdict: Verdict::Refused(why),
-        margin: 0,
-    }
 }
 
 // Whether a segment is one of the warm ones: it counts as touched at step 0.
@@ -108,7 +93,7 @@ fn touch_margin(
     let before = unreferenced_time(is_warm(warm, segment), segment, refs, t);
     let reuse = before.reuse;
     if !reuse {
-        return no_margin(Refusal::FirstTouch);
+        return MarginAnswer::refused(Refusal::FirstTouch);
     }
     let z = sizes[segment as usize];
     let retained = model::retention_cost(kind, z, before.time).priced(row.d);
@@ -159,17 +144,17 @@ pub fn sheet_margin(s: Sheet, row: usize, reference: usize) -> MarginAnswer
     ensures { λ r. ⌜ r ≡ marginFor (valueOf s) row reference ⌝ }
 {
     if s.head.rows <= row {
-        return no_margin(Refusal::NoSuchRow);
+        return MarginAnswer::refused(Refusal::NoSuchRow);
     }
     if reference == 0 {
-        return no_margin(Refusal::NoSuchReference);
+        return MarginAnswer::refused(Refusal::NoSuchReference);
     }
     let segs = s.head.segs;
     let steps = s.steps;
     let touches = s.touches;
     let t = reference_place(segs, &touches[..steps], reference);
     if steps <= t {
-        return no_margin(Refusal::NoSuchReference);
+        return MarginAnswer::refused(Refusal::NoSuchReference);
     }
     let head = s.head;
     let kind = head.kind;

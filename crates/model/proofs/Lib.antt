@@ -21,6 +21,7 @@ pub mod Places
 pub mod References
 pub mod RefusalExamples
 pub mod Relation
+pub mod RowAnswers
 pub mod Sizing
 pub mod SizingExamples
 pub mod Standing
@@ -29,4 +30,5 @@ pub mod Tables
 pub mod Touches
 pub mod Units
 pub mod Values
+pub mod VerdictExamples
 pub mod Warm

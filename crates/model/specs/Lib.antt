@@ -3,8 +3,11 @@ pub mod Decisions
 pub mod Demand
 pub mod Figures
 pub mod LastTouches
+pub mod Margins
 pub mod Places
+pub mod Pricing
 pub mod Refusals
+pub mod RowAnswers
 pub mod Rows
 pub mod Schedules
 pub mod Sheets

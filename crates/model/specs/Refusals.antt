@@ -45,3 +45,8 @@ numberOf NotTimeZero = 28
 abbrev pub verdictNumber : Verdict → ℕ
 verdictNumber Accepted = 0
 verdictNumber (Refused r) = numberOf r
+
+-- the first of two verdicts that refuses
+abbrev pub firstOf : Verdict → Verdict → Verdict
+firstOf Accepted second = second
+firstOf (Refused why) second = Refused why

@@ -5,8 +5,12 @@ ghost use mathlib.Core.List.{[]};
 ghost use Prim.Native.Nat.{_+_, _-_, _*_, _≤_, _<_, _^_};
 ghost use Rattle.model.specs.Costs.{swapCost, unitCost, retention, keeps, totalCost, marginOf};
 ghost use Rattle.model.specs.LastTouches.{startTable};
+ghost use Rattle.model.specs.Margins.{noMargin};
 ghost use Rattle.model.specs.Places.{nothingPlaced};
+ghost use Rattle.model.specs.Pricing.{noPrice};
+ghost use Rattle.model.specs.RowAnswers.{noFigures};
 ghost use Rattle.model.specs.Rows.{zeroFigures};
+ghost use Rattle.model.specs.Sizing.{noSize};
 ghost use Rattle.model.specs.Refusals.{numberOf, verdictNumber};
 ghost use Rattle.model.specs.Values.{sheetLimits, emptyHead, emptySheet};
 
@@ -242,6 +246,82 @@ impl PlaceAnswer {
         PlaceAnswer {
             verdict: Verdict::Refused(why),
             length: 0,
+        }
+    }
+}
+
+// The figures of a row, all zero where the call is refused.
+pub struct FiguresAnswer {
+    pub verdict: Verdict,
+    pub figures: RowFigures,
+}
+
+impl FiguresAnswer {
+    // No figures, and why.
+    pub fn refused(why: Refusal) -> FiguresAnswer
+        ensures { λ r. ⌜ r ≡ noFigures why ⌝ }
+    {
+        FiguresAnswer {
+            verdict: Verdict::Refused(why),
+            figures: RowFigures::zero(),
+        }
+    }
+}
+
+// The margin of a reference, signed; 0 where the call is refused.
+pub struct MarginAnswer {
+    pub verdict: Verdict,
+    pub margin: i64,
+}
+
+impl MarginAnswer {
+    // No margin, and why.
+    pub fn refused(why: Refusal) -> MarginAnswer
+        ensures { λ r. ⌜ r ≡ noMargin why ⌝ }
+    {
+        MarginAnswer {
+            verdict: Verdict::Refused(why),
+            margin: 0,
+        }
+    }
+}
+
+// The row that sizing gives; 0 where the call is refused.
+pub struct SizingAnswer {
+    pub verdict: Verdict,
+    pub row: usize,
+}
+
+impl SizingAnswer {
+    // No row, and why.
+    pub fn refused(why: Refusal) -> SizingAnswer
+        ensures { λ r. ⌜ r ≡ noSize why ⌝ }
+    {
+        SizingAnswer {
+            verdict: Verdict::Refused(why),
+            row: 0,
+        }
+    }
+}
+
+// What pricing a schedule gives: its memory, load and total, all zero where it is refused.
+pub struct PriceAnswer {
+    pub verdict: Verdict,
+    pub memory: MemoryUnits,
+    pub load: LoadUnits,
+    pub total: u64,
+}
+
+impl PriceAnswer {
+    // No price, and why.
+    pub fn refused(why: Refusal) -> PriceAnswer
+        ensures { λ r. ⌜ r ≡ noPrice why ⌝ }
+    {
+        PriceAnswer {
+            verdict: Verdict::Refused(why),
+            memory: MemoryUnits(0),
+            load: LoadUnits(0),
+            total: 0,
         }
     }
 }

@@ -11,7 +11,7 @@ use Rattle.model.proofs.Bounds.{product-within}
 use Rattle.model.proofs.FigureBounds.{allSizes, misses-within, volume-within, load-within, optmem-within, opttotal-within, optocc-within}
 use Rattle.model.proofs.FigureBounds.{wsmem-within, wsocc-within, mean-within, sizes-within}
 use Rattle.decimal.proofs.Written.{written-length}
-use Rattle.figures.specs.Rows.{figuresAt}
+use Rattle.model.specs.RowAnswers.{figuresAt}
 use Rattle.page.specs.Page.{Fits, NoneAbove, largestFigures}
 
 -- for every accepted sheet and each of its rows, no figure exceeds the largest

@@ -7,7 +7,7 @@ use lib.ListN.{length, getD}
 use Rattle.model.specs.Rows.{rowFigures, zeroFigures}
 use Rattle.model.specs.Sheets.{SheetValue, traceOf, rowAt}
 use Rattle.model.specs.Sums.{tabulate}
-use Rattle.figures.specs.Rows.{figuresAt}
+use Rattle.model.specs.RowAnswers.{figuresAt}
 use Rattle.model.proofs.Tables.{length-tabulate, getD-tabulate}
 use Rattle.page.specs.Page.{rowLine, allLines, lineOfRow}
 use Rattle.page.proofs.Lines.{row-on-line}

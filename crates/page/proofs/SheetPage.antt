@@ -12,10 +12,10 @@ use Rattle.model.specs.declared.Kind.{Kind}
 use Rattle.model.specs.declared.RowFigures.{RowFigures}
 use Rattle.model.specs.declared.Sheet.{Sheet}
 use Rattle.model.proofs.Standing.{rows-counted, kind-is, a-is}
-use Rattle.figures.specs.Rows.{allFigures}
+use Rattle.model.specs.RowAnswers.{allFigures}
 use Rattle.page.specs.Page.{pages, pagesOf, Fits}
 use Rattle.page.proofs.Fitting.{every-field-fits}
-use Rattle.rows.proofs.RowFigures.{figures-at, figures-front}
+use Rattle.model.proofs.RowAnswers.{figures-at, figures-front}
 
 -- the page of a sheet from its kind, its a and the figures of all rows
 pub page-is : (v : SheetValue) {kind : Kind} {a : ℕ} (rows : ℕ) → v .head .kind ≡ kind → v .head .a ≡ a → length (v .head .rows) ≡ rows

@@ -10,7 +10,7 @@ use Rattle.model.specs.declared.RowFigures.{RowFigures}
 use Rattle.decimal.specs.Decimal.{written}
 use Rattle.text.specs.Keys.{lineFeed, kindKey, kindWord, aKey}
 use Rattle.model.specs.Sums.{tabulate}
-use Rattle.figures.specs.Rows.{figuresAt}
+use Rattle.model.specs.RowAnswers.{figuresAt}
 
 -- how many characters a line has, how many lines a page has, and how many of them are for rows, below the two top lines
 abbrev pub lineWidth : ℕ

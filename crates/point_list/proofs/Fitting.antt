@@ -11,7 +11,7 @@ use Rattle.model.specs.declared.Verdict.the-variants.{Accepted}
 use Rattle.points.specs.Points.{thresholds, operatingPoints}
 use Rattle.points.proofs.Sheets.{sheet-place}
 use Rattle.point_list.proofs.Running.{numbers-length}
-use Rattle.point_list.specs.Answers.{pointsFor}
+use Rattle.points.specs.Answers.{pointsFor}
 
 pub points-fit : (v : SheetValue) → Valid v → (place : List ℕ) → 4 * mostSteps ≤ length place
     → answerFor (pointsFor v) place .verdict ≡ Accepted

@@ -1,5 +1,5 @@
 // Every operating point of an accepted sheet into a lent place.
-// What is answered is written in specs/Answers.antt, what the points are in crate `points`; nothing is assumed.
+// What is answered, and what the points are, is written in crate `points`; nothing is assumed.
 mod point_sort;
 mod point_sums;
 
@@ -8,7 +8,7 @@ use model::Sheet;
 ghost use Rattle.model.specs.Places.{PlaceLeft};
 ghost use Rattle.model.specs.Standing.{Standing};
 ghost use Rattle.model.specs.Values.{valueOf};
-ghost use Rattle.point_list.specs.Answers.{pointsFor};
+ghost use Rattle.points.specs.Answers.{pointsFor};
 
 // Every operating point of an accepted sheet as four numbers, R, w, optmem and load, at the head of a lent place; what stands beyond them
 // stays: 11. A place for 4 × 2,048 numbers always suffices.

@@ -13,7 +13,7 @@ use Rattle.model.specs.Traces.{Trace, touched}
 use Rattle.model.specs.Schedules.{held}
 use Rattle.pricing.specs.declared.step_price.Changes.{Changes}
 use Rattle.pricing.specs.declared.held_bits.StartWords.{StartWords}
-use Rattle.pricing.specs.StepVerdicts.{enters, someEnters}
+use Rattle.model.specs.Pricing.{enters, someEnters}
 use Rattle.pricing.specs.inner.Held.{heldOf}
 use Rattle.pricing.specs.inner.Steps.{Step}
 use Rattle.pricing.specs.inner.Passing.{unitAt, leaving, SegmentsPassed, Passing}

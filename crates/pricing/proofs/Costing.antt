@@ -14,10 +14,11 @@ use Rattle.model.specs.declared.MemoryUnits.{MemoryUnits}
 use Rattle.model.specs.declared.Verdict.the-variants.{Accepted}
 use Rattle.model.proofs.Sums.{sum-none, sum-eq, sum-add}
 use Rattle.model.proofs.Touches.{touching-sum}
-use Rattle.pricing.specs.Checking.{scheduleVerdict, priceAnswer}
+use Rattle.model.specs.Pricing.{scheduleVerdict}
+use Rattle.pricing.specs.inner.Prices.{priceAnswer}
 use Rattle.pricing.specs.inner.StartCost.{startCost}
 use Rattle.pricing.specs.declared.step_price.Costs.{Costs}
-use Rattle.pricing.specs.StepVerdicts.{stepsVerdict}
+use Rattle.model.specs.Pricing.{stepsVerdict}
 use Rattle.pricing.specs.inner.Steps.{heldCost, memoryThrough, loadThrough, Through}
 use Rattle.pricing.proofs.StepCosts.{memory-within, load-within}
 use Rattle.pricing.proofs.Verdicts.{accepted-permitted, whole-verdict, accepted-answer, priced}

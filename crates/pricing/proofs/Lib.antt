@@ -1,7 +1,6 @@
 pub mod Bytes
 pub mod Changing
 pub mod Costing
-pub mod Examples
 pub mod Held
 pub mod Runs
 pub mod StartCosts

@@ -14,7 +14,7 @@ use Rattle.model.specs.Traces.{Trace, segs, steps}
 use Rattle.model.specs.Schedules.{bit, held}
 use Rattle.pricing.specs.declared.step_price.Changes.{Changes}
 use Rattle.pricing.specs.declared.held_bits.StartWords.{StartWords}
-use Rattle.pricing.specs.StepVerdicts.{enters}
+use Rattle.model.specs.Pricing.{enters}
 use Rattle.schedule.specs.inner.Segments.{segmentOf}
 use Rattle.pricing.specs.inner.Held.{heldOf}
 use Rattle.pricing.specs.inner.Steps.{Step}

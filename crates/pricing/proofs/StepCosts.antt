@@ -22,7 +22,7 @@ use Rattle.schedule.proofs.Segments.{by-segment}
 use Rattle.schedule.specs.inner.Segments.{segmentOf}
 use Rattle.pricing.specs.declared.step_price.Changes.{Changes}
 use Rattle.pricing.specs.declared.step_price.Costs.{Costs}
-use Rattle.pricing.specs.StepVerdicts.{missing, enters, someEnters, stepVerdict}
+use Rattle.model.specs.Pricing.{missing, enters, someEnters, stepVerdict}
 use Rattle.pricing.specs.inner.Steps.{heldCost, memoryThrough, loadThrough, Through}
 use Rattle.pricing.specs.inner.Passing.{unitAt, leaving, SegmentsPassed, Moved}
 use Rattle.pricing.proofs.StepFaults.{none-enters, step-accepted, one-more, held-touched}

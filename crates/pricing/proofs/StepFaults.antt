@@ -11,7 +11,7 @@ use Rattle.model.specs.Schedules.{held}
 use Rattle.model.specs.declared.Verdict.the-variants.{Accepted}
 use Rattle.model.proofs.Sums.{last-or-below}
 use Rattle.model.proofs.Touches.{touched-below, entry-touched}
-use Rattle.pricing.specs.StepVerdicts.{missing, enters, someEnters, stepVerdict, stepsVerdict}
+use Rattle.model.specs.Pricing.{missing, enters, someEnters, stepVerdict, stepsVerdict}
 
 -- the parts of a disjunction that is false
 pub or-left : (a b : Bool) → a || b ≡ false → a ≡ false

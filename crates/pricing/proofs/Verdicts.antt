@@ -19,9 +19,11 @@ use Rattle.model.specs.declared.Verdict.the-variants.{Accepted, Refused}
 use Rattle.model.proofs.Sums.{last-or-below}
 use Rattle.model.proofs.Touches.{touched-at}
 use Rattle.model.proofs.Optimal.{optimal-permitted, optimal-memory, optimal-load, optimal-total}
-use Rattle.pricing.specs.declared.PriceAnswer.{PriceAnswer}
-use Rattle.pricing.specs.Checking.{scheduleVerdict, noPrice, priceAnswer}
-use Rattle.pricing.specs.StepVerdicts.{missing, enters, someEnters, stepVerdict, firstOf, stepsVerdict}
+use Rattle.model.specs.declared.PriceAnswer.{PriceAnswer}
+use Rattle.model.specs.Pricing.{scheduleVerdict, noPrice}
+use Rattle.pricing.specs.inner.Prices.{priceAnswer}
+use Rattle.model.specs.Pricing.{missing, enters, someEnters, stepVerdict, stepsVerdict}
+use Rattle.model.specs.Refusals.{firstOf}
 use Rattle.pricing.proofs.StepFaults.{none-enters, step-accepted, held-touched}
 
 -- two verdicts are accepted where the first of them is

@@ -8,6 +8,7 @@ use held_bits::StartWords;
 use model::Kind;
 use model::LoadUnits;
 use model::MemoryUnits;
+use model::PriceAnswer;
 use model::PriceRow;
 use model::Refusal;
 use model::Verdict;
@@ -21,28 +22,9 @@ ghost use lib.ListN.{length};
 ghost use Rattle.model.specs.Sheets.{mostSegs, runOf, RunWithin};
 ghost use Rattle.model.specs.Costs.{unitCost};
 ghost use Rattle.pricing.specs.inner.Held.{StartBits};
-ghost use Rattle.pricing.specs.Checking.{noPrice, priceAnswer};
+ghost use Rattle.model.specs.Pricing.{noPrice};
+ghost use Rattle.pricing.specs.inner.Prices.{priceAnswer};
 ghost use Rattle.pricing.specs.inner.StartCost.{startCost};
-
-// What pricing a schedule gives: its memory, load and total, all zero where it is refused.
-pub struct PriceAnswer {
-    pub verdict: Verdict,
-    pub memory: MemoryUnits,
-    pub load: LoadUnits,
-    pub total: u64,
-}
-
-// What a refusal answers: zeros.
-pub fn refused(r: Refusal) -> PriceAnswer
-    ensures { λ n. ⌜ n ≡ noPrice r ⌝ }
-{
-    PriceAnswer {
-        verdict: Verdict::Refused(r),
-        memory: MemoryUnits(0),
-        load: LoadUnits(0),
-        total: 0,
-    }
-}
 
 // What a segment of size z costs for one step where it is held, else 0.
 fn unit_where(held: bool, kind: Kind, z: u16) -> MemoryUnits
@@ -89,7 +71,7 @@ fn price_from(
         (now (schedule .entry)) ⌝ }
 {
     if schedule.len() != Schedule::STEP_BYTES * refs.len() {
-        return refused(Refusal::ScheduleLength);
+        return PriceAnswer::refused(Refusal::ScheduleLength);
     }
     let mut c = Costs {
         held: start_cost(kind, sizes, warm),
@@ -100,7 +82,7 @@ fn price_from(
     while t < refs.len() {
         let next = step_price::step(kind, a, sizes, warm, refs, start, schedule, t, c);
         match next {
-            Stepped::Faulty(r) => return refused(r),
+            Stepped::Faulty(r) => return PriceAnswer::refused(r),
             Stepped::Priced(s) => c = s,
         }
         t += 1;

@@ -24,7 +24,7 @@ ghost use Rattle.model.specs.Values.{zeros, idles, blankMarks, headValueOf};
 ghost use Rattle.sheet.specs.Answers.{answerOf};
 ghost use Rattle.sheet.specs.Lines.{andThen};
 ghost use Rattle.sheet.specs.Order.{headPart, entriesPart, runPart};
-ghost use Rattle.sheet.specs.Reading.{atEnd, readForms, readSheet, rejected};
+ghost use Rattle.sheet.specs.Reading.{atEnd, readForms, rejected};
 ghost use Rattle.scan.specs.inner.AtPlace.{parsedLines, linesNext, Filled};
 ghost use Rattle.model.specs.declared.Head.{Head};
 ghost use Rattle.scan.specs.declared.numbers.LinesRead.the-variants.{Refused as NoLines};
@@ -257,11 +257,4 @@ pub fn read_forms(bytes: &[u8], lo: u8, hi: u8) -> SheetAnswer
             marks: marks,
         },
     }
-}
-
-// Any bytes to a sheet, or the refusal and the empty sheet.
-pub fn read(bytes: &[u8]) -> SheetAnswer
-    ensures { λ r. ⌜ r ≡ answerOf (readSheet (now (bytes .entry))) ⌝ }
-{
-    read_forms(bytes, 1, Sheet::NEWEST_FORM)
 }

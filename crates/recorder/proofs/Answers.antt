@@ -21,7 +21,7 @@ use Rattle.model.specs.Values.{zeros, headOf, sheetOf}
 use Rattle.model.specs.declared.Sheet.{Sheet}
 use Rattle.buckets.specs.Buckets.{allEmpty}
 use Rattle.model.specs.LastTouches.{startTable}
-use Rattle.figures.specs.Rows.{figuresAt, figuresOf}
+use Rattle.model.specs.RowAnswers.{figuresAt, figuresOf}
 use Rattle.buckets.proofs.Passing.{pass-start}
 use Rattle.recorder.specs.Recorders.{recorderOf, started, appended, taken, withStep, roomVerdict, refsVerdict, touchAllVerdict}
 use Rattle.recorder.specs.Recorders.{idleVerdict}

@@ -27,7 +27,7 @@ recorded kind entries =
 
 -- steps, Q and V of a recorder, and the last touches of its first three segments
 heldBy : Recorder → List ℕ
-heldBy R = R .steps ∷ R .cost ∷ R .volume ∷ take 3 (R .last)
+heldBy R = R .steps ∷ R .cost .0 ∷ R .volume ∷ take 3 (R .last)
 
 -- references 0 and 1, kind time: Q is 2 and V is 4; kind space: both are 4; with an idle step between them the step of the second is 3
 time-held : heldBy (recorderOf (recorded Time (0 ∷ 1 ∷ []))) ≡ 2 ∷ 2 ∷ 4 ∷ 1 ∷ 2 ∷ 65535 ∷ []
@@ -44,7 +44,7 @@ idle-held = refl
 
 -- a recorder of two segments after so many steps
 counting : ℕ → Recorder
-counting n = record { head = headOf (recorded Time [] .head); steps = n; last = []; buckets = []; cost = 0; volume = 0 }
+counting n = record { head = headOf (recorded Time [] .head); steps = n; last = []; buckets = []; cost = record { 0 = 0 }; volume = 0 }
 
 -- one reference: 4 for segment 2 of two, also with 2,048 steps taken; then 13
 touch-numbers : map (λ x. verdictNumber (touchVerdict (counting 2047) x)) (0 ∷ 1 ∷ 2 ∷ [])
@@ -67,7 +67,7 @@ idle-numbers = refl
 
 -- a recorder that a refused start handed back has no segments: each reference is 4, and an idle step is taken
 empty : Recorder
-empty = record { head = emptyHead; steps = 0; last = []; buckets = []; cost = 0; volume = 0 }
+empty = record { head = emptyHead; steps = 0; last = []; buckets = []; cost = record { 0 = 0 }; volume = 0 }
 
 empty-numbers : verdictNumber (touchVerdict empty 0) ∷ verdictNumber (idleVerdict empty) ∷ [] ≡ 4 ∷ 0 ∷ []
 unfolding empty emptyHead

@@ -11,7 +11,7 @@ use Rattle.model.specs.Values.{zeros, zeroRows, headOf}
 use Rattle.model.specs.LastTouches.{lastTable}
 use Rattle.buckets.specs.Buckets.{bucketCount, tallyOf}
 use Rattle.buckets.specs.inner.Pass.{EndedAt}
-use Rattle.figures.specs.Rows.{figuresAt}
+use Rattle.model.specs.RowAnswers.{figuresAt}
 use Rattle.figures.specs.inner.Sweep.{summed, withStart, Tallied}
 use Rattle.figures.specs.inner.OneRow.{mostItems, Holds, RowFits, rowFrom}
 use Rattle.buckets.specs.declared.Bucket.{Bucket}
@@ -72,9 +72,9 @@ pub record Swept (R : Recorder) (row : ℕ) (f : RowFigures) : Type 0 where
   pub all-is : Holds mostItems (withStart start touches) → all ≡ withStart start touches
   pub kept-is : ((m : ℕ) → m ≤ row + 1 → Holds mostSteps (summed (R .buckets) m)) → kept ≡ summed (R .buckets) (row + 1)
   pub ends-is : ((m : ℕ) → m ≤ row + 1 → Holds mostSteps (summed ended m)) → ends ≡ summed ended (row + 1)
-  pub figures-are : RowFits (R .head .kind) (getD (R .head .prices) row (record { h = 0; d = 0 })) (R .steps) (R .cost)
+  pub figures-are : RowFits (R .head .kind) (getD (R .head .prices) row (record { h = 0; d = 0 })) (R .steps) (R .cost .0)
       (R .volume) all kept ends
-      → f ≡ rowFrom (R .head .kind) (R .head .a) (getD (R .head .prices) row (record { h = 0; d = 0 })) (R .steps) (R .cost)
+      → f ≡ rowFrom (R .head .kind) (R .head .a) (getD (R .head .prices) row (record { h = 0; d = 0 })) (R .steps) (R .cost .0)
       (R .volume) all kept ends
 
 module _ (v : SheetValue) (valid : Valid v) (row : ℕ) (lt : row < length (v .head .rows)) (f : RowFigures)
@@ -89,7 +89,7 @@ module _ (v : SheetValue) (valid : Valid v) (row : ℕ) (lt : row < length (v .h
       record { rows-ok = valid .rows; run-ok = valid .run; is-tally = rw (s .ended-are v valid refl) refl } in
       let few : row + 1 ≤ bucketCount = omega (arith, valid .rows .rows-within) in
       let whole = tallied-all rows T tally given (s .touches-are (tallied-buckets rows T tally given)) (s .start-is ∙ starts-of v valid) in
-      let at : SweptTo rows T tally given row (getD (recorderOf v .head .prices) row (record { h = 0; d = 0 })) (recorderOf v .cost)
+      let at : SweptTo rows T tally given row (getD (recorderOf v .head .prices) row (record { h = 0; d = 0 })) (recorderOf v .cost .0)
       (recorderOf v .volume) (s .all) (s .kept) (s .ends) =
       record {
         row-is = padded-at rows (zeroRows mostRows) row (record { h = 0; d = 0 }) lt;

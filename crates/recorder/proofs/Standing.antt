@@ -79,7 +79,7 @@ stands-roomy R v valid e = rw e (standing-roomy v valid)
 pub recorder-passed : (v : SheetValue) (n : ℕ) → n ≡ length (v .entries) → (buckets : List Bucket) (last : List ℕ) (cost volume : ℕ)
     → record { buckets = buckets; last = last } ≡ passedOf (v .head .rows) (traceOf v) → cost ≡ refCost (traceOf v)
     → volume ≡ refVolume (traceOf v)
-    → record { head = headOf (v .head); steps = n; last = last; buckets = buckets; cost = cost; volume = volume } ≡ recorderOf v
+    → record { head = headOf (v .head); steps = n; last = last; buckets = buckets; cost = record { 0 = cost }; volume = volume } ≡ recorderOf v
 unfolding recorderOf passedAfter
 recorder-passed v n all buckets last cost volume passed cost-is volume-is =
     rw (ap (λ (p : Passed). p .buckets) passed, ap (λ (p : Passed). p .last) passed, cost-is, volume-is, all) refl

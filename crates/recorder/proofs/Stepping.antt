@@ -48,14 +48,14 @@ pub record Stepped (R : Recorder) (x : ℕ) (N : Recorder) : Type 0 where
   pub bucket-is : Within (getD (R .buckets) (touch .bucket) noBucket) (2 ^ 60)
       → bucket ≡ withTouch (getD (R .buckets) (touch .bucket) noBucket) touch
   pub unit-is : unit ≡ unitCost (R .head .kind) (getD (R .head .sizes) x 0)
-  pub cost-is : R .cost ≤ 2 ^ 60 → unit ≤ 2 ^ 60 → cost ≡ R .cost + unit
+  pub cost-is : R .cost .0 ≤ 2 ^ 60 → unit ≤ 2 ^ 60 → cost ≡ R .cost .0 + unit
   pub volume-is : R .volume ≤ 2 ^ 60 → getD (R .head .sizes) x 0 ≤ 2 ^ 60 → volume ≡ R .volume + getD (R .head .sizes) x 0
   pub next-is : N ≡ record {
     head = R .head;
     steps = R .steps + 1;
     last = set (R .last) x (R .steps + 1);
     buckets = set (R .buckets) (touch .bucket) bucket;
-    cost = cost;
+    cost = record { 0 = cost };
     volume = volume;
   }
 
@@ -154,7 +154,7 @@ taken-of : (v : SheetValue) (xs : List ℕ) → RowsWithin (v .head .rows) → R
       steps = recorderOf v .steps + length xs;
       last = p .last;
       buckets = p .buckets;
-      cost = cost;
+      cost = record { 0 = cost };
       volume = all .volume;
     } ≡ recorderOf (appended v xs)
 unfolding recorderOf headOf tallyOf passedAfter
@@ -180,7 +180,7 @@ pub taken-stands : (R : Recorder) (xs : List ℕ) (p : Passed) (all : Bucket) (c
       steps = R .steps + length xs;
       last = p .last;
       buckets = p .buckets;
-      cost = cost;
+      cost = record { 0 = cost };
       volume = all .volume;
     } ≡ recorderOf (appended v xs)
 taken-stands R xs p all cost on all-is cost-is v up run e =

@@ -17,8 +17,8 @@ use Rattle.model.specs.Values.{headOf, emptyHead}
 use Rattle.buckets.specs.Buckets.{bucketCount, bucketAfter, allEmpty}
 use Rattle.model.specs.Sums.{tabulate}
 use Rattle.model.specs.LastTouches.{startTable, lastTable}
-use Rattle.figures.specs.Rows.{noFigures, figuresOf}
-use Rattle.figures.specs.declared.FiguresAnswer.{FiguresAnswer}
+use Rattle.model.specs.RowAnswers.{noFigures, figuresOf}
+use Rattle.model.specs.declared.FiguresAnswer.{FiguresAnswer}
 use Rattle.recorder.specs.declared.Recorder.{Recorder}
 use Rattle.recorder.specs.declared.TouchAnswer.{TouchAnswer}
 
@@ -30,13 +30,13 @@ recorderOf v =
       steps = length (v .entries);
       last = lastTable (traceOf v) (length (v .entries));
       buckets = tabulate bucketCount (bucketAfter (v .head .rows) (traceOf v) (length (v .entries)));
-      cost = refCost (traceOf v);
+      cost = record { 0 = refCost (traceOf v) };
       volume = refVolume (traceOf v);
     }
 
 -- no segments, no rows and no warm segments: what a refused start hands back
 unfoldable pub emptyRecorder : Recorder
-emptyRecorder = record { head = emptyHead; steps = 0; last = startTable []; buckets = allEmpty; cost = 0; volume = 0 }
+emptyRecorder = record { head = emptyHead; steps = 0; last = startTable []; buckets = allEmpty; cost = record { 0 = 0 }; volume = 0 }
 
 -- the form and the head of a sheet, its warm segments among it, with no steps. A recorder takes forms 1 to 3, which have no marks
 abbrev pub started : SheetValue → SheetValue

@@ -59,7 +59,7 @@ pub fn more(sum: u64, x: u64) -> u64
 }
 
 // The same of memory.
-fn more_memory(sum: MemoryUnits, x: MemoryUnits) -> MemoryUnits
+pub fn more_memory(sum: MemoryUnits, x: MemoryUnits) -> MemoryUnits
     ensures { λ r. ⌜ (sum .0 ≤ 2 ^ 60 → x .0 ≤ 2 ^ 60 → r .0 ≡ sum .0 + x .0) ⌝ }
 {
     MemoryUnits(more(sum.0, x.0))

@@ -7,8 +7,9 @@ pub mod taking;
 
 use buckets::Bucket;
 use buckets::Tally;
-use figures::FiguresAnswer;
+use model::FiguresAnswer;
 use model::Head;
+use model::MemoryUnits;
 use model::Refusal;
 use model::RowFigures;
 use model::Sheet;
@@ -25,7 +26,7 @@ pub struct Recorder {
     pub steps: usize,
     pub last: [u16; Recorder::MAX_SEGS],
     pub buckets: [Bucket; Tally::BUCKETS],
-    pub cost: u64,
+    pub cost: MemoryUnits,
     pub volume: u64,
 }
 
@@ -63,7 +64,7 @@ fn begin(head: Head) -> Recorder
         steps: 0,
         last: last,
         buckets: buckets,
-        cost: 0,
+        cost: MemoryUnits(0),
         volume: 0,
     }
 }

@@ -4,13 +4,12 @@
 use crate::Recorder;
 use buckets::Bucket;
 use buckets::Tally;
-use model::MemoryUnits;
 use model::RowFigures;
 ghost use mathlib.Core.Path.{_≡_};
 ghost use Prim.Native.Nat.{_+_, _<_, min};
 ghost use Rattle.model.specs.Sheets.{SheetValue, Valid, traceOf, mostRows};
 ghost use Rattle.buckets.specs.Buckets.{tallyOf};
-ghost use Rattle.figures.specs.Rows.{figuresAt};
+ghost use Rattle.model.specs.RowAnswers.{figuresAt};
 ghost use Rattle.recorder.specs.Recorders.{recorderOf};
 
 // The buckets of the end intervals at this moment.
@@ -51,7 +50,7 @@ pub fn row_now(recorder: Recorder, row: usize) -> RowFigures
         head.a,
         prices[row],
         recorder.steps,
-        MemoryUnits(recorder.cost),
+        recorder.cost,
         recorder.volume,
         all,
         kept,

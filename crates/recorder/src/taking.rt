@@ -4,6 +4,7 @@ use crate::Recorder;
 use buckets::Tally;
 use buckets::pass::Passed;
 use model::Head;
+use model::MemoryUnits;
 use model::Refusal;
 use model::Verdict;
 ghost use mathlib.Core.Path.{_≡_};
@@ -35,7 +36,7 @@ pub fn take_one(mut recorder: Recorder, segment: usize) -> Recorder
     recorder.buckets[k] = crate::guards::file(b, x);
     recorder.last[segment] = (t + 1) as u16;
     recorder.steps = t + 1;
-    recorder.cost = crate::guards::more(recorder.cost, model::unit_cost(kind, z).0);
+    recorder.cost = crate::guards::more_memory(recorder.cost, model::unit_cost(kind, z));
     recorder.volume = crate::guards::more(recorder.volume, crate::guards::wide(z));
     recorder
 }
@@ -113,7 +114,7 @@ pub fn take_all(recorder: Recorder, refs: &[u16]) -> Recorder
         steps: recorder.steps + refs.len(),
         last: table,
         buckets: next,
-        cost: figures::row_sums::by_kind(kind, all.count, all.volume),
+        cost: MemoryUnits(figures::row_sums::by_kind(kind, all.count, all.volume)),
         volume: all.volume,
     }
 }

@@ -13,10 +13,10 @@ use Rattle.model.specs.Sheets.{SheetValue, newestForm, mostRows}
 use Rattle.model.specs.declared.RowFigures.{RowFigures}
 use Rattle.sheet.specs.Reading.{Outcome, accepted, rejected, readSheet}
 use Rattle.sheet.proofs.Accepted.{accepted-valid}
-use Rattle.figures.specs.Rows.{figuresAt}
+use Rattle.model.specs.RowAnswers.{figuresAt}
 use Rattle.model.proofs.Tables.{tabulate-eq}
 use Rattle.sheet.specs.Accepting.{onSheet}
-use Rattle.rows.proofs.RowFigures.{figures-at}
+use Rattle.model.proofs.RowAnswers.{figures-at}
 use Rattle.row_records.specs.Listed.{sheetAnswer, sheetAfter, listAnswer, listAfter}
 use Rattle.row_records.specs.Held.{noRecords, recordsFor, recordsFound}
 use Rattle.row_records.specs.declared.Records.{Records}

@@ -13,7 +13,7 @@ use Rattle.model.specs.declared.Refusal.the-variants.{PlaceTooShort}
 use Rattle.model.specs.declared.RowFigures.{RowFigures}
 use Rattle.sheet.specs.Accepting.{onSheet}
 use Rattle.sheet.specs.Reading.{readSheet}
-use Rattle.figures.specs.Rows.{allFigures}
+use Rattle.model.specs.RowAnswers.{allFigures}
 use Rattle.row_records.specs.Listed.{sheetAnswer}
 use Rattle.row_records.specs.declared.Records.{Records}
 

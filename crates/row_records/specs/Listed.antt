@@ -12,7 +12,7 @@ use Rattle.model.specs.declared.RowFigures.{RowFigures}
 use Rattle.model.specs.declared.Verdict.the-variants.{Accepted}
 use Rattle.sheet.specs.Reading.{readSheet}
 use Rattle.model.specs.Sums.{tabulate}
-use Rattle.figures.specs.Rows.{figuresAt}
+use Rattle.model.specs.RowAnswers.{figuresAt}
 use Rattle.sheet.specs.Accepting.{onSheet}
 
 -- the records of a sheet: the figures of each row, in the rows' order

@@ -7,8 +7,8 @@ use lib.ListN.{length, getD}
 use Rattle.model.specs.Sheets.{SheetValue, RowsWithin, rowIn, rowAt, largestPrice}
 use Rattle.model.specs.declared.PriceRow.{PriceRow}
 use Rattle.model.specs.declared.RowFigures.{RowFigures}
-use Rattle.figures.specs.Rows.{figuresAt, allFigures}
-use Rattle.rows.proofs.RowFigures.{figures-at}
+use Rattle.model.specs.RowAnswers.{figuresAt, allFigures}
+use Rattle.model.proofs.RowAnswers.{figures-at}
 
 -- one of the rows alone is within the limits
 pub row-alone-within : (rows : List PriceRow) → RowsWithin rows → (r : ℕ) → r < length rows → RowsWithin (rowIn rows r ∷ [])

@@ -12,9 +12,9 @@ use Rattle.model.specs.declared.Verdict.the-variants.{Accepted}
 use Rattle.tariff.specs.Tariff.{tariffInRange, billOf}
 use Rattle.tariff.specs.declared.Cents.{Cents}
 use Rattle.tariff.specs.declared.Tariff.{Tariff}
-use Rattle.figures.specs.Rows.{figuresAt}
+use Rattle.model.specs.RowAnswers.{figuresAt}
 use Rattle.figures.proofs.Limits.{optmem-within, load-within}
-use Rattle.rows.specs.Billing.{noBill, rowBill, billFor}
+use Rattle.tariff.specs.Billing.{noBill, rowBill, billFor}
 
 module _ (v : SheetValue) (r : ℕ) (t : Tariff) where
   pub bill-no-row : length (v .head .rows) ≤ r → billFor v r t ≡ noBill NoSuchRow

@@ -1,4 +1,3 @@
 pub mod Alone
 pub mod BillResults
-pub mod RowFigures
 pub mod Sizes

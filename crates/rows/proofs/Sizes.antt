@@ -18,9 +18,9 @@ use Rattle.model.specs.declared.Verdict.the-variants.{Accepted}
 use Rattle.model.proofs.Ascent.{rows-optmem-rises}
 use Rattle.model.proofs.Sizing.{sized-chosen, none-chosen}
 use Rattle.model.proofs.Sums.{last-or-below}
-use Rattle.figures.specs.Rows.{allFigures, figuresAt}
-use Rattle.rows.specs.Sizing.{noSize, sizing}
-use Rattle.rows.proofs.RowFigures.{figures-at}
+use Rattle.model.specs.RowAnswers.{allFigures, figuresAt}
+use Rattle.model.specs.Sizing.{noSize, sizing}
+use Rattle.model.proofs.RowAnswers.{figures-at}
 
 -- optmem and load of a row among the figures of all rows
 abbrev pub memoryAt : List RowFigures → ℕ → ℕ

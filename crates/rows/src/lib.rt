@@ -3,7 +3,7 @@
 pub mod billing;
 pub mod sizing;
 
-use figures::FiguresAnswer;
+use model::FiguresAnswer;
 use model::Refusal;
 use model::RowFigures;
 use model::Sheet;
@@ -12,7 +12,7 @@ ghost use mathlib.Core.Path.{_≡_};
 ghost use Prim.Native.Nat.{_<_};
 ghost use Rattle.model.specs.Standing.{Standing};
 ghost use Rattle.model.specs.Values.{valueOf};
-ghost use Rattle.figures.specs.Rows.{noFigures, figuresAt, figuresOf, allFigures};
+ghost use Rattle.model.specs.RowAnswers.{noFigures, figuresAt, figuresOf, allFigures};
 
 // The figures of every row of an accepted sheet.
 pub fn all_figures(s: Sheet) -> [RowFigures; Sheet::MAX_ROWS]
@@ -23,16 +23,6 @@ pub fn all_figures(s: Sheet) -> [RowFigures; Sheet::MAX_ROWS]
     let steps = s.steps;
     let touches = s.touches;
     figures::figures(head, &touches[..steps])
-}
-
-// No figures, and why.
-pub fn no_figures(why: Refusal) -> FiguresAnswer
-    ensures { λ r. ⌜ r ≡ noFigures why ⌝ }
-{
-    FiguresAnswer {
-        verdict: Verdict::Refused(why),
-        figures: RowFigures::zero(),
-    }
 }
 
 // The figures of a row of an accepted sheet: those of the sheet with this row alone, for which the pass has one look at a reuse.
@@ -56,7 +46,7 @@ pub fn sheet_figures(s: Sheet, row: usize) -> FiguresAnswer
     ensures { λ r. ⌜ r ≡ figuresOf (valueOf s) row ⌝ }
 {
     if row >= s.head.rows {
-        return no_figures(Refusal::NoSuchRow);
+        return FiguresAnswer::refused(Refusal::NoSuchRow);
     }
     FiguresAnswer {
         verdict: Verdict::Accepted,

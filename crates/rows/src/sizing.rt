@@ -1,29 +1,14 @@
 // Sizing: the row to run an accepted sheet at where memory has a ceiling.
-// What is answered is written in specs/Sizing.antt; nothing is assumed.
+// What is answered is written in crate `model`.
 use model::Refusal;
 use model::Sheet;
+use model::SizingAnswer;
 use model::Verdict;
 ghost use mathlib.Core.Path.{_≡_};
 ghost use Rattle.model.specs.Sizing.{sizedRow};
 ghost use Rattle.model.specs.Standing.{Standing};
 ghost use Rattle.model.specs.Values.{valueOf};
-ghost use Rattle.rows.specs.Sizing.{noSize, sizing};
-
-// A row; 0 where the call is refused.
-pub struct SizingAnswer {
-    pub verdict: Verdict,
-    pub row: usize,
-}
-
-// No row, and why.
-pub fn no_size(why: Refusal) -> SizingAnswer
-    ensures { λ r. ⌜ r ≡ noSize why ⌝ }
-{
-    SizingAnswer {
-        verdict: Verdict::Refused(why),
-        row: 0,
-    }
-}
+ghost use Rattle.model.specs.Sizing.{noSize, sizing};
 
 // The row that sizing gives of an accepted sheet, or 12. Along the rows optmem never falls, so the first row beyond the ceiling ends the
 // pass; `row` is the lowest with the least load of those before row i.
@@ -47,7 +32,7 @@ pub fn sheet_size(s: Sheet, ceiling: u64) -> SizingAnswer
         i += 1;
     }
     if i == 0 {
-        return no_size(Refusal::NoRowFits);
+        return SizingAnswer::refused(Refusal::NoRowFits);
     }
     SizingAnswer {
         verdict: Verdict::Accepted,

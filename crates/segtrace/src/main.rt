@@ -1,5 +1,5 @@
 // The program: a sheet on standard input, its listing on standard output, or `refused=` and the number of the refusal. It only reads and
-// writes; what it prints is that of `analyser::printed`. Where the input cannot be read or the output not written it says so on standard
+// writes; what it prints is that of `analyser::texts::printed`. Where the input cannot be read or the output not written it says so on standard
 // error, and prints nothing where the input cannot be read. The contracts of the C library's functions are assumed.
 use libc::STDIN_FILENO;
 use libc::STDOUT_FILENO;
@@ -50,7 +50,7 @@ fn read_input(buf: &mut [u8]) -> Input
 
 // Prints what is due for the bytes.
 fn print(bytes: &[u8], out: &mut [u8]) {
-    let answer = analyser::printed(bytes, out);
+    let answer = analyser::texts::printed(bytes, out);
     let length = answer.length;
     if !io::write_all(STDOUT_FILENO, &out[..length]) {
         os::fail(b"segtrace: standard output");

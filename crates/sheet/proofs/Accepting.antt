@@ -127,14 +127,14 @@ stands s A e r = forms-stand 1 newestForm s A e (omega arith) r
 
 -- and its form is one that the call takes
 read-taken : (lo hi : ℕ) → 1 ≤ hi → (s : List ℕ) (A : SheetAnswer) (o : Outcome) → readForms lo hi s ≡ o → A ≡ answerOf o
-    → A .verdict ≡ Accepted → lo ≤ A .sheet .form
+    → A .verdict ≡ Accepted → (lo ≤ A .sheet .form) × (A .sheet .form ≤ hi)
 unfolding answerOf sheetOf
-read-taken lo hi some s A (accepted v) r e a = rw (ap (λ B. B .sheet .form) e) (accepted-form lo hi some s v r .0)
+read-taken lo hi some s A (accepted v) r e a = rw (ap (λ B. B .sheet .form) e) (accepted-form lo hi some s v r)
 read-taken lo hi some s A (rejected p) r e a =
     let b : A .verdict ≡ Refused p = ap (λ B. B .verdict) e in
     let z : _≡_ {A = ℕ} 0 1 = cc in
     absurd (omega arith)
 
 pub forms-taken : (lo hi : ℕ) (s : List ℕ) (A : SheetAnswer) → A ≡ answerOf (readForms lo hi s) → 1 ≤ hi → A .verdict ≡ Accepted
-    → lo ≤ A .sheet .form
+    → (lo ≤ A .sheet .form) × (A .sheet .form ≤ hi)
 forms-taken lo hi s A e some r = read-taken lo hi some s A (readForms lo hi s) refl e r

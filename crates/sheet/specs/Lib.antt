@@ -1,5 +1,6 @@
 pub mod Accepting
 pub mod Answers
+pub mod Forms
 pub mod Lines
 pub mod Order
 pub mod Parts

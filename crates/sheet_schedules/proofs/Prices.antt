@@ -20,15 +20,16 @@ use Rattle.model.specs.declared.Sheet.{Sheet}
 use Rattle.model.specs.declared.Verdict.{Verdict}
 use Rattle.model.specs.declared.Verdict.the-variants.{Accepted, Refused}
 use Rattle.model.proofs.Standing.{marks-none, row-of}
-use Rattle.pricing.specs.Checking.{scheduleVerdict, noPrice, priceAnswer}
-use Rattle.pricing.specs.declared.PriceAnswer.{PriceAnswer}
+use Rattle.model.specs.Pricing.{scheduleVerdict, noPrice}
+use Rattle.pricing.specs.inner.Prices.{priceAnswer}
+use Rattle.model.specs.declared.PriceAnswer.{PriceAnswer}
 use Rattle.pricing.proofs.Costing.{schedule-within}
 use Rattle.pricing.proofs.Verdicts.{priced, accepted-answer, refused-answer, accepted-permitted}
 use Rattle.store_plan.specs.inner.Passing.{SizedAs}
 use Rattle.stores.specs.Rows.{sheetLoad, sheetTotal}
 use Rattle.stores.specs.Stays.{storesOf, markedLoad, markedTotal}
 use Rattle.stores.proofs.Unmarked.{unmarked-load}
-use Rattle.sheet_schedules.specs.Plans.{pricedAt}
+use Rattle.stores.specs.Plans.{pricedAt}
 use Rattle.sheet_schedules.specs.inner.PlainPrices.{PlainOf}
 
 module _ (v : SheetValue) (r : ℕ) (p : List ℕ) where

@@ -1,1 +1,2 @@
+pub mod FormPlans
 pub mod PlainPrices

@@ -1,22 +1,26 @@
 // What is asked of the schedules of an accepted sheet: the optimal one of a row, written, in form 4 that of the least total with stores
-// counted, and the price of one handed in. What is answered is written in specs/Plans.antt; nothing is assumed.
+// counted, and the price of one handed in. What is answered is written in crate `stores`; nothing is assumed.
+use model::Kind;
 use model::LoadUnits;
 use model::PlaceAnswer;
+use model::PriceAnswer;
 use model::PriceRow;
 use model::Refusal;
 use model::Sheet;
 use model::Verdict;
-use pricing::PriceAnswer;
 use schedule::Schedule;
 ghost use mathlib.Core.Path.{_≡_};
+ghost use mathlib.Core.List.{_++_};
 ghost use Prim.Native.Nat.{ℕ, _*_, _≤_};
 ghost use lib.Dec.{ltb};
+ghost use lib.ListN.{length, drop};
 ghost use Rattle.model.specs.Places.{PlaceLeft};
-ghost use Rattle.model.specs.Sheets.{SheetValue};
+ghost use Rattle.model.specs.Sheets.{SheetValue, runOf, RunWithin, marksOf};
 ghost use Rattle.model.specs.Standing.{Standing};
 ghost use Rattle.model.specs.Values.{valueOf};
 ghost use Rattle.model.specs.declared.Verdict.the-variants.{Accepted};
-ghost use Rattle.sheet_schedules.specs.Plans.{scheduleFor, modifiedFor, pricedAt, priceFor};
+ghost use Rattle.stores.specs.Plans.{pricedAt, priceFor};
+ghost use Rattle.sheet_schedules.specs.inner.FormPlans.{planOf, planFor};
 ghost use Rattle.sheet_schedules.specs.inner.PlainPrices.{PlainOf};
 
 // Whether a place of `size` bytes is shorter than a schedule of so many steps.
@@ -26,56 +30,46 @@ fn too_short(steps: usize, size: usize) -> bool
     size / Schedule::STEP_BYTES < steps
 }
 
-// The optimal schedule of a row of an accepted sheet into a lent place: 7, then 11.
-pub fn sheet_schedule(s: Sheet, row: usize, out: &mut [u8]) -> PlaceAnswer
-    requires { ⌜ Standing s ⌝ }
-    ensures { λ r. ⌜ PlaceLeft (scheduleFor (valueOf s) row) (now (out .entry)) (now (out .exit)) r ⌝ }
+// The schedule that is made for a sheet's form at the head of a lent place, whatever stood there; what stands beyond it stays.
+fn write_plan(
+    form: u8,
+    kind: Kind,
+    a: u8,
+    row: PriceRow,
+    sizes: &[u16],
+    warm: &[u16],
+    refs: &[u16],
+    marks: &[bool],
+    out: &mut [u8],
+)
+    requires { ⌜ RunWithin (runOf kind a (now sizes) (now warm) (now refs)) × (4 ≤ form → length (now marks) ≡ length (now refs)) ⌝ }
+    requires { ⌜ 32 * length (now refs) ≤ length (now out) ⌝ }
+    ensures { λ _.
+        ⌜ now (out .exit) ≡ planOf form (runOf kind a (now (sizes .entry)) (now (warm .entry)) (now (refs .entry)))
+        (marksOf (now (marks .entry))) (row .h) (row .d) ++ drop (32 * length (now (refs .entry))) (now (out .entry)) ⌝ }
 {
-    if s.head.rows <= row {
-        return PlaceAnswer::refused(Refusal::NoSuchRow);
+    if 4 <= form {
+        store_plan::write_modified(kind, a, row, sizes, warm, refs, marks, out);
+        return;
     }
-    let head = s.head;
-    let kind = head.kind;
-    let segs = head.segs;
-    let steps = s.steps;
-    if too_short(steps, out.len()) {
-        return PlaceAnswer::refused(Refusal::PlaceTooShort);
-    }
-    let sizes = head.sizes;
-    let warm = head.warm;
-    let holds = head.holds;
-    let touches = s.touches;
-    let prices = head.prices;
-    schedule::writing::write_optimal(
-        kind,
-        head.a,
-        prices[row],
-        &sizes[..segs],
-        &holds[..warm],
-        &touches[..steps],
-        out,
-    );
-    PlaceAnswer {
-        verdict: Verdict::Accepted,
-        length: Schedule::of_steps(steps).length(),
-    }
+    schedule::writing::write_optimal(kind, a, row, sizes, warm, refs, out);
 }
 
-// The schedule of the least total with stores counted of a row of an accepted sheet of form 4 into a lent place: 7, then 11.
-pub fn sheet_modified(s: Sheet, row: usize, out: &mut [u8]) -> PlaceAnswer
-    requires { ⌜ Standing s × (4 ≤ s .form) ⌝ }
-    ensures { λ r. ⌜ PlaceLeft (modifiedFor (valueOf s) row) (now (out .entry)) (now (out .exit)) r ⌝ }
+// The schedule that is made for the form of an accepted sheet, of a row, into a lent place: 7, then 11.
+pub fn sheet_plan(s: Sheet, row: usize, out: &mut [u8]) -> PlaceAnswer
+    requires { ⌜ Standing s ⌝ }
+    ensures { λ r. ⌜ PlaceLeft (planFor (valueOf s) row) (now (out .entry)) (now (out .exit)) r ⌝ }
 {
     if s.head.rows <= row {
         return PlaceAnswer::refused(Refusal::NoSuchRow);
     }
-    let head = s.head;
-    let kind = head.kind;
-    let segs = head.segs;
     let steps = s.steps;
     if too_short(steps, out.len()) {
         return PlaceAnswer::refused(Refusal::PlaceTooShort);
     }
+    let head = s.head;
+    let kind = head.kind;
+    let segs = head.segs;
     let sizes = head.sizes;
     let warm = head.warm;
     let holds = head.holds;
@@ -83,7 +77,8 @@ pub fn sheet_modified(s: Sheet, row: usize, out: &mut [u8]) -> PlaceAnswer
     let marked = s.marked;
     let marks = s.marks;
     let prices = head.prices;
-    store_plan::write_modified(
+    write_plan(
+        s.form,
         kind,
         head.a,
         prices[row],
@@ -146,7 +141,7 @@ fn with_stores(
 {
     let verdict = plain.verdict;
     match verdict {
-        Verdict::Refused(why) => pricing::refused(why),
+        Verdict::Refused(why) => PriceAnswer::refused(why),
         Verdict::Accepted => stores_added(a, row, sizes, refs, marks, schedule, plain),
     }
 }
@@ -157,7 +152,7 @@ pub fn sheet_price(s: Sheet, row: usize, schedule: &[u8]) -> PriceAnswer
     ensures { λ r. ⌜ r ≡ priceFor (valueOf s) row (now (schedule .entry)) ⌝ }
 {
     if s.head.rows <= row {
-        return pricing::refused(Refusal::NoSuchRow);
+        return PriceAnswer::refused(Refusal::NoSuchRow);
     }
     let head = s.head;
     let kind = head.kind;

@@ -22,8 +22,8 @@ use Rattle.model.specs.Standing.{Standing}
 use Rattle.model.specs.declared.RowFigures.{RowFigures}
 use Rattle.model.specs.declared.Sheet.{Sheet}
 use Rattle.model.proofs.Standing.{rows-counted, row-of}
-use Rattle.figures.specs.Rows.{allFigures}
-use Rattle.rows.proofs.RowFigures.{figures-at}
+use Rattle.model.specs.RowAnswers.{allFigures}
+use Rattle.model.proofs.RowAnswers.{figures-at}
 use Rattle.model.proofs.FigureBounds.{opttotal-within}
 use Rattle.stores.proofs.Within.{modAdded-within}
 use Rattle.store_plan.specs.inner.Modtotals.{someMark, modtotalIn, firstModtotals}

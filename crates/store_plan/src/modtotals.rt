@@ -12,7 +12,7 @@ ghost use Rattle.model.specs.Rows.{zeroFigures};
 ghost use Rattle.model.specs.Sheets.{mostRows, runOf, RunWithin, rowIn, traceOf, marksOf};
 ghost use Rattle.model.specs.Standing.{Standing};
 ghost use Rattle.model.specs.Values.{valueOf, zeros};
-ghost use Rattle.figures.specs.Rows.{allFigures};
+ghost use Rattle.model.specs.RowAnswers.{allFigures};
 ghost use Rattle.stores.specs.Modtotal.{modtotal};
 ghost use Rattle.store_plan.specs.inner.Modtotals.{someMark, firstModtotals};
 

@@ -7,6 +7,7 @@ pub mod LeastLoad
 pub mod LowerBound
 pub mod Nexts
 pub mod Paid
+pub mod PlanExamples
 pub mod Reached
 pub mod StayTests
 pub mod Stays

@@ -1,2 +1,3 @@
+pub mod BillingExamples
 pub mod Charges
 pub mod TariffExamples

@@ -1,14 +1,35 @@
 // The loading tariff: what a run is billed for the memory and the load of a row.
-// What it means is written in specs/Tariff.antt; nothing is assumed.
+// What it means is written in specs/; nothing is assumed.
 use model::LoadUnits;
 use model::MemoryUnits;
+use model::Refusal;
+use model::Verdict;
 ghost use mathlib.Core.Bool.{true};
 ghost use mathlib.Core.Path.{_≡_};
 ghost use Prim.Native.Nat.{_<_, _^_};
+ghost use Rattle.tariff.specs.Billing.{noBill};
 ghost use Rattle.tariff.specs.Tariff.{tariffInRange, startedThousands, billOf};
 
 // An amount in cents.
 pub struct Cents(pub u64);
+
+// A bill; 0 where the call is refused.
+pub struct BillAnswer {
+    pub verdict: Verdict,
+    pub cents: Cents,
+}
+
+impl BillAnswer {
+    // No bill, and why.
+    pub fn refused(why: Refusal) -> BillAnswer
+        ensures { λ r. ⌜ r ≡ noBill why ⌝ }
+    {
+        BillAnswer {
+            verdict: Verdict::Refused(why),
+            cents: Cents(0),
+        }
+    }
+}
 
 // Cents for each started 1,000 memory units and for each started 1,000 load units, and the least that a bill comes to.
 pub struct Tariff {

@@ -21,24 +21,24 @@ fn numbers(answer: PlaceAnswer, list: &[u64]) {
 // The misses of least-recently-used replacement with 1, 2, .. frames by stack distances, and the entries looked at; then by simulation.
 pub fn used(sheet: &[u8]) {
     let mut list = [0u64; Sheet::MAX_SEGS];
-    let answer = analyser::curving::lru(sheet, &mut list);
+    let answer = analyser::curves::lru(sheet, &mut list);
     numbers(answer.placed, &list);
     value(answer.looked);
     let mut plain = [0u64; Sheet::MAX_SEGS];
-    let other = analyser::curving::lru_plain(sheet, &mut plain);
+    let other = analyser::curves::lru_plain(sheet, &mut plain);
     numbers(other, &plain);
 }
 
 // wsocc for every window.
 pub fn windows(sheet: &[u8]) {
     let mut list = [0u64; Sheet::MAX_STEPS];
-    let answer = analyser::windowing::windows(sheet, &mut list);
+    let answer = analyser::curves::windows(sheet, &mut list);
     numbers(answer, &list);
 }
 
 // R, w, optmem and load of every operating point.
 pub fn every(sheet: &[u8]) {
     let mut list = [0u64; 8192];
-    let answer = analyser::operating::points(sheet, &mut list);
+    let answer = analyser::curves::points(sheet, &mut list);
     numbers(answer, &list);
 }

@@ -11,14 +11,14 @@ pub fn value(n: u64) {
 
 // What reading a sheet answers: the number of the refusal, 0 where it is accepted.
 pub fn read(sheet: &[u8]) {
-    let answer = analyser::read(sheet);
+    let answer = analyser::sheets::read(sheet);
     let verdict = answer.verdict;
     value(model::verdict_number(verdict));
 }
 
 // Misses and volume of a row, then optocc and wsocc, the columns of Table II, or optmem and wsmem, those of Table III.
 pub fn figures(sheet: &[u8], row: usize, time: bool) {
-    let answer = analyser::figures(sheet, row);
+    let answer = analyser::figures::figures(sheet, row);
     let f = answer.figures;
     value(f.misses);
     value(f.volume);
@@ -33,7 +33,7 @@ pub fn figures(sheet: &[u8], row: usize, time: bool) {
 
 // What pricing a schedule at a row answers: the refusal, memory, load and total.
 pub fn cost(sheet: &[u8], row: usize, schedule: &[u8]) {
-    let answer = analyser::price(sheet, row, schedule);
+    let answer = analyser::schedules::price(sheet, row, schedule);
     let verdict = answer.verdict;
     value(model::verdict_number(verdict));
     value(answer.memory.0);
@@ -43,13 +43,13 @@ pub fn cost(sheet: &[u8], row: usize, schedule: &[u8]) {
 
 // What writing the optimal schedule of a row answers.
 pub fn optimal(sheet: &[u8], row: usize, place: &mut [u8]) {
-    let answer = analyser::optimal_schedule(sheet, row, place);
+    let answer = analyser::schedules::optimal_schedule(sheet, row, place);
     written(answer, place);
 }
 
 // What writing the schedule of the least total with stores counted answers.
 pub fn best(sheet: &[u8], row: usize, place: &mut [u8]) {
-    let answer = analyser::modifying::modified_schedule(sheet, row, place);
+    let answer = analyser::schedules::modified_schedule(sheet, row, place);
     written(answer, place);
 }
 
@@ -81,7 +81,7 @@ fn unchanged(place: &[u8]) -> u64 {
 
 // A line of the page that is written, counted from 0; then what writing it answers: the refusal and the length.
 pub fn page(sheet: &[u8], k: usize, place: &mut [u8]) {
-    let answer = analyser::page(sheet, place);
+    let answer = analyser::texts::page(sheet, place);
     let start = k % 120 * 73;
     let after = start + 73;
     if after <= place.len() {

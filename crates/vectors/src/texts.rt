@@ -16,20 +16,20 @@ fn text(answer: PlaceAnswer, place: &[u8]) {
 // The listing of a sheet.
 pub fn listing(sheet: &[u8]) {
     let mut place = io::large_buffer();
-    let answer = analyser::listing(sheet, &mut place);
+    let answer = analyser::texts::listing(sheet, &mut place);
     text(answer, &place);
 }
 
 // Two sheets as one.
 pub fn join(first: &[u8], second: &[u8]) {
     let mut place = io::large_buffer();
-    let answer = analyser::pairing::join(first, second, &mut place);
+    let answer = analyser::sheets::join(first, second, &mut place);
     text(answer, &place);
 }
 
 // A din trace as a sheet with the rows of another.
 pub fn import(trace: &[u8], k: u64, sheet: &[u8]) {
     let mut place = io::large_buffer();
-    let answer = analyser::importing::import_din(trace, k, sheet, &mut place);
+    let answer = analyser::sheets::import_din(trace, k, sheet, &mut place);
     text(answer, &place);
 }

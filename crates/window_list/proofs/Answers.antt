@@ -8,7 +8,6 @@ use native.Mathlib.Omega.{arith}
 use lib.Dec.{eqb}
 use lib.ListN.{length, getD}
 use borrow.Author.Tests.{eq-eqb, ne-eqb, eqb-true}
-use Rattle.model.specs.Figures.{wsocc}
 use Rattle.model.specs.Places.{gives, PlaceLeft, nothingPlaced}
 use Rattle.model.specs.Sheets.{SheetValue, traceOf, RunWithin}
 use Rattle.model.specs.Traces.{steps}
@@ -20,12 +19,12 @@ use Rattle.model.specs.declared.Refusal.the-variants.{NotTimeZero}
 use Rattle.model.specs.declared.Verdict.{Verdict}
 use Rattle.model.specs.declared.Verdict.the-variants.{Accepted, Refused}
 use Rattle.model.proofs.Places.{refusal-left}
-use Rattle.model.proofs.Tables.{tabulate-eq}
-use Rattle.lru_curve.specs.Frames.{allOnes, onesVerdict}
+use Rattle.lru.specs.Answers.{allOnes, onesVerdict}
 use Rattle.lru_curve.proofs.Ones.{length-zero, accepted-ones}
-use Rattle.windows.specs.Windows.{windowAt, windowList, windowRun, Windowed}
-use Rattle.windows.proofs.Windows.{window-wsocc}
-use Rattle.window_list.specs.Answers.{timeZero, firstOf, windowsVerdict, wsoccs, windowsFor}
+use Rattle.windows.specs.Windows.{windowList, windowRun, Windowed}
+use Rattle.windows.proofs.Windows.{list-wsoccs}
+use Rattle.windows.specs.Answers.{timeZero, windowsVerdict, wsoccs, windowsFor}
+use Rattle.model.specs.Refusals.{firstOf}
 
 -- accepted, a verdict is no refusal
 accepted-not : (why : Refusal) → _≡_ {A = Verdict} (Refused why) Accepted → ⊥
@@ -104,10 +103,7 @@ module _ (v : SheetValue) where
     windowed = record { time = kind-a .0; no-weight = kind-a .1; unit-size = λ i lt. size-one (v .head .sizes) (ones-cold .0) i lt }
 
     pub list-is : windowList (windowRun (v .head .sizes) (v .entries)) ≡ wsoccs (traceOf v)
-    unfolding windowList wsoccs
-    list-is =
-        ap windowList (sym window-run)
-        ∙ tabulate-eq (steps (traceOf v)) (windowAt (traceOf v)) (λ n. wsocc (traceOf v) n 1) (λ n lt. window-wsocc (traceOf v) windowed n)
+    list-is = ap windowList (sym window-run) ∙ list-wsoccs (traceOf v) windowed
 
     pub windows-within : RunWithin (traceOf v) → RunWithin (windowRun (v .head .sizes) (v .entries))
     windows-within r = rw window-run at r

@@ -1,5 +1,5 @@
 // wsocc of an accepted sheet at every window from 1 to the number of its steps, by the window recursion, into a lent place.
-// What is answered is written in specs/Answers.antt, what the recursion is in crate `windows`; nothing is assumed.
+// What is answered, and what the recursion is, is written in crate `windows`; nothing is assumed.
 mod window_pass;
 
 use model::Kind;
@@ -11,7 +11,8 @@ ghost use mathlib.Core.Path.{_≡_};
 ghost use Rattle.model.specs.Places.{PlaceLeft};
 ghost use Rattle.model.specs.Standing.{Standing};
 ghost use Rattle.model.specs.Values.{valueOf};
-ghost use Rattle.window_list.specs.Answers.{timeZero, firstOf, windowsVerdict, windowsFor};
+ghost use Rattle.windows.specs.Answers.{timeZero, windowsVerdict, windowsFor};
+ghost use Rattle.model.specs.Refusals.{firstOf};
 
 // Whether the kind is time and a is 0: 28.
 fn time_zero(kind: Kind, a: u8) -> Verdict

@@ -1,3 +1,4 @@
 pub mod Examples
 pub mod Intervals
+pub mod VerdictExamples
 pub mod Windows

@@ -14,7 +14,8 @@ use Rattle.model.specs.declared.Kind.{Kind}
 use Rattle.model.specs.declared.Kind.the-variants.{Time, Space}
 use Rattle.model.proofs.Loads.{overTouches-eq}
 use Rattle.model.proofs.Sums.{sum-eq}
-use Rattle.model.proofs.Tables.{length-tabulate, getD-tabulate}
+use Rattle.model.proofs.Tables.{length-tabulate, getD-tabulate, tabulate-eq}
+use Rattle.windows.specs.Answers.{wsoccs}
 use Rattle.windows.specs.Windows.{overIntervals, longerThan, windowAt, windowList, Windowed}
 use Rattle.windows.proofs.Intervals.{intervals-add, intervals-zero}
 
@@ -71,7 +72,12 @@ module _ (T : Trace) (ok : Windowed T) where
         intervals-add T (λ k. min k (suc n)) (λ k. min k n) (λ k. cond (ltb (suc n) (suc k)) 1 0) (min-next n),
       )
 
-  -- so the list has steps entries, that of the window w at place w - 1
+  -- so the list by the recursion is that by the row definition
+  pub list-wsoccs : windowList T ≡ wsoccs T
+  unfolding windowList wsoccs
+  list-wsoccs = tabulate-eq (steps T) (windowAt T) (λ n. wsocc T n 1) (λ n lt. window-wsocc n)
+
+  -- and has steps entries, that of the window w at place w - 1
   pub list-wsocc : (w : ℕ) → 1 ≤ w → w ≤ steps T → getD (windowList T) (w - 1) 0 ≡ wsocc T (w - 1) 1
   unfolding windowList
   list-wsocc w one within = getD-tabulate (steps T) (windowAt T) (w - 1) 0 (omega arith) ∙ window-wsocc (w - 1)

@@ -3,7 +3,7 @@ use mathlib.Core.Path.{_≡_, refl, sym, _∙_}
 use Prim.Native.Nat.{_-_}
 use borrow.Author.Needs.{needs}
 use lib.ListN.{length, drop}
-use Rattle.convert.specs.Forms.{someIdle}
+use Rattle.sheet.specs.Forms.{someIdle}
 use Rattle.convert.proofs.Idle.{idle-found, idle-next, idle-end}
 use Rattle.convert.proofs.has_idle.Statement.{statement}
 use Rattle.convert.proofs.has_idle.Tie as tie

@@ -31,7 +31,7 @@ returns c =
     let a = t .before .before .before in
     let s = Begin a in
     let n = segs-counted (s .args .s) (s .pre) in
-    rw (c .no-curve2 .ensures) (curve-short (valueOf (s .args .s)) _ (sym (ones-are a) ∙ cc) (omega (arith, t .if1 .taken)))
+    rw (c .refused2 .ensures) (curve-short (valueOf (s .args .s)) _ (sym (ones-are a) ∙ cc) (omega (arith, t .if1 .taken)))
 
 array-share-prefix-sizes-2 : tie.Need-array-share-prefix-sizes-2
 array-share-prefix-sizes-2 c = omega (arith, Begin (c .before .before .before) .pre)
@@ -57,7 +57,7 @@ curve-requires c κs =
 returns-2 : tie.Need-returns-2
 returns-2 c =
     let a = c .before .before .before .before in
-    rw (c .no-curve .ensures) (curve-refused (valueOf (Begin a .args .s)) _ _ (sym (ones-are a) ∙ cc))
+    rw (c .refused .ensures) (curve-refused (valueOf (Begin a .args .s)) _ _ (sym (ones-are a) ∙ cc))
 
 returns-3 : tie.Need-returns-3
 unfolding valueOf headValueOf

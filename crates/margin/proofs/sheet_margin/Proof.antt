@@ -9,7 +9,7 @@ use Rattle.model.specs.Sheets.{SheetValue, traceOf}
 use Rattle.model.specs.Traces.{steps}
 use Rattle.model.specs.Values.{headValueOf, valueOf}
 use Rattle.model.proofs.Standing.{segs-counted, rows-counted, steps-counted, row-of}
-use Rattle.margin.specs.Margins.{touchMargin}
+use Rattle.model.specs.Margins.{touchMargin}
 use Rattle.margin.specs.inner.Times.{PlaceFound}
 use Rattle.margin.proofs.MarginResults.{margin-no-row, margin-none, margin-beyond, margin-at}
 use Rattle.margin.proofs.Places.{found-touch}
@@ -20,14 +20,14 @@ returns : tie.Need-returns
 returns c =
     let s = c .before .before .before in
     let n = rows-counted (s .args .s) (s .pre) in
-    c .no-margin .ensures
+    c .refused .ensures
     ∙ sym (margin-no-row (valueOf (s .args .s)) (s .args .row) (s .args .reference) (omega (arith, c .before .if1 .taken)))
 
 returns-2 : tie.Need-returns-2
 returns-2 c =
     let s = c .before .before .before .before in
     let n = rows-counted (s .args .s) (s .pre) in
-    c .no-margin2 .ensures
+    c .refused2 .ensures
     ∙ sym (margin-none (valueOf (s .args .s)) (s .args .row) (s .args .reference) (omega (arith, c .before .before .if1 .left))
     (c .before .if2 .taken))
 
@@ -59,7 +59,7 @@ returns-3 : tie.Need-returns-3
 returns-3 c =
     let p = c .before .before in
     let m = steps-counted (Begin p .args .s) (Begin p .pre) in
-    c .no-margin3 .ensures
+    c .refused3 .ensures
     ∙ sym (margin-beyond (Value p) (Begin p .args .row) (Begin p .args .reference) (row-is p) (counted p)
     (place p .none (omega (arith, c .before .if3 .taken))))
 

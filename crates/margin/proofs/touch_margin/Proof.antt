@@ -42,7 +42,7 @@ returns : tie.Need-returns
 returns c v n run row =
     let u = c .before .before in
     let s = Begin u in
-    c .no-margin .ensures
+    c .refused .ensures
     ∙ sym (first-touch (Run s) _ _ (here s) _ (time-is u) _ v n run row (not-true _ (c .before .if1 .taken)))
 
 -- the size is a 16-bit number, and neither cost exceeds what may be priced

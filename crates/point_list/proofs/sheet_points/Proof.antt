@@ -4,7 +4,7 @@ use native.Mathlib.Omega.{arith}
 use borrow.Author.Needs.{needs}
 use lib.Seq.{length-take-le}
 use Rattle.model.specs.Values.{headValueOf, valueOf}
-use Rattle.point_list.specs.Answers.{pointsFor}
+use Rattle.points.specs.Answers.{pointsFor}
 use Rattle.point_list.proofs.sheet_points.Statement.{statement}
 use Rattle.point_list.proofs.sheet_points.Tie as tie
 

@@ -12,7 +12,7 @@ use Rattle.model.specs.Schedules.{held}
 use Rattle.model.specs.declared.Kind.{Kind}
 use Rattle.pricing.specs.declared.step_price.Changes.{Changes}
 use Rattle.pricing.specs.declared.step_price.Costs.{Costs}
-use Rattle.pricing.specs.StepVerdicts.{someEnters}
+use Rattle.model.specs.Pricing.{someEnters}
 
 -- what segment i costs in memory units for one step: 0 where i is no segment
 abbrev pub unitAt : Kind → List ℕ → ℕ → ℕ

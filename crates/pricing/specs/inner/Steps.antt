@@ -15,7 +15,7 @@ use Rattle.pricing.specs.declared.held_bits.StartWords.{StartWords}
 use Rattle.pricing.specs.declared.step_price.Costs.{Costs}
 use Rattle.pricing.specs.declared.step_price.Stepped.{Stepped}
 use Rattle.pricing.specs.declared.step_price.Stepped.the-variants.{Faulty, Priced}
-use Rattle.pricing.specs.StepVerdicts.{stepVerdict, stepsVerdict}
+use Rattle.model.specs.Pricing.{stepVerdict, stepsVerdict}
 
 -- a schedule of the right length for a run that can be priced, its start set, and the place t of a step
 pub record Step (T : Trace) (start : StartWords) (p : List ℕ) (t : ℕ) : Type 0 where

@@ -7,7 +7,7 @@ use lib.Seq.{length-take-le}
 use Rattle.model.specs.Rows.{zeroFigures}
 use Rattle.model.specs.Values.{headValueOf, valueOf}
 use Rattle.model.proofs.Standing.{rows-counted, row-of}
-use Rattle.figures.specs.Rows.{allFigures}
+use Rattle.model.specs.RowAnswers.{allFigures}
 use Rattle.rows.proofs.Alone.{withRow, row-alone-within, alone-figures}
 use Rattle.rows.proofs.row_alone.Statement.{statement}
 use Rattle.rows.proofs.row_alone.Tie as tie

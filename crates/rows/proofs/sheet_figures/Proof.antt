@@ -4,7 +4,7 @@ use borrow.Author.Needs.{needs}
 use borrow.Author.Tests.{le-ltb, lt-ltb}
 use lib.ListN.{length}
 use Rattle.model.specs.Values.{valueOf}
-use Rattle.figures.specs.Rows.{figuresOf}
+use Rattle.model.specs.RowAnswers.{figuresOf}
 use Rattle.model.proofs.Standing.{rows-counted}
 use Rattle.rows.proofs.sheet_figures.Statement.{statement}
 use Rattle.rows.proofs.sheet_figures.Tie as tie
@@ -14,7 +14,7 @@ unfolding figuresOf
 returns c =
     let s = c .before .before .before in
     let n = rows-counted (s .args .s) (s .pre) in
-    rw (le-ltb (s .args .row) (length (valueOf (s .args .s) .head .rows)) (omega (arith, c .before .if1 .taken))) (c .no-figures .ensures)
+    rw (le-ltb (s .args .row) (length (valueOf (s .args .s) .head .rows)) (omega (arith, c .before .if1 .taken))) (c .refused .ensures)
 
 returns-2 : tie.Need-returns-2
 unfolding figuresOf

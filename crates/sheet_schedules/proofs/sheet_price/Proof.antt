@@ -9,8 +9,8 @@ use lib.Seq.{length-take-le}
 use Rattle.model.specs.Sheets.{traceOf, rowAt}
 use Rattle.model.specs.Values.{headValueOf, valueOf}
 use Rattle.model.proofs.Standing.{rows-counted, row-of}
-use Rattle.pricing.specs.Checking.{priceAnswer}
-use Rattle.sheet_schedules.specs.Plans.{pricedAt, priceFor}
+use Rattle.pricing.specs.inner.Prices.{priceAnswer}
+use Rattle.stores.specs.Plans.{pricedAt, priceFor}
 use Rattle.sheet_schedules.specs.inner.PlainPrices.{PlainOf}
 use Rattle.sheet_schedules.proofs.PlanResults.{price-no-row, price-at}
 use Rattle.sheet_schedules.proofs.Prices.{marks-empty, plain-at, sheet-plain}

@@ -6,8 +6,8 @@ use mathlib.Core.List.{List}
 use lib.ListN.{length}
 use Rattle.model.specs.Sheets.{SheetValue, RunWithin, traceOf, rowAt}
 use Rattle.model.specs.declared.PriceRow.{PriceRow}
-use Rattle.pricing.specs.Checking.{priceAnswer}
-use Rattle.pricing.specs.declared.PriceAnswer.{PriceAnswer}
+use Rattle.pricing.specs.inner.Prices.{priceAnswer}
+use Rattle.model.specs.declared.PriceAnswer.{PriceAnswer}
 
 -- a sheet with a run within the limits and with this a, row n, sizes, references and marks, one for each step, where `plain` is the price
 -- of schedule p at that row without stores

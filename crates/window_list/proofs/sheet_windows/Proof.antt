@@ -5,7 +5,7 @@ use borrow.Author.Needs.{needs}
 use lib.Seq.{length-take-le}
 use Rattle.model.specs.Values.{headValueOf, valueOf}
 use Rattle.model.specs.declared.Verdict.the-variants.{Accepted}
-use Rattle.window_list.specs.Answers.{windowsVerdict}
+use Rattle.windows.specs.Answers.{windowsVerdict}
 use Rattle.window_list.proofs.Answers.{windows-refused, windows-within, windows-given}
 use Rattle.window_list.proofs.sheet_windows.Statement.{statement}
 use Rattle.window_list.proofs.sheet_windows.Tie as tie

@@ -4,7 +4,7 @@ use mathlib.Core.Path.{_≡_, refl, sym, _∙_}
 use native.Mathlib.Omega.{arith}
 use borrow.Author.Needs.{needs}
 use lib.ListN.{length, drop}
-use Rattle.lru_curve.specs.Frames.{allOnes}
+use Rattle.lru.specs.Answers.{allOnes}
 use Rattle.lru_curve.proofs.Ones.{ones-next, ones-other, ones-end}
 use Rattle.lru_curve.proofs.frames.all_ones.Statement.{statement}
 use Rattle.lru_curve.proofs.frames.all_ones.Tie as tie

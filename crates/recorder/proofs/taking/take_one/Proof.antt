@@ -14,7 +14,7 @@ bucket-requires c κs =
 
 returns : tie.Need-returns
 returns c =
-    let x = c .before .before .before .before .before .before in
+    let x = c .before .before .before .before .before .before .before in
     let y = x .before in
     let p = y .before .before in
     let s = p .before .before .before .before in
@@ -22,17 +22,17 @@ returns c =
     (record {
       count = p .least .result;
       touch = placed (y .touch-of .result) (x .bucket .result);
-      bucket = c .before .before .before .before .file .result;
+      bucket = c .before .before .before .before .before .file .result;
       unit = c .before .before .before .unit-cost .result .0;
-      cost = c .before .before .more .result;
-      volume = c .more2 .result;
+      cost = c .before .before .more-memory .result .0;
+      volume = c .more .result;
       count-is = p .least .ensures;
       limited = placed-limited _ _ (y .touch-of .ensures .0) (x .bucket .ensures .0);
       touch-is = λ up. placed-is _ _ _ _ _ _ _ (y .touch-of .ensures .1) (x .bucket .ensures .1 up);
-      bucket-is = c .before .before .before .before .file .ensures;
+      bucket-is = c .before .before .before .before .before .file .ensures;
       unit-is = c .before .before .before .unit-cost .ensures;
-      cost-is = c .before .before .more .ensures;
-      volume-is = rw (c .before .wide .ensures) at (c .more2 .ensures);
+      cost-is = c .before .before .more-memory .ensures;
+      volume-is = rw (c .before .wide .ensures) at (c .more .ensures);
       next-is = refl;
     })
 

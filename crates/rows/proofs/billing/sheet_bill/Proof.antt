@@ -13,7 +13,7 @@ returns : tie.Need-returns
 returns c =
     let s = c .before .before .before in
     let n = rows-counted (s .args .s) (s .pre) in
-    c .no-bill .ensures
+    c .refused .ensures
     ∙ sym (bill-no-row (valueOf (s .args .s)) (s .args .row) (s .args .tariff) (omega (arith, n, c .before .if1 .taken)))
 
 returns-2 : tie.Need-returns-2
@@ -21,7 +21,7 @@ returns-2 c =
     let e = c .before .before .before in
     let s = e .before .before in
     let n = rows-counted (s .args .s) (s .pre) in
-    c .no-bill2 .ensures
+    c .refused2 .ensures
     ∙ sym
     (bill-out-of-range (valueOf (s .args .s)) (s .args .row) (s .args .tariff) (omega (arith, n, e .if1 .left))
     (sym (c .before .before .in-range .ensures) ∙ not-true _ (c .before .if2 .taken)))

@@ -59,7 +59,7 @@ returns : tie.Need-returns Inv-loop μ-loop
 returns c =
     let k = c .before .before .before in
     let s = k .before .before in
-    c .no-size .ensures
+    c .refused .ensures
     ∙ none-answer (valueOf (s .args .s)) (s .pre .valid) _ _ (k .before .all-figures .ensures) (k .loop .row) (k .loop .i)
     (rw (rows-counted (s .args .s) (s .pre)) (k .loop .inv)) (ended (c .before .before)) (c .before .if3 .taken)
 

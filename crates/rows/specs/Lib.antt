@@ -1,2 +1,0 @@
-pub mod Billing
-pub mod Sizing
