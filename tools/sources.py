@@ -31,7 +31,7 @@ def layers():
 
 def specs_path(module, crate):
     """The file of a module that a `use` line names, seen from a crate; None where it is none of ours, or made from the code."""
-    m = re.match(r'Rattle·(\w+?)(?:·specs)?\.specs\.(?!declared)([\w.]+)$', module.replace('·specs.specs.', '·specs.specs.'))
+    m = re.match(r'Rattle·(\w+?)(?:·specs)?\.specs\.(?!declared)([\w.]+)$', module)
     if not m:
         return None
     path = f'crates/{m[1]}/specs/{m[2].replace(".", "/")}.antt'
@@ -108,7 +108,7 @@ def contracts():
     """Of each public call its name, its file and its contract, the text between its head and its body."""
     found = []
     for door in DOORS:
-        for path in sorted(glob.glob(f'crates/{door}/src/*.rt')):
+        for path in sorted(glob.glob(f'crates/{door}/src/**/*.rt', recursive=True)):
             if door == 'recorder' and not path.endswith('/lib.rt'):
                 continue
             text = read(path)
