@@ -75,7 +75,7 @@ def in_file(path):
         first, last = n, n
         while first > 0 and lines[first - 1].startswith('--') and not lines[first - 1].startswith('-- ----'):
             first -= 1
-        while last + 1 < len(lines) and lines[last + 1].strip() and not DEFINES.match(lines[last + 1]) and not lines[last + 1].startswith('--'):
+        while last + 1 < len(lines) and lines[last + 1].strip() and not re.match(DEFINES.pattern + '|--', lines[last + 1]):
             last += 1
         found.append(Definition(path, m[1], first + 1, last + 1, '\n'.join(lines[n:last + 1])))
     return found
