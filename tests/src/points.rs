@@ -190,7 +190,7 @@ fn lines_hold(sheet: &Sheet, points: &[Point]) -> Outcome {
 
 // ---- Examples ----
 
-/// The sheets of README.md, small ones, and the most points that a sheet can have; all worked by hand but the last.
+/// The sheets of docs/GUIDE.md, small ones, and the most points that a sheet can have; all worked by hand but the last.
 pub fn examples() -> Vec<(Vec<u8>, Check)> {
     let mut list: Vec<(Vec<u8>, Check)> = Vec::new();
     let mut add = |sheet: &[u8], want: &[u64]| {
