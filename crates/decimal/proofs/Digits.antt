@@ -7,6 +7,7 @@ use Prim.Native.Nat.{ℕ, zero, suc, _+_, _*_, _-_, _≤_, _<_, min}
 use native.Mathlib.Nat.{le-of-suc-le-suc, not-suc-le-zero, min-eq-left}
 use native.Mathlib.Omega.{arith}
 use borrow.Author.Tests.{leb-true, leb-false, le-leb, lt-leb}
+use borrow.Table.Steps.{cases}
 use lib.Dec.{leb, eqb}
 use lib.ListN.{length, getD}
 use Rattle.decimal.specs.Decimal.{isDigit, allDigits, valueFrom, isNumber}
@@ -71,8 +72,6 @@ value-grows v (b ∷ s) = omega (arith, value-grows (v * 10 + (b - 48)) s)
 
 -- a value that is cut off at m is the same after further digits, once cut off again
 pub value-cut : (m v : ℕ) (s : List ℕ) → min (valueFrom (min v m) s) m ≡ min (valueFrom v s) m
-value-cut m v s = go (leb v m) refl
-  where
-    go : (b : Bool) → leb v m ≡ b → min (valueFrom (min v m) s) m ≡ min (valueFrom v s) m
-    go true e = rw (min-eq-left (leb-true v m e))
-    go false e = omega (arith, leb-false v m e, value-grows (min v m) s, value-grows v s)
+value-cut m v s =
+    cases (leb v m) (λ e. rw (min-eq-left (leb-true v m e)))
+    (λ e. omega (arith, leb-false v m e, value-grows (min v m) s, value-grows v s))

@@ -1,6 +1,6 @@
 -- What is known of a list of bytes while a reader goes along the digits at its front: those passed are a number with no leading zero.
 -- Assumes nothing.
-use mathlib.Core.Path.{_≡_, sym, _∙_}
+use mathlib.Core.Path.{_≡_, refl, sym, _∙_}
 use mathlib.Core.Bool.{true}
 use mathlib.Core.List.{List, [], _∷_}
 use Prim.Native.Nat.{ℕ, _+_, _*_, _-_, _^_, _≤_, _<_}
@@ -11,6 +11,7 @@ use borrow.Author.Tests.{ne-eqb}
 use lib.ListN.{length, getD, take}
 use lib.Seq.{take-suc, length-take-le, getD-take}
 use Rattle.decimal.specs.Decimal.{isDigit, allDigits, valueFrom, value, isNumber}
+use Rattle.decimal.specs.inner.FrontNumber.{FrontNumber}
 use Rattle.decimal.proofs.Digits.{both, digit-bounds, digits-append, value-append}
 
 -- i bytes at the front of s are digits, the first is not 48, and v is their value
@@ -80,11 +81,16 @@ module _ (s : List ℕ) (v i : ℕ) (c : Led s v i) where
       (c .digits)
 
   -- what the reader then gives
-  pub led-gives : (i ≤ length s) × ((0 < i → isNumber (take i s) ≡ true) × (v ≡ value (take i s)))
-  led-gives = (omega (arith, c .within, c .whole), ((λ h. led-number), c .amount))
+  pub led-gives : FrontNumber s (record { length = i; value = v })
+  led-gives = record { within = omega (arith, c .within, c .whole); number = λ h. led-number; value-is = c .amount }
 
 -- a 48 at the front is a number by itself, of the value 0
-pub zero-number : (s : List ℕ) → 4 ≤ length s → getD s 0 0 ≡ 48 → (isNumber (take 1 s) ≡ true) × (0 ≡ value (take 1 s))
+pub zero-number : (s : List ℕ) → 4 ≤ length s → getD s 0 0 ≡ 48 → FrontNumber s (record { length = 1; value = 0 })
 unfolding isNumber valueFrom
 zero-number [] h e = absurd (omega arith)
-zero-number (b ∷ s) h e = (rw e, rw e)
+zero-number (b ∷ s) h e = record { within = omega arith; number = λ l. rw e; value-is = rw e }
+
+-- no bytes are no number
+pub no-front : (s : List ℕ) → FrontNumber s (record { length = 0; value = 0 })
+unfolding valueFrom
+no-front s = record { within = omega arith; number = λ l. absurd (omega arith); value-is = refl }

@@ -5,7 +5,8 @@ use mathlib.Core.Bool.{Bool, true, false, cond, _&&_}
 use mathlib.Core.List.{List}
 use Prim.Native.Nat.{ℕ, _≤_}
 use native.Mathlib.Omega.{arith}
-use borrow.Author.Tests.{le-leb, leb-true}
+use borrow.Author.Tests.{le-leb, lt-leb, leb-true}
+use borrow.Table.Steps.{cases}
 use lib.Dec.{leb}
 use Rattle.decimal.specs.declared.Reading.the-variants.{NotNumber, OutOfRange, Number}
 use Rattle.decimal.specs.Decimal.{isNumber, value, written, readingOf}
@@ -23,13 +24,9 @@ module _ (lo hi : ℕ) (s : List ℕ) where
 
   -- a number outside them
   pub reading-out : isNumber s ≡ true → (lo ≤ value s → value s ≤ hi → ⊥) → readingOf lo hi s ≡ OutOfRange
-  reading-out e n = rw e (go (leb lo (value s)) (leb (value s) hi) refl refl)
-    where
-      go : (a b : Bool) → leb lo (value s) ≡ a → leb (value s) hi ≡ b
-          → cond (leb lo (value s) && leb (value s) hi) (Number (value s)) OutOfRange ≡ OutOfRange
-      go true true l h = absurd (n (leb-true lo (value s) l) (leb-true (value s) hi h))
-      go true false l h = rw (l, h)
-      go false b l h = rw l
+  reading-out e n =
+      let high : lo ≤ value s → leb (value s) hi ≡ false = λ l. lt-leb (value s) hi (omega (arith, n l)) in
+      rw e (cases (leb lo (value s)) (λ l. rw (l, high (leb-true lo (value s) l))) (λ l. rw l))
 
 -- what is written within the bounds is read back
 pub reading-written : (lo hi n : ℕ) → lo ≤ n → n ≤ hi → readingOf lo hi (written n) ≡ Number n

@@ -1,12 +1,13 @@
 -- Laws of the digits of a number: they are a number, have its value, and are the only number that has it; and how many they are.
 -- Assumes nothing.
-use mathlib.Core.Path.{_≡_, refl, sym, ap, _∙_}
-use mathlib.Core.Bool.{Bool, true, false, false≢true, not}
+use mathlib.Core.Path.{_≡_, sym, ap, _∙_}
+use mathlib.Core.Bool.{true, false≢true, not}
 use mathlib.Core.List.{List, [], _∷_, _++_, append-assoc, append-nil}
 use Prim.Native.Nat.{ℕ, zero, suc, _+_, _*_, _-_, _/_, _%_, _^_, _≤_, _<_}
 use native.Mathlib.Nat.{not-suc-le-zero, pow-suc, one-le-pow}
 use native.Mathlib.Omega.{arith}
 use borrow.Author.Tests.{ltb-true, ltb-false, lt-ltb, le-ltb, eqb-false, ne-eqb, not-true}
+use borrow.Table.Steps.{cases}
 use lib.Dec.{ltb, eqb}
 use lib.ListN.{length, length-append}
 use Rattle.decimal.specs.Decimal.{isDigit, allDigits, valueFrom, value, isNumber, writtenIn, written}
@@ -26,11 +27,7 @@ in-high k n h = rw (writtenIn, le-ltb n 10 h)
 
 -- below ten, or not
 by-ten : (n : ℕ) {P : Type 0} → (n < 10 → P) → (10 ≤ n → P) → P
-by-ten n {P} f g = go (ltb n 10) refl
-  where
-    go : (b : Bool) → ltb n 10 ≡ b → P
-    go true e = f (ltb-true n 10 e)
-    go false e = g (ltb-false n 10 e)
+by-ten n f g = cases (ltb n 10) (λ e. f (ltb-true n 10 e)) (λ e. g (ltb-false n 10 e))
 
 -- any bound above n gives the same digits
 in-any : (k j n : ℕ) → n < k → n < j → writtenIn k n ≡ writtenIn j n

@@ -1,11 +1,12 @@
 // Decimal numbers in bytes: reading one within bounds, and writing one.
 // What a number and its digits are is written in specs/. Nothing is assumed.
 ghost use mathlib.Core.Path.{_≡_};
-ghost use mathlib.Core.Bool.{true, _&&_};
+ghost use mathlib.Core.Bool.{_&&_};
 ghost use mathlib.Core.List.{_++_};
 ghost use Prim.Native.Nat.{_+_, _*_, _-_, _/_, _%_, _≤_, _<_, min};
 ghost use lib.ListN.{length, take, drop, set};
-ghost use Rattle.decimal.specs.Decimal.{isDigit, allDigits, value, isNumber, written, readingOf};
+ghost use Rattle.decimal.specs.Decimal.{isDigit, allDigits, isNumber, written, readingOf};
+ghost use Rattle.decimal.specs.inner.FrontNumber.{FrontNumber};
 
 // What reading a number within bounds gives.
 pub enum Reading {
@@ -87,9 +88,7 @@ fn is_digit(b: u8) -> bool
 
 // A number of at most 4 digits at the front of `s`, for the reader of short lines. Where `s` has fewer than 4 bytes it gives none.
 pub fn front(s: &[u8]) -> Run
-    ensures { λ r. ⌜ r .length ≤ length (now (s .entry)) ⌝ }
-    ensures { λ r. ⌜ (0 < r .length → isNumber (take (r .length) (now (s .entry))) ≡ true) ⌝ }
-    ensures { λ r. ⌜ r .value ≡ value (take (r .length) (now (s .entry))) ⌝ }
+    ensures { λ r. ⌜ FrontNumber (now (s .entry)) r ⌝ }
 {
     if s.len() < 4 {
         return Run {

@@ -91,7 +91,7 @@ module _ (later : Bool) (kind : Kind) (a : ℕ) (s : List ℕ) (r : HeadRead) (s
         same =
             tables-warm later kind a s t (headValueOf head) _ (r .segs) at l q (head-parsed s r sizes (zeros mostSegs) _ at f e)
             (sizes-counted head (f .filled)) (warm-read head count holds (tail s at) l _ g) m;
-        within = omega (arith, ap linesNext m, moved-within s at l (head-place s r sizes (zeros mostSegs) _ at f e) n);
+        within = moved-within s at l q (head-place s r sizes (zeros mostSegs) _ at f e) n m;
         filled = record { sizes = f .filled .sizes; prices = f .filled .prices; holds = k };
       }
 
@@ -112,6 +112,6 @@ pub head-after : (taken later : Bool) (s : List ℕ) (i j : ℕ) (kind : Kind) (
 head-after taken later s i j kind a r q sizes holds e₁ e₂ h f m =
     record {
       same = head-read taken later s i j kind a (r .lines) q _ e₁ e₂ (f .same) m;
-      within = omega (arith, ap linesNext m, moved-within s (i + j) (r .lines) h (f .within));
+      within = moved-within s (i + j) (r .lines) q h (f .within) m;
       filled = f .filled;
     }

@@ -1,19 +1,16 @@
 -- Laws of reading the warm segments: a line hold= by its number and the first that may stand there, and n such lines.
 -- Assumes nothing.
 use Prim.Native.Nat.{ℕ, zero, suc, _+_, _-_, _≤_, _<_}
-use mathlib.Core.Path.{_≡_, refl, sym, ap, _∙_}
+use mathlib.Core.Path.{_≡_, refl}
 use mathlib.Core.Bool.{true, false}
 use mathlib.Core.List.{List}
 use mathlib.Core.Option.{Option, some}
 use native.Mathlib.Numerals.{add-one}
 use native.Mathlib.Omega.{arith}
 use borrow.Author.Tests.{lt-ltb, le-ltb}
-use lib.ListN.{length, take}
 use Rattle.sheet.specs.Lines.{read}
 use Rattle.sheet.specs.Warm.{aboveHold, holdLine, holdLines}
 use Rattle.sheet.proofs.Words.{hold-reads}
-use Rattle.scan.specs.inner.AtPlace.{parsedLines}
-use Rattle.scan.specs.declared.numbers.LinesRead.{LinesRead}
 use Rattle.scan.proofs.LinesPassed.{Repeats}
 use Rattle.read_sheet.specs.inner.HoldsAtPlace.{heldBefore}
 
@@ -42,8 +39,3 @@ hold-bound segs prev s n rest e = hold-reads segs prev .back s n rest e .1 .0 .1
 pub holds-repeat : (segs : ℕ) → Repeats (holdLines segs) (holdLine segs) some
 unfolding holdLines
 holds-repeat segs = record { none-left = λ p s. refl; one-more = λ n p s. refl }
-
--- lines that are read into the first n places of a blank list are the n lines of the definition
-pub holds-into : (segs : ℕ) (prev : Option ℕ) (s : List ℕ) (r : LinesRead) (n : ℕ) (blank xs : List ℕ) → n ≡ length (take n blank)
-    → parsedLines s r xs ≡ holdLines segs (length (take n blank)) prev s → parsedLines s r xs ≡ holdLines segs n prev s
-holds-into segs prev s r n blank xs h e = e ∙ ap (λ k. holdLines segs k prev s) (sym h)

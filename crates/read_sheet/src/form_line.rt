@@ -5,12 +5,12 @@ use scan::bytes;
 use scan::numbers;
 use scan::numbers::NumberAt;
 ghost use mathlib.Core.Path.{_≡_};
-ghost use Prim.Native.Nat.{_≤_, max};
+ghost use Prim.Native.Nat.{max};
 ghost use lib.Dec.{ltb};
 ghost use lib.ListN.{length};
 ghost use Rattle.model.specs.Sheets.{formBytes};
 ghost use Rattle.sheet.specs.Reading.{namedForm};
-ghost use Rattle.scan.specs.inner.AtPlace.{parsedNumber, numberNext};
+ghost use Rattle.scan.specs.inner.AtPlace.{NumberReads};
 ghost use Rattle.read_sheet.specs.inner.FormAtPlace.{formLine};
 
 // The form that the first line names, 1 where it names none from 2 on.
@@ -61,8 +61,7 @@ fn least_form(lo: u8) -> u32
 
 // The form `lo` to `hi` of the form line, or 1 where the bytes do not begin with its key.
 pub fn form_line(bytes: &[u8], lo: u8, hi: u8) -> NumberAt
-    ensures { λ r. ⌜ parsedNumber (now (bytes .entry)) r ≡ formLine lo hi (now (bytes .entry)) ⌝ }
-    ensures { λ r. ⌜ numberNext r ≤ length (now (bytes .entry)) ⌝ }
+    ensures { λ r. ⌜ NumberReads (now (bytes .entry)) r (formLine lo hi (now (bytes .entry))) ⌝ }
 {
     if bytes::has_key(bytes, b"form=") {
         return numbers::number_line(bytes, b"form=", least_form(lo), hi as u32);

@@ -11,14 +11,12 @@ use scan::numbers::NumberAt;
 use scan::numbers::ValueAt;
 ghost use mathlib.Core.Path.{_≡_};
 ghost use mathlib.Core.Bool.{false};
-ghost use mathlib.Core.List.{List};
-ghost use Prim.Native.Nat.{ℕ, _+_, _≤_};
-ghost use lib.ListN.{length, drop};
 ghost use Rattle.model.specs.Sheets.{mostSegs};
 ghost use Rattle.model.specs.Values.{zeros};
 ghost use Rattle.sheet.specs.Order.{kindFor, tablesPart, headPart};
 ghost use Rattle.sheet.specs.Values.{kindOf, kindLine};
-ghost use Rattle.read_sheet.specs.inner.HeadsAtPlace.{parsedKind, kindNext, noHead, HeadReads};
+ghost use Rattle.read_sheet.specs.inner.HeadsAtPlace.{parsedKind, kindNext, noHead, KindReads, BlankHead, HeadReads};
+ghost use Rattle.scan.specs.inner.AtPlace.{StandsFor};
 
 // A kind and the place of what follows its line, or the refusal.
 enum KindAt {
@@ -40,8 +38,7 @@ pub struct HeadRead {
 
 // The kind that the value names, and the next place.
 fn kind_value(v: &[u8], next: usize) -> KindAt
-    ensures { λ r. ⌜ ((s : List ℕ) → parsedKind s r ≡ kindOf (now (v .entry)) (drop next s)) ⌝ }
-    ensures { λ r. ⌜ kindNext r ≤ next ⌝ }
+    ensures { λ r. ⌜ StandsFor next (kindNext r) (λ s. parsedKind s r) (kindOf (now (v .entry))) ⌝ }
 {
     if bytes::same(v, b"time") {
         return KindAt::Kind(Kind::Time, next);
@@ -54,8 +51,7 @@ fn kind_value(v: &[u8], next: usize) -> KindAt
 
 // The kind of the line kind=.
 fn kind_line(s: &[u8]) -> KindAt
-    ensures { λ r. ⌜ parsedKind (now (s .entry)) r ≡ kindLine (now (s .entry)) ⌝ }
-    ensures { λ r. ⌜ kindNext r ≤ length (now (s .entry)) ⌝ }
+    ensures { λ r. ⌜ KindReads (now (s .entry)) r (kindLine (now (s .entry))) ⌝ }
 {
     match numbers::value_line(s, b"kind=") {
         ValueAt::Missing => KindAt::Refused(Refusal::LineMalformed),
@@ -65,8 +61,7 @@ fn kind_line(s: &[u8]) -> KindAt
 
 // The same for a sheet whose form is taken or is not.
 fn kind_for(s: &[u8], taken: bool) -> KindAt
-    ensures { λ r. ⌜ parsedKind (now (s .entry)) r ≡ kindFor taken .reads (now (s .entry)) ⌝ }
-    ensures { λ r. ⌜ kindNext r ≤ length (now (s .entry)) ⌝ }
+    ensures { λ r. ⌜ KindReads (now (s .entry)) r (kindFor taken .reads (now (s .entry))) ⌝ }
 {
     match kind_line(s) {
         KindAt::Refused(why) => KindAt::Refused(why),
@@ -131,7 +126,7 @@ fn table_lines(
     sizes: &mut [u16],
     holds: &mut [u16],
 ) -> HeadRead
-    requires { ⌜ (now sizes ≡ zeros mostSegs) × (now holds ≡ zeros mostSegs) ⌝ }
+    requires { ⌜ BlankHead (now sizes) (now holds) ⌝ }
     ensures { λ r. ⌜ HeadReads (now (s .entry)) r (now (sizes .exit)) (now (holds .exit))
         (tablesPart later kind a .reads (now (s .entry))) ⌝ }
 {
@@ -169,7 +164,7 @@ pub fn head_lines(
     sizes: &mut [u16],
     holds: &mut [u16],
 ) -> HeadRead
-    requires { ⌜ (now sizes ≡ zeros mostSegs) × (now holds ≡ zeros mostSegs) ⌝ }
+    requires { ⌜ BlankHead (now sizes) (now holds) ⌝ }
     ensures { λ r. ⌜ HeadReads (now (s .entry)) r (now (sizes .exit)) (now (holds .exit))
         (headPart taken later .reads (now (s .entry))) ⌝ }
 {

@@ -16,21 +16,18 @@ use scan::numbers::LinesRead;
 use scan::numbers::NumberAt;
 use sheet::SheetAnswer;
 ghost use mathlib.Core.Path.{_≡_};
-ghost use Prim.Native.Nat.{_≤_};
 ghost use lib.Dec.{leb};
-ghost use lib.ListN.{length, take};
 ghost use Rattle.model.specs.Sheets.{mostSegs, mostSteps};
 ghost use Rattle.model.specs.Values.{zeros, idles, blankMarks, headValueOf};
 ghost use Rattle.sheet.specs.Answers.{answerOf};
 ghost use Rattle.sheet.specs.Lines.{andThen};
 ghost use Rattle.sheet.specs.Order.{headPart, entriesPart, runPart};
 ghost use Rattle.sheet.specs.Reading.{atEnd, readForms, rejected};
-ghost use Rattle.scan.specs.inner.AtPlace.{parsedLines, linesNext, Filled};
 ghost use Rattle.model.specs.declared.Head.{Head};
 ghost use Rattle.scan.specs.declared.numbers.LinesRead.the-variants.{Refused as NoLines};
-ghost use Rattle.read_sheet.specs.inner.AtPlace.{sheetOn, answerAt, answerWith};
+ghost use Rattle.read_sheet.specs.inner.AtPlace.{sheetOn, answerAt, answerWith, BlankLists};
 ghost use Rattle.read_sheet.specs.inner.HeadsAtPlace.{HeadFilled, headWith};
-ghost use Rattle.read_touches.specs.inner.TouchesAtPlace.{entriesWith, markCount};
+ghost use Rattle.read_touches.specs.inner.TouchesAtPlace.{markCount, BlankSteps, StepsReads};
 
 // What was read of a sheet whose lists stand in the slices that were lent: its form, the rest of its head, how many steps there are, and
 // the place of what follows, or the refusal.
@@ -78,14 +75,9 @@ fn mark_count(form: u8, steps: usize) -> usize
 // The entries of a sheet of this form into the front of `out`, and from form 4 on its marks into that of `marks`; all of `out` is idle, and
 // all of `marks` false.
 fn entry_lines(s: &[u8], form: u8, segs: usize, out: &mut [u16], marks: &mut [bool]) -> CountedAt
-    requires { ⌜ (1 ≤ segs) × (segs ≤ mostSegs) ⌝ }
-    requires { ⌜ (now out ≡ idles mostSteps) × (now marks ≡ blankMarks mostSteps) ⌝ }
-    ensures { λ r. ⌜ parsedLines (now (s .entry)) (r .lines)
-        (entriesWith (leb 4 form) (take (r .count) (now (out .exit))) (take (r .count) (now (marks .exit))))
-        ≡ entriesPart (leb 2 form) (leb 4 form) segs .reads (now (s .entry)) ⌝ }
-    ensures { λ r. ⌜ linesNext (r .lines) ≤ length (now (s .entry)) ⌝ }
-    ensures { λ r. ⌜ Filled (r .count) (now (out .exit)) (now (out .entry)) ⌝ }
-    ensures { λ r. ⌜ Filled (markCount (leb 4 form) (r .count)) (now (marks .exit)) (now (marks .entry)) ⌝ }
+    requires { ⌜ BlankSteps segs (now out) (now marks) ⌝ }
+    ensures { λ r. ⌜ StepsReads (leb 4 form) (now (s .entry)) (r .lines) (r .count) (now (out .exit)) (now (out .entry))
+        (now (marks .exit)) (now (marks .entry)) (entriesPart (leb 2 form) (leb 4 form) segs .reads (now (s .entry))) ⌝ }
 {
     if 2 <= form {
         return read_touches::step_lines(s, 4 <= form, segs, out, marks);
@@ -96,8 +88,7 @@ fn entry_lines(s: &[u8], form: u8, segs: usize, out: &mut [u16], marks: &mut [bo
 
 // Reads the entries of a sheet of this form, to the end, into the front of `touches`, and from form 4 on its marks into that of `marks`.
 fn run_lines(s: &[u8], form: u8, segs: usize, touches: &mut [u16], marks: &mut [bool]) -> CountedAt
-    requires { ⌜ (1 ≤ segs) × (segs ≤ mostSegs) ⌝ }
-    requires { ⌜ (now touches ≡ idles mostSteps) × (now marks ≡ blankMarks mostSteps) ⌝ }
+    requires { ⌜ BlankSteps segs (now touches) (now marks) ⌝ }
     ensures { λ r. ⌜ ((head : Head) → HeadFilled head → head .segs ≡ segs
         → answerAt (r .lines) (sheetOn form head (r .count) (now (touches .exit)) (now (marks .exit)))
         ≡ answerOf (atEnd (runPart form (headValueOf head) .reads (now (s .entry))))) ⌝ }
@@ -135,8 +126,7 @@ fn sheet_lines(
     touches: &mut [u16],
     marks: &mut [bool],
 ) -> SheetRead
-    requires { ⌜ (now sizes ≡ zeros mostSegs) × (now holds ≡ zeros mostSegs) ⌝ }
-    requires { ⌜ (now touches ≡ idles mostSteps) × (now marks ≡ blankMarks mostSteps) ⌝ }
+    requires { ⌜ BlankLists (now sizes) (now holds) (now touches) (now marks) ⌝ }
     ensures { λ r. ⌜ answerWith r (now (sizes .exit)) (now (holds .exit)) (now (touches .exit)) (now (marks .exit))
         ≡ answerOf (atEnd (andThen (headPart taken (leb 3 form) .reads (now (s .entry))) (λ head rest. runPart form head .reads rest))) ⌝ }
 {
@@ -179,8 +169,7 @@ fn all_lines(
     touches: &mut [u16],
     marks: &mut [bool],
 ) -> SheetRead
-    requires { ⌜ (now sizes ≡ zeros mostSegs) × (now holds ≡ zeros mostSegs) ⌝ }
-    requires { ⌜ (now touches ≡ idles mostSteps) × (now marks ≡ blankMarks mostSteps) ⌝ }
+    requires { ⌜ BlankLists (now sizes) (now holds) (now touches) (now marks) ⌝ }
     ensures { λ r. ⌜ answerWith r (now (sizes .exit)) (now (holds .exit)) (now (touches .exit)) (now (marks .exit))
         ≡ answerOf (readForms lo hi (now (bytes .entry))) ⌝ }
 {

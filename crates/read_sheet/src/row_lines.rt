@@ -10,19 +10,16 @@ use scan::numbers::LinesRead;
 use scan::numbers::NumberAt;
 use scan::numbers::ValueAt;
 ghost use mathlib.Core.Path.{_≡_};
-ghost use mathlib.Core.List.{List};
-ghost use mathlib.Core.Option.{Option, none};
-ghost use Prim.Native.Nat.{ℕ, _+_, _*_, _≤_, _<_};
-ghost use lib.ListN.{length, take, drop};
-ghost use Rattle.model.specs.declared.PriceRow.{PriceRow};
+ghost use mathlib.Core.Option.{none};
+ghost use Prim.Native.Nat.{_≤_};
 ghost use Rattle.model.specs.Sheets.{mostRows, largestPrice};
 ghost use Rattle.model.specs.Values.{zeroRows};
 ghost use Rattle.text.specs.Keys.{slash};
 ghost use Rattle.sheet.specs.Lines.{splitAt};
 ghost use Rattle.sheet.specs.Order.{pricesPart};
 ghost use Rattle.sheet.specs.Values.{above, rowAfter, rowParts, rowLine, rowLines};
-ghost use Rattle.scan.specs.inner.AtPlace.{parsedLines, linesNext, Filled};
-ghost use Rattle.read_sheet.specs.inner.RowsAtPlace.{before, parsedRow, rowNext, numberIn, rowOfReadings};
+ghost use Rattle.scan.specs.inner.AtPlace.{StandsFor, ListReads};
+ghost use Rattle.read_sheet.specs.inner.RowsAtPlace.{before, parsedRow, rowNext, numberIn, rowOfReadings, RowReads, RowBeyond};
 
 // The row before, where there is one.
 enum Previous {
@@ -55,8 +52,7 @@ fn exceeds(prev: Previous, row: PriceRow) -> bool
 
 // The row after another, and the next place.
 fn row_after(prev: Previous, row: PriceRow, next: usize) -> RowAt
-    ensures { λ r. ⌜ ((s : List ℕ) → parsedRow s r ≡ rowAfter (before prev) row (drop next s)) ⌝ }
-    ensures { λ r. ⌜ rowNext r ≤ next ⌝ }
+    ensures { λ r. ⌜ StandsFor next (rowNext r) (λ s. parsedRow s r) (rowAfter (before prev) row) ⌝ }
 {
     if exceeds(prev, row) {
         return RowAt::Row(row, next);
@@ -67,8 +63,7 @@ fn row_after(prev: Previous, row: PriceRow, next: usize) -> RowAt
 // The row with the price `h` and the reading of the other, and the next place.
 fn row_with(prev: Previous, h: u16, y: Reading, next: usize) -> RowAt
     requires { ⌜ numberIn y ≤ largestPrice ⌝ }
-    ensures { λ r. ⌜ ((s : List ℕ) → parsedRow s r ≡ rowOfReadings (before prev) (Reading.Number h) y (drop next s)) ⌝ }
-    ensures { λ r. ⌜ rowNext r ≤ next ⌝ }
+    ensures { λ r. ⌜ StandsFor next (rowNext r) (λ s. parsedRow s r) (rowOfReadings (before prev) (Reading.Number h) y) ⌝ }
 {
     match y {
         Reading::NotNumber => RowAt::Refused(Refusal::ValueMalformed),
@@ -82,8 +77,7 @@ fn row_with(prev: Previous, h: u16, y: Reading, next: usize) -> RowAt
 
 // The refusal where the first price lies outside its range: the other may be no number.
 fn row_beyond(y: Reading) -> RowAt
-    ensures { λ r. ⌜ ((prev : Option PriceRow) (s rest : List ℕ) → parsedRow s r ≡ rowOfReadings prev Reading.OutOfRange y rest) ⌝ }
-    ensures { λ r. ⌜ rowNext r ≡ 0 ⌝ }
+    ensures { λ r. ⌜ RowBeyond y r ⌝ }
 {
     match y {
         Reading::NotNumber => RowAt::Refused(Refusal::ValueMalformed),
@@ -96,8 +90,7 @@ fn row_beyond(y: Reading) -> RowAt
 fn row_of(prev: Previous, x: Reading, y: Reading, next: usize) -> RowAt
     requires { ⌜ numberIn x ≤ largestPrice ⌝ }
     requires { ⌜ numberIn y ≤ largestPrice ⌝ }
-    ensures { λ r. ⌜ ((s : List ℕ) → parsedRow s r ≡ rowOfReadings (before prev) x y (drop next s)) ⌝ }
-    ensures { λ r. ⌜ rowNext r ≤ next ⌝ }
+    ensures { λ r. ⌜ StandsFor next (rowNext r) (λ s. parsedRow s r) (rowOfReadings (before prev) x y) ⌝ }
 {
     match x {
         Reading::NotNumber => RowAt::Refused(Refusal::ValueMalformed),
@@ -108,8 +101,7 @@ fn row_of(prev: Previous, x: Reading, y: Reading, next: usize) -> RowAt
 
 // The row that the value stands for, and the next place.
 fn row_value(prev: Previous, v: &[u8], next: usize) -> RowAt
-    ensures { λ r. ⌜ ((s : List ℕ) → parsedRow s r ≡ rowParts (before prev) (splitAt slash (now (v .entry))) (drop next s)) ⌝ }
-    ensures { λ r. ⌜ rowNext r ≤ next ⌝ }
+    ensures { λ r. ⌜ StandsFor next (rowNext r) (λ s. parsedRow s r) (rowParts (before prev) (splitAt slash (now (v .entry)))) ⌝ }
 {
     let k = bytes::find(v, b'/');
     if k < v.len() {
@@ -123,8 +115,7 @@ fn row_value(prev: Previous, v: &[u8], next: usize) -> RowAt
 
 // The row of the line row= after the row before it.
 fn row_line(s: &[u8], prev: Previous) -> RowAt
-    ensures { λ r. ⌜ parsedRow (now (s .entry)) r ≡ rowLine (before prev) (now (s .entry)) ⌝ }
-    ensures { λ r. ⌜ rowNext r ≤ length (now (s .entry)) ⌝ }
+    ensures { λ r. ⌜ RowReads (now (s .entry)) r (rowLine (before prev) (now (s .entry))) ⌝ }
 {
     match numbers::value_line(s, b"row=") {
         ValueAt::Missing => RowAt::Refused(Refusal::LineMalformed),
@@ -142,9 +133,7 @@ fn blank_rows() -> [PriceRow; Sheet::MAX_ROWS]
 // The rows of `n` lines row=; beyond them stand rows 0/0.
 fn row_lines(s: &[u8], n: usize) -> RowsRead
     requires { ⌜ n ≤ mostRows ⌝ }
-    ensures { λ r. ⌜ parsedLines (now (s .entry)) (r .lines) (take (r .count) (r .rows)) ≡ rowLines n none (now (s .entry)) ⌝ }
-    ensures { λ r. ⌜ linesNext (r .lines) ≤ length (now (s .entry)) ⌝ }
-    ensures { λ r. ⌜ Filled (r .count) (r .rows) (zeroRows mostRows) ⌝ }
+    ensures { λ r. ⌜ ListReads (now (s .entry)) (r .lines) (r .count) (r .rows) (zeroRows mostRows) (rowLines n none (now (s .entry))) ⌝ }
 {
     let mut rows = blank_rows();
     let mut prev = Previous::Nothing;
@@ -176,9 +165,7 @@ fn row_lines(s: &[u8], n: usize) -> RowsRead
 
 // The line rows= and so many rows.
 pub fn price_lines(s: &[u8]) -> RowsRead
-    ensures { λ r. ⌜ parsedLines (now (s .entry)) (r .lines) (take (r .count) (r .rows)) ≡ pricesPart .reads (now (s .entry)) ⌝ }
-    ensures { λ r. ⌜ linesNext (r .lines) ≤ length (now (s .entry)) ⌝ }
-    ensures { λ r. ⌜ Filled (r .count) (r .rows) (zeroRows mostRows) ⌝ }
+    ensures { λ r. ⌜ ListReads (now (s .entry)) (r .lines) (r .count) (r .rows) (zeroRows mostRows) (pricesPart .reads (now (s .entry))) ⌝ }
 {
     match numbers::number_line(s, b"rows=", 1, Sheet::MAX_ROWS as u32) {
         NumberAt::Refused(why) => RowsRead {

@@ -7,6 +7,7 @@ use mathlib.Core.List.{List}
 use native.Mathlib.Numerals.{add-one}
 use native.Mathlib.Omega.{arith}
 use borrow.Author.Tests.{le-leb, lt-ltb, le-ltb, leb-true, leb-false, ltb-true, ltb-false}
+use borrow.Table.Steps.{cases}
 use lib.Dec.{leb, ltb}
 use lib.ListN.{length, take, drop, length-drop, drop-of-length-le}
 use lib.Seq.{drop-cons, take-all}
@@ -18,7 +19,7 @@ use Rattle.decimal.specs.declared.Reading.the-variants.{NotNumber, OutOfRange a
 use Rattle.decimal.proofs.Readings.{reading-number}
 use Rattle.sheet.specs.Lines.{read, refused, Split, parts, none as unsplit, splitAt}
 use Rattle.scan.specs.inner.AtPlace.{splitAtPlace}
-use Rattle.sheet.specs.Touches.{beforeLetter, stepPart, touchOf, touchParts}
+use Rattle.sheet.specs.Touches.{stepPart, touchOf, touchParts}
 use Rattle.read_touches.specs.inner.TouchAtPlace.{pairOf, pairAround, touchOfPair}
 use Rattle.read_touches.specs.declared.touch_value.Pair.{Pair}
 use Rattle.read_touches.specs.declared.touch_value.Pair.the-variants.{Numbers, Malformed}
@@ -48,14 +49,12 @@ module _ (letters : Bool) (y : List ℕ) (k : ℕ) (t : letters ≡ true) (f : s
 
   -- it does not
   pub step-other : (k + 1 ≡ length y → ⊥) → stepPart letters y ≡ stepUpTo y (length y)
-  step-other n = rw (t, f) (go (ltb k (length y)) refl)
-    where
-      go : (b : Bool) → ltb k (length y) ≡ b → beforeLetter y (splitAtPlace y k) ≡ stepUpTo y (length y)
-      go true e =
-          let h = ltb-true k (length y) e in
-          let l : suc k < length y = omega arith in
-          rw (place-within y k h, drop-cons y (suc k) 0 l) (all-bytes y)
-      go false e = rw (place-beyond y k (ltb-false k (length y) e)) (all-bytes y)
+  step-other n =
+      let more : k < length y → suc k < length y = λ h. omega (arith, n) in
+      rw (t, f)
+      (cases (ltb k (length y))
+      (λ e. let h = ltb-true k (length y) e in rw (place-within y k h, drop-cons y (suc k) 0 (more h)) (all-bytes y))
+      (λ e. rw (place-beyond y k (ltb-false k (length y) e)) (all-bytes y)))
 
 -- ---- two numbers around "@"
 
@@ -77,11 +76,10 @@ module _ (letters : Bool) (hi from to : ℕ) (v : List ℕ) (k : ℕ) (f : split
       up-to : (end r : ℕ) → end ≡ k + 1 + r → k < length v → ltb end (length v) ≡ ltb r (length (tail v (k + 1)))
       up-to end r e h =
           let l : length (tail v (k + 1)) ≡ length v - (k + 1) = ap length (tail-is v (k + 1)) ∙ length-drop (k + 1) v in
-          rw l (go (ltb end (length v)) refl)
-        where
-          go : (b : Bool) → ltb end (length v) ≡ b → b ≡ ltb r (length v - (k + 1))
-          go true i = sym (lt-ltb r (length v - (k + 1)) (omega (arith, ltb-true end (length v) i)))
-          go false i = sym (le-ltb r (length v - (k + 1)) (omega (arith, ltb-false end (length v) i)))
+          rw l
+          (cases (ltb end (length v))
+          (λ i. i ∙ sym (lt-ltb r (length v - (k + 1)) (omega (arith, ltb-true end (length v) i))))
+          (λ i. i ∙ sym (le-ltb r (length v - (k + 1)) (omega (arith, ltb-false end (length v) i)))))
 
   -- else there is none
   pub pair-none : length v ≤ k → Malformed ≡ pairAround letters hi from to (splitAt atSign v)
@@ -110,20 +108,18 @@ pair-first letters hi from to v n m l = of-parts (splitAt atSign v)
 
 -- below a number is up to the one before it
 below-leb : (v n : ℕ) → 1 ≤ n → ltb v n ≡ leb v (n - 1)
-below-leb v n h = go (leb v (n - 1)) refl
-  where
-    go : (b : Bool) → leb v (n - 1) ≡ b → ltb v n ≡ b
-    go true e = lt-ltb v n (omega (arith, leb-true v (n - 1) e))
-    go false e = le-ltb v n (omega (arith, leb-false v (n - 1) e))
+below-leb v n h =
+    cases (leb v (n - 1)) (λ e. lt-ltb v n (omega (arith, leb-true v (n - 1) e)) ∙ sym e)
+    (λ e. le-ltb v n (omega (arith, leb-false v (n - 1) e)) ∙ sym e)
 
 -- a touch of two values is that of the pair of their readings
 touch-two : (segs steps before : ℕ) → 1 ≤ segs → (x y : List ℕ) (m : Bool) (rest : List ℕ)
     → touchOf segs steps before x y m rest ≡ touchOfPair (pairOf (readingOf 0 (segs - 1) x) (readingOf (before + 1) steps y) m) rest
 touch-two segs steps before h x y m rest =
     rw (below-leb (value x) segs h, add-one before, le-leb 0 (value x) (omega arith))
-    (cases (isNumber x) (isNumber y) (leb (value x) (segs - 1)) (leb (suc before) (value y) && leb (value y) steps))
+    (by-tests (isNumber x) (isNumber y) (leb (value x) (segs - 1)) (leb (suc before) (value y) && leb (value y) steps))
   where
-    cases : (a b h d : Bool)
+    by-tests : (a b h d : Bool)
         → cond (a && b)
         (cond h
         (cond d (read (record { segment = value x; step = value y; modifies = m }) rest) (refused StepNotAbove))
@@ -131,14 +127,14 @@ touch-two segs steps before h x y m rest =
         (refused ValueMalformed)
         ≡ touchOfPair
         (pairOf (cond a (cond h (Number (value x)) Beyond) NotNumber) (cond b (cond d (Number (value y)) Beyond) NotNumber) m) rest
-    cases false false h d = refl
-    cases false true h true = refl
-    cases false true h false = refl
-    cases true false h d = refl
-    cases true true true true = refl
-    cases true true true false = refl
-    cases true true false true = refl
-    cases true true false false = refl
+    by-tests false false h d = refl
+    by-tests false true h true = refl
+    by-tests false true h false = refl
+    by-tests true false h d = refl
+    by-tests true true true true = refl
+    by-tests true true true false = refl
+    by-tests true true false true = refl
+    by-tests true true false false = refl
 
 -- so is that of a split value
 pub touch-pair : (letters : Bool) (segs steps before : ℕ) → 1 ≤ segs → (p : Split) (rest : List ℕ)

@@ -11,16 +11,10 @@ use scan::numbers::LinesRead;
 use scan::numbers::NumberAt;
 use short_touch::short_touch;
 use touch_value::TouchAt;
-ghost use mathlib.Core.Path.{_≡_};
-ghost use mathlib.Core.Bool.{false};
-ghost use Prim.Native.Nat.{_≤_};
-ghost use lib.ListN.{length, take, replicate};
-ghost use Rattle.model.specs.Sheets.{idle, mostSegs, mostSteps};
-ghost use Rattle.model.specs.Values.{idles, blankMarks};
+ghost use lib.ListN.{length};
 ghost use Rattle.sheet.specs.Order.{stepsPart};
 ghost use Rattle.sheet.specs.Touches.{entryLines};
-ghost use Rattle.scan.specs.inner.AtPlace.{parsedLines, linesNext, Filled};
-ghost use Rattle.read_touches.specs.inner.TouchesAtPlace.{entriesWith, markCount};
+ghost use Rattle.read_touches.specs.inner.TouchesAtPlace.{BlankEntries, BlankSteps, EntriesReads, StepsReads};
 ghost use Rattle.read_touches.specs.inner.Passed.{PassedTouches, refsLines};
 
 // How many lines of touches were read, the place of what follows them, and the step of the last touch, 0 where there is none.
@@ -41,9 +35,7 @@ fn short_touches(
     entries: &mut [u16],
     marks: &mut [bool],
 ) -> TouchesRead
-    requires { ⌜ (1 ≤ segs) × (segs ≤ mostSegs) × (length (now entries) ≤ mostSteps) ⌝ }
-    requires { ⌜ now entries ≡ replicate (length (now entries)) idle ⌝ }
-    requires { ⌜ now marks ≡ replicate (length (now entries)) false ⌝ }
+    requires { ⌜ BlankEntries segs (now entries) (now marks) ⌝ }
     ensures { λ r. ⌜ PassedTouches letters segs (length (now (entries .entry))) n (now (s .entry))
         (now (entries .exit)) (now (marks .exit)) (r .step) (r .next) (r .count) ⌝ }
 {
@@ -81,13 +73,9 @@ fn touch_lines(
     entries: &mut [u16],
     marks: &mut [bool],
 ) -> LinesRead
-    requires { ⌜ (1 ≤ segs) × (segs ≤ mostSegs) × (length (now entries) ≤ mostSteps) ⌝ }
-    requires { ⌜ now entries ≡ replicate (length (now entries)) idle ⌝ }
-    requires { ⌜ now marks ≡ replicate (length (now entries)) false ⌝ }
-    ensures { λ r. ⌜ parsedLines (now (s .entry)) r (entriesWith letters (now (entries .exit)) (now (marks .exit)))
-        ≡ entryLines letters segs (length (now (entries .entry))) n (now (s .entry)) ⌝ }
-    ensures { λ r. ⌜ linesNext r ≤ length (now (s .entry)) ⌝ }
-    ensures { λ r. ⌜ (letters ≡ false → now (marks .exit) ≡ now (marks .entry)) ⌝ }
+    requires { ⌜ BlankEntries segs (now entries) (now marks) ⌝ }
+    ensures { λ r. ⌜ EntriesReads letters (now (s .entry)) r (now (entries .exit)) (now (marks .exit)) (now (marks .entry))
+        (entryLines letters segs (length (now (entries .entry))) n (now (s .entry))) ⌝ }
 {
     let steps = entries.len();
     let front = short_touches(s, n, letters, segs, entries, marks);
@@ -118,13 +106,9 @@ fn refs_lines(
     entries: &mut [u16],
     marks: &mut [bool],
 ) -> LinesRead
-    requires { ⌜ (1 ≤ segs) × (segs ≤ mostSegs) × (length (now entries) ≤ mostSteps) ⌝ }
-    requires { ⌜ now entries ≡ replicate (length (now entries)) idle ⌝ }
-    requires { ⌜ now marks ≡ replicate (length (now entries)) false ⌝ }
-    ensures { λ r. ⌜ parsedLines (now (s .entry)) r (entriesWith letters (now (entries .exit)) (now (marks .exit)))
-        ≡ refsLines letters segs (length (now (entries .entry))) (now (s .entry)) ⌝ }
-    ensures { λ r. ⌜ linesNext r ≤ length (now (s .entry)) ⌝ }
-    ensures { λ r. ⌜ (letters ≡ false → now (marks .exit) ≡ now (marks .entry)) ⌝ }
+    requires { ⌜ BlankEntries segs (now entries) (now marks) ⌝ }
+    ensures { λ r. ⌜ EntriesReads letters (now (s .entry)) r (now (entries .exit)) (now (marks .exit)) (now (marks .entry))
+        (refsLines letters segs (length (now (entries .entry))) (now (s .entry))) ⌝ }
 {
     match numbers::number_line(s, b"refs=", 0, entries.len() as u32) {
         NumberAt::Refused(why) => LinesRead::Refused(why),
@@ -144,14 +128,9 @@ pub fn step_lines(
     out: &mut [u16],
     marks: &mut [bool],
 ) -> CountedAt
-    requires { ⌜ (1 ≤ segs) × (segs ≤ mostSegs) ⌝ }
-    requires { ⌜ (now out ≡ idles mostSteps) × (now marks ≡ blankMarks mostSteps) ⌝ }
-    ensures { λ r. ⌜ parsedLines (now (s .entry)) (r .lines)
-        (entriesWith letters (take (r .count) (now (out .exit))) (take (r .count) (now (marks .exit))))
-        ≡ stepsPart letters segs .reads (now (s .entry)) ⌝ }
-    ensures { λ r. ⌜ linesNext (r .lines) ≤ length (now (s .entry)) ⌝ }
-    ensures { λ r. ⌜ Filled (r .count) (now (out .exit)) (now (out .entry)) ⌝ }
-    ensures { λ r. ⌜ Filled (markCount letters (r .count)) (now (marks .exit)) (now (marks .entry)) ⌝ }
+    requires { ⌜ BlankSteps segs (now out) (now marks) ⌝ }
+    ensures { λ r. ⌜ StepsReads letters (now (s .entry)) (r .lines) (r .count) (now (out .exit)) (now (out .entry))
+        (now (marks .exit)) (now (marks .entry)) (stepsPart letters segs .reads (now (s .entry))) ⌝ }
 {
     match numbers::number_line(s, b"steps=", 0, Sheet::MAX_STEPS as u32) {
         NumberAt::Refused(why) => CountedAt {

@@ -3,15 +3,13 @@
 use decimal::Run;
 use scan::bytes;
 ghost use mathlib.Core.Path.{_≡_};
-ghost use mathlib.Core.Bool.{true, cond};
-ghost use mathlib.Core.List.{_∷_, _++_};
-ghost use Prim.Native.Nat.{_+_, _≤_, _<_};
-ghost use lib.ListN.{length, drop};
+ghost use mathlib.Core.Bool.{cond};
+ghost use Prim.Native.Nat.{_≤_};
 ghost use Rattle.model.specs.Sheets.{mostSegs};
-ghost use Rattle.decimal.specs.Decimal.{written};
 ghost use Rattle.text.specs.Keys.{lineFeed, markLetter};
-ghost use Rattle.sheet.specs.Lines.{read};
-ghost use Rattle.sheet.specs.Touches.{touchLine, stepWord};
+ghost use Rattle.sheet.specs.Touches.{touchLine};
+ghost use Rattle.scan.specs.inner.AtPlace.{ShortReads};
+ghost use Rattle.read_touches.specs.inner.TouchAtPlace.{NumberBefore, StepBefore};
 
 // A touch of a short line and the place of what follows the line, or the place 0 where the line is of another form.
 pub struct TouchShort {
@@ -30,8 +28,7 @@ struct StepShort {
 
 // A number of at most 4 digits at the front of `s`, where the byte `mark` follows it.
 fn number_before(s: &[u8], mark: u8) -> Run
-    ensures { λ r. ⌜ (0 < r .length → (r .length < length (now (s .entry)))
-        × (now (s .entry) ≡ written (r .value) ++ (mark ∷ drop (r .length + 1) (now (s .entry))))) ⌝ }
+    ensures { λ r. ⌜ NumberBefore (now (s .entry)) mark r ⌝ }
 {
     let found = decimal::front(s);
     let length = found.length;
@@ -85,9 +82,7 @@ fn letter_of(letters: bool) -> u8
 // A step of at most 4 digits at the front of `s`, where a line feed follows it or, in a form that has the letter w, that letter and a line
 // feed.
 fn step_before(s: &[u8], letters: bool) -> StepShort
-    ensures { λ r. ⌜ r .next ≤ length (now (s .entry)) ⌝ }
-    ensures { λ r. ⌜ (0 < r .next → (r .modifies ≡ true → letters ≡ true)
-        × (now (s .entry) ≡ stepWord (r .modifies) (r .step) ++ (lineFeed ∷ drop (r .next) (now (s .entry))))) ⌝ }
+    ensures { λ r. ⌜ StepBefore (now (s .entry)) letters r ⌝ }
 {
     let found = decimal::front(s);
     let length = found.length;
@@ -126,9 +121,8 @@ fn step_before(s: &[u8], letters: bool) -> StepShort
 // The touch of the line ref= after the step `before`, where its numbers have at most 4 digits and lie within their ranges.
 pub fn short_touch(s: &[u8], letters: bool, segs: u32, steps: u32, before: u32) -> TouchShort
     requires { ⌜ segs ≤ mostSegs ⌝ }
-    ensures { λ r. ⌜ r .next ≤ length (now (s .entry)) ⌝ }
-    ensures { λ r. ⌜ (0 < r .next → touchLine letters segs steps before (now (s .entry))
-        ≡ read (record { segment = r .segment; step = r .step; modifies = r .modifies }) (drop (r .next) (now (s .entry)))) ⌝ }
+    ensures { λ r. ⌜ ShortReads (now (s .entry)) (r .next) (record { segment = r .segment; step = r .step; modifies = r .modifies })
+        (touchLine letters segs steps before (now (s .entry))) ⌝ }
 {
     if !bytes::has_key(s, b"ref=") {
         return another_form();

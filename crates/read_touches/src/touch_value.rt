@@ -6,15 +6,12 @@ use scan::bytes;
 use scan::numbers;
 use scan::numbers::ValueAt;
 ghost use mathlib.Core.Path.{_≡_};
-ghost use mathlib.Core.List.{List};
-ghost use Prim.Native.Nat.{ℕ, _≤_};
-ghost use lib.Dec.{ltb};
-ghost use lib.ListN.{length, take, drop};
-ghost use Rattle.model.specs.Sheets.{mostSegs, mostSteps};
 ghost use Rattle.text.specs.Keys.{atSign};
 ghost use Rattle.sheet.specs.Lines.{splitAt};
-ghost use Rattle.sheet.specs.Touches.{stepPart, touchParts, touchLine};
-ghost use Rattle.read_touches.specs.inner.TouchAtPlace.{pairOf, pairAround, parsedTouch, touchNext};
+ghost use Rattle.sheet.specs.Touches.{touchParts, touchLine};
+ghost use Rattle.read_touches.specs.inner.TouchAtPlace.{pairOf, pairAround, parsedTouch, touchNext, TouchReads};
+ghost use Rattle.read_touches.specs.inner.TouchAtPlace.{TouchBounds, StepBytes};
+ghost use Rattle.scan.specs.inner.AtPlace.{StandsFor};
 
 // Two numbers around "@" and whether the letter w follows them; or one of them is no number; or the first, or else the second, lies outside
 // its range.
@@ -33,8 +30,7 @@ pub enum TouchAt {
 
 // How many bytes of `y` stand for the step: all but the letter w at their end, in a form that has it.
 fn step_bytes(y: &[u8], letters: bool) -> usize
-    ensures { λ r. ⌜ r ≤ length (now (y .entry)) ⌝ }
-    ensures { λ r. ⌜ stepPart letters (now (y .entry)) ≡ (take r (now (y .entry)), ltb r (length (now (y .entry)))) ⌝ }
+    ensures { λ r. ⌜ StepBytes letters (now (y .entry)) r ⌝ }
 {
     if !letters {
         return y.len();
@@ -82,10 +78,9 @@ fn pair_around(v: &[u8], letters: bool, hi: u32, from: u32, to: u32) -> Pair
 
 // The touch that the value stands for, after the step `before`, and the next place.
 fn touch_value(v: &[u8], letters: bool, segs: u32, steps: u32, before: u32, next: usize) -> TouchAt
-    requires { ⌜ (1 ≤ segs) × (segs ≤ mostSegs) × (steps ≤ mostSteps) × (before ≤ steps) ⌝ }
-    ensures { λ r. ⌜ ((s : List ℕ)
-        → parsedTouch s r ≡ touchParts letters segs steps before (splitAt atSign (now (v .entry))) (drop next s)) ⌝ }
-    ensures { λ r. ⌜ touchNext r ≤ next ⌝ }
+    requires { ⌜ TouchBounds segs steps before ⌝ }
+    ensures { λ r. ⌜ StandsFor next (touchNext r) (λ s. parsedTouch s r)
+        (touchParts letters segs steps before (splitAt atSign (now (v .entry)))) ⌝ }
 {
     match pair_around(v, letters, segs - 1, before + 1, steps) {
         Pair::Malformed => TouchAt::Refused(Refusal::ValueMalformed),
@@ -97,9 +92,8 @@ fn touch_value(v: &[u8], letters: bool, segs: u32, steps: u32, before: u32, next
 
 // The touch of the line ref= after the step `before`.
 pub fn touch_line(s: &[u8], letters: bool, segs: u32, steps: u32, before: u32) -> TouchAt
-    requires { ⌜ (1 ≤ segs) × (segs ≤ mostSegs) × (steps ≤ mostSteps) × (before ≤ steps) ⌝ }
-    ensures { λ r. ⌜ parsedTouch (now (s .entry)) r ≡ touchLine letters segs steps before (now (s .entry)) ⌝ }
-    ensures { λ r. ⌜ touchNext r ≤ length (now (s .entry)) ⌝ }
+    requires { ⌜ TouchBounds segs steps before ⌝ }
+    ensures { λ r. ⌜ TouchReads (now (s .entry)) r (touchLine letters segs steps before (now (s .entry))) ⌝ }
 {
     match numbers::value_line(s, b"ref=") {
         ValueAt::Missing => TouchAt::Refused(Refusal::LineMalformed),

@@ -7,6 +7,7 @@ use native.Mathlib.Nat.{add-suc}
 use native.Mathlib.Numerals.{add-one}
 use native.Mathlib.Omega.{arith}
 use borrow.Author.Tests.{eqb-true, leb-true, leb-false}
+use borrow.Table.Steps.{cases}
 use lib.Dec.{eqb, leb}
 use lib.ListN.{length, take, drop, length-take, length-drop}
 use lib.Seq.{drop-drop}
@@ -22,11 +23,7 @@ use Rattle.scan.proofs.Tails.{tail, tail-is}
 -- bytes without c: the first is another, and the rest is without c
 without-head : (c b : ℕ) (s : List ℕ) → splitAt c (b ∷ s) ≡ none → eqb b c ≡ false
 unfolding splitAt
-without-head c b s e = go (eqb b c) e
-  where
-    go : (t : Bool) → cond t (parts [] s) (andBefore b (splitAt c s)) ≡ none → t ≡ false
-    go true e = cc
-    go false e = refl
+without-head c b s e = cases (eqb b c) (λ t. let z = rw t at e in cc) (λ t. t)
 
 without-tail : (c b : ℕ) (s : List ℕ) → splitAt c (b ∷ s) ≡ none → splitAt c s ≡ none
 unfolding splitAt
@@ -56,17 +53,12 @@ pub keyed : (key s : List ℕ) → splitAt lineFeed key ≡ none
 unfolding valueLine sameBytes splitAt afterKey
 keyed [] s n = refl
 keyed (k ∷ key) [] n = refl
-keyed (k ∷ key) (b ∷ s) n = go (eqb b k) refl (keyed key s (without-tail lineFeed k key n))
-  where
-    go : (t : Bool) → eqb b k ≡ t
-        → valueLine key s ≡ cond (sameBytes (take (length key) s) key) (valueLine [] (drop (length key) s)) (refused LineMalformed)
-        → valueLine (k ∷ key) (b ∷ s)
-        ≡ cond (sameBytes (take (suc (length key)) (b ∷ s)) (k ∷ key)) (valueLine [] (drop (suc (length key)) (b ∷ s)))
-        (refused LineMalformed)
-    go true e i =
-        let f : eqb b lineFeed ≡ false = ap (λ x. eqb x lineFeed) (eqb-true b k e) ∙ without-head lineFeed k key n in
-        rw (e, f) (same-head k key b (splitAt lineFeed s) e ∙ i)
-    go false e i = rw e (other-head k key b s (eqb b lineFeed) (splitAt lineFeed s) e)
+keyed (k ∷ key) (b ∷ s) n =
+    let feed : eqb b k ≡ true → eqb b lineFeed ≡ false = λ e.
+    ap (λ x. eqb x lineFeed) (eqb-true b k e) ∙ without-head lineFeed k key n in
+    cases (eqb b k)
+    (λ e. rw (e, feed e) (same-head k key b (splitAt lineFeed s) e ∙ keyed key s (without-tail lineFeed k key n)))
+    (λ e. rw e (other-head k key b s (eqb b lineFeed) (splitAt lineFeed s) e))
 
 -- bytes that are shorter than a key do not start with it
 pub short-key : (s key : List ℕ) → length s < length key → sameBytes (take (length key) s) key ≡ false
@@ -74,12 +66,9 @@ short-key s key h = same-lengths (take (length key) s) key (λ e. omega (arith, 
 
 -- bytes that start with a key are at least as long
 pub long-key : (s key : List ℕ) → sameBytes (take (length key) s) key ≡ true → length key ≤ length s
-long-key s key e = go (leb (length key) (length s)) refl
-  where
-    go : (t : Bool) → leb (length key) (length s) ≡ t → length key ≤ length s
-    go true l = leb-true (length key) (length s) l
-    go false l =
-        let z : true ≡ false = sym e ∙ short-key s key (leb-false (length key) (length s) l) in absurd (false≢true (sym z))
+long-key s key e =
+    cases (leb (length key) (length s)) (leb-true (length key) (length s))
+    (λ l. absurd (false≢true (sym (short-key s key (leb-false (length key) (length s) l)) ∙ e)))
 
 module _ (key s : List ℕ) (n : splitAt lineFeed key ≡ none) where
   -- without its key the line is not there

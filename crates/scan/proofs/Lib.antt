@@ -2,6 +2,7 @@ pub mod Blanks
 pub mod KeyedLines
 pub mod LinesPassed
 pub mod NumberLines
+pub mod NumbersRead
 pub mod ShortLines
 pub mod Splits
 pub mod Stages

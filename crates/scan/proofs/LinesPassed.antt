@@ -37,6 +37,12 @@ pub record PassedLines {A St : Type 0} (F : ℕ → St → List ℕ → Parsed (
   pub room : n ≤ length xs
   pub same : F n st₀ s ≡ behind (take i xs) (F (n - i) st (drop at s))
 
+-- the same where there is a line for each place of the list, which is as long as it was
+pub record PassedWhole {A St : Type 0} (F : ℕ → St → List ℕ → Parsed (List A)) (st₀ : St) (s : List ℕ) (xs₀ xs : List A)
+    (st : St) (at i : ℕ) : Type 0 where
+  pub passed : PassedLines F (length xs₀) st₀ s xs st at i
+  pub whole : length xs ≡ length xs₀
+
 module _ {A St : Type 0} (F : ℕ → St → List ℕ → Parsed (List A)) (line : St → List ℕ → Parsed A) (after : A → St)
     (w : Repeats F line after) (n : ℕ) (st₀ : St) (s : List ℕ) where
   -- before the first line

@@ -2,10 +2,11 @@
 -- behind others. Assumes nothing.
 use Prim.Native.Nat.{ℕ, _+_, _*_, _-_, _≤_, _<_}
 use mathlib.Core.Path.{_≡_, refl, sym, ap, _∙_}
-use mathlib.Core.Bool.{Bool, true, false}
+use mathlib.Core.Bool.{true, false}
 use mathlib.Core.List.{List, [], _++_, append-nil}
 use native.Mathlib.Omega.{arith}
 use borrow.Rule.Slice.PartMut.{postOf, putMid, post-is}
+use borrow.Table.Steps.{cases}
 use lib.ListN.{length, getD, take, drop, length-drop, drop-of-length-le}
 use lib.Seq.{length-take-le, getD-take, getD-drop, drop-drop}
 use Rattle.model.specs.declared.Refusal.{Refusal}
@@ -14,7 +15,7 @@ use Rattle.decimal.proofs.Digits.{digit-at, number-digits}
 use Rattle.decimal.proofs.Readings.{reading-within}
 use Rattle.text.specs.Keys.{lineFeed}
 use Rattle.sheet.specs.Lines.{read, refused, andThen, none, splitAt, sameBytes, inRange, numberLine, numberLines}
-use Rattle.scan.specs.inner.AtPlace.{splitAtPlace, parsedLines}
+use Rattle.scan.specs.inner.AtPlace.{splitAtPlace, parsedLines, Compared, FrontReads}
 use Rattle.scan.specs.declared.numbers.LinesRead.{LinesRead}
 use Rattle.scan.specs.declared.numbers.LinesRead.the-variants.{Done, Refused as NoLines}
 use Rattle.scan.specs.declared.numbers.ValueAt.the-variants.{Value}
@@ -29,15 +30,11 @@ word s = getD s 0 0 + getD s 1 0 * 256 + getD s 2 0 * 65536 + getD s 3 0 * 16777
 
 -- runs with other first words differ
 pub word-differs : (s t : List ℕ) → (word s ≡ word t → ⊥) → sameBytes s t ≡ false
-word-differs s t n = go (sameBytes s t) refl
-  where
-    go : (b : Bool) → sameBytes s t ≡ b → sameBytes s t ≡ false
-    go true e = absurd (n (ap word (same-equal s t e)))
-    go false e = e
+word-differs s t n = cases (sameBytes s t) (λ e. absurd (n (ap word (same-equal s t e)))) (λ e. e)
 
 -- what stands behind equal first words decides
 pub word-same : (s t : List ℕ) → ((i : ℕ) → getD s i 0 < 256) → ((i : ℕ) → getD t i 0 < 256) → 4 ≤ length s
-    → length s ≡ length t → word s ≡ word t → sameBytes (drop 4 s) (drop 4 t) ≡ sameBytes s t
+    → length s ≡ length t → word s ≡ word t → Compared s t 4
 word-same s t f g h l e =
     let e3 : getD s 3 0 ≡ getD t 3 0 = omega (arith, f 0, f 1, f 2, f 3, g 0, g 1, g 2, g 3) in
     let e2 : getD s 2 0 ≡ getD t 2 0 = omega (arith, f 0, f 1, f 2, f 3, g 0, g 1, g 2, g 3) in
@@ -46,7 +43,7 @@ word-same s t f g h l e =
     let c1 = compare-step s t 0 (compare-start s t l) (omega arith) e0 in
     let c2 = compare-step s t 1 c1 (omega arith) e1 in
     let c3 = compare-step s t 2 c2 (omega arith) e2 in
-    compare-step s t 3 c3 (omega arith) e3 .same
+    compare-step s t 3 c3 (omega arith) e3
 
 -- a line whose key is followed by a number of k digits and by a line feed, with the number v within its range
 pub short-number : (key s : List ℕ) → splitAt lineFeed key ≡ none → sameBytes (take (length key) s) key ≡ true
@@ -72,17 +69,16 @@ short-number key s n e lo hi k v w num am h feed l u =
     ∙ ap (λ i. read i rest) (sym am)))
 
 -- the lines at the front of a list xs, and r that is read from the lines behind them into the rest of it
-module _ (key : List ℕ) (lo hi n count at : ℕ) (s xs ys : List ℕ) (r : LinesRead) (l : length xs ≡ n) (h : count ≤ n)
-    (e : numberLines key lo hi n s
-    ≡ andThen (numberLines key lo hi (n - count) (drop at s)) (λ zs end. read (take count xs ++ zs) end))
+module _ (key : List ℕ) (lo hi n count at : ℕ) (s xs ys : List ℕ) (r : LinesRead)
+    (w : FrontReads key lo hi n s xs count at)
     (f : parsedLines (tail s at) r ys ≡ numberLines key lo hi (length (tail xs count)) (tail s at)) where
   -- both together
   joined : numberLines key lo hi n s ≡ andThen (parsedLines (tail s at) r ys) (λ zs end. read (take count xs ++ zs) end)
   joined =
       let k : length (tail xs count) ≡ n - count =
-      ap length (tail-is xs count) ∙ (length-drop count xs ∙ ap (λ m. m - count) l) in
+      ap length (tail-is xs count) ∙ (length-drop count xs ∙ ap (λ m. m - count) (w .whole)) in
       let g = f ∙ (ap (λ m. numberLines key lo hi m (tail s at)) k ∙ ap (numberLines key lo hi (n - count)) (tail-is s at)) in
-      e ∙ ap (λ p. andThen p (λ zs end. read (take count xs ++ zs) end)) (sym g)
+      w .same ∙ ap (λ p. andThen p (λ zs end. read (take count xs ++ zs) end)) (sym g)
 
   -- a line behind the front is refused
   pub rest-stop : (why : Refusal) → r ≡ NoLines why → refused why ≡ numberLines key lo hi n s
@@ -92,8 +88,8 @@ module _ (key : List ℕ) (lo hi n count at : ℕ) (s xs ys : List ℕ) (r : Lin
   pub rest-done : (next : ℕ) → r ≡ Done next
       → read (putMid count (length xs - count) xs ys) (drop (at + next) s) ≡ numberLines key lo hi n s
   rest-done next m =
-      let w : length xs ≤ length xs = omega arith in
-      let z : postOf count (length xs - count) xs ≡ [] = post-is count (length xs) xs (omega arith) ∙ drop-of-length-le xs w in
+      let z : postOf count (length xs - count) xs ≡ [] =
+      post-is count (length xs) xs (omega (arith, w .whole, w .counted)) ∙ drop-of-length-le xs {i = length xs} (omega arith) in
       let y : ys ++ postOf count (length xs - count) xs ≡ ys = ap (λ t. ys ++ t) z ∙ append-nil ys in
       let d : drop next (tail s at) ≡ drop (at + next) s = ap (drop next) (tail-is s at) ∙ drop-drop next at s in
       sym (

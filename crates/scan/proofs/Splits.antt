@@ -1,17 +1,18 @@
 -- Laws of splitting bytes at the first byte c, and of comparing two runs of bytes. Assumes nothing.
 use Prim.Native.Nat.{ℕ, zero, suc, _+_, _≤_, _<_}
 use mathlib.Core.Path.{_≡_, refl, sym, ap, _∙_}
-use mathlib.Core.Bool.{Bool, true, false, cond}
+use mathlib.Core.Bool.{true, false, cond}
 use mathlib.Core.List.{List, [], _∷_}
 use native.Mathlib.Nat.{le-of-suc-le-suc}
 use native.Mathlib.Numerals.{add-one}
 use native.Mathlib.Omega.{arith}
 use borrow.Author.Tests.{lt-ltb, le-ltb, ltb-true, ltb-false, eq-eqb, ne-eqb}
+use borrow.Table.Steps.{cases}
 use lib.Dec.{ltb, eqb}
 use lib.ListN.{length, getD, take, drop, drop-of-length-le}
 use lib.Seq.{drop-cons}
 use Rattle.sheet.specs.Lines.{parts, none, andBefore, splitAt, sameBytes}
-use Rattle.scan.specs.inner.AtPlace.{splitAtPlace}
+use Rattle.scan.specs.inner.AtPlace.{splitAtPlace, Compared}
 
 -- a place within the bytes splits them, and any other does not
 pub place-within : (s : List ℕ) (k : ℕ) → k < length s → splitAtPlace s k ≡ parts (take k s) (drop (suc k) s)
@@ -22,11 +23,9 @@ place-beyond s k h = rw (le-ltb k (length s) h)
 
 -- one byte more in front of a split
 place-suc : (b : ℕ) (s : List ℕ) (k : ℕ) → andBefore b (splitAtPlace s k) ≡ splitAtPlace (b ∷ s) (suc k)
-place-suc b s k = go (ltb k (length s)) refl
-  where
-    go : (t : Bool) → ltb k (length s) ≡ t → andBefore b (splitAtPlace s k) ≡ splitAtPlace (b ∷ s) (suc k)
-    go true e = let h = ltb-true k (length s) e in rw (e, lt-ltb (suc k) (suc (length s)) (omega arith))
-    go false e = let h = ltb-false k (length s) e in rw (e, le-ltb (suc k) (suc (length s)) (omega arith))
+place-suc b s k =
+    cases (ltb k (length s)) (λ e. rw (e, lt-ltb (suc k) (suc (length s)) (omega (arith, ltb-true k (length s) e))))
+    (λ e. rw (e, le-ltb (suc k) (suc (length s)) (omega (arith, ltb-false k (length s) e))))
 
 -- the place of the first byte c splits the bytes as the definition does; the length stands for no such place
 pub split-first : (c : ℕ) (s : List ℕ) (k : ℕ) → k ≤ length s → ((j : ℕ) → j < k → getD s j 0 ≡ c → ⊥)
@@ -47,17 +46,7 @@ unfolding sameBytes
 same-lengths [] [] n = absurd (n refl)
 same-lengths [] (y ∷ t) n = refl
 same-lengths (x ∷ s) [] n = refl
-same-lengths (x ∷ s) (y ∷ t) n = go (eqb x y) (same-lengths s t (λ e. n (ap suc e)))
-  where
-    go : (b : Bool) → sameBytes s t ≡ false → cond b (sameBytes s t) false ≡ false
-    go true e = e
-    go false e = refl
-
--- what is left of two runs from the place i on compares as the whole does
-pub record Compared (s t : List ℕ) (i : ℕ) : Type 0 where
-  pub place : i ≤ length s
-  pub lengths : length s ≡ length t
-  pub same : sameBytes (drop i s) (drop i t) ≡ sameBytes s t
+same-lengths (x ∷ s) (y ∷ t) n = cases (eqb x y) (λ e. rw e (same-lengths s t (λ l. n (ap suc l)))) (λ e. rw e)
 
 -- the bytes at i decide, or what follows them
 left-same : (s t : List ℕ) (i : ℕ) → i < length s → i < length t

@@ -1,15 +1,13 @@
 // Runs of bytes: the place of a byte, and whether two runs are the same. Nothing is assumed.
 ghost use mathlib.Core.Path.{_≡_};
-ghost use mathlib.Core.Option.{none};
-ghost use Prim.Native.Nat.{_+_, _*_, _≤_, _<_};
-ghost use lib.ListN.{length, getD, take, drop};
-ghost use Rattle.sheet.specs.Lines.{splitAt, sameBytes};
-ghost use Rattle.scan.specs.inner.AtPlace.{splitAtPlace};
+ghost use Prim.Native.Nat.{_+_, _*_, _≤_};
+ghost use lib.ListN.{length, getD, take};
+ghost use Rattle.sheet.specs.Lines.{sameBytes};
+ghost use Rattle.scan.specs.inner.AtPlace.{Compared, FoundAt};
 
 // The place of the first byte `c`, or the length where there is none.
 pub fn find(s: &[u8], c: u8) -> usize
-    ensures { λ r. ⌜ r ≤ length (now (s .entry)) ⌝ }
-    ensures { λ r. ⌜ splitAt c (now (s .entry)) ≡ splitAtPlace (now (s .entry)) r ⌝ }
+    ensures { λ r. ⌜ FoundAt c (now (s .entry)) r ⌝ }
 {
     let mut i = 0;
     while i < s.len() {
@@ -32,8 +30,7 @@ fn word(s: &[u8]) -> u32
 
 // Whether the two, which are as long and the same before the place `from`, are the same bytes.
 fn same_from(s: &[u8], t: &[u8], from: usize) -> bool
-    requires { ⌜ (from ≤ length (now s)) × (length (now s) ≡ length (now t)) ⌝ }
-    requires { ⌜ sameBytes (drop from (now s)) (drop from (now t)) ≡ sameBytes (now s) (now t) ⌝ }
+    requires { ⌜ Compared (now s) (now t) from ⌝ }
     ensures { λ r. ⌜ r ≡ sameBytes (now (s .entry)) (now (t .entry)) ⌝ }
 {
     let mut i = from;

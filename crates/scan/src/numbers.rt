@@ -4,16 +4,15 @@ use crate::bytes;
 use decimal::Reading;
 use model::Refusal;
 ghost use mathlib.Core.Path.{_≡_};
-ghost use mathlib.Core.List.{List, _++_};
-ghost use Prim.Native.Nat.{ℕ, _+_, _-_, _≤_, _<_, _^_};
-ghost use lib.ListN.{length, take, drop};
+ghost use Prim.Native.Nat.{_+_, _≤_, _<_, _^_};
+ghost use lib.ListN.{length};
 ghost use Rattle.decimal.specs.Decimal.{readingOf};
 ghost use Rattle.text.specs.Keys.{lineFeed};
-ghost use Rattle.sheet.specs.Lines.{read as parsed, andThen, splitAt, none as unsplit, inRange, valueLine, numberLine, numberLines};
+ghost use Rattle.sheet.specs.Lines.{splitAt, none as unsplit, inRange, numberLine, numberLines};
 ghost use Rattle.sheet.specs.Order.{numberPart, numbersPart};
 ghost use Rattle.sheet.specs.Parts.{counted};
-ghost use Rattle.scan.specs.inner.AtPlace.{parsedValue, ValueWithin, parsedNumber, numberNext, parsedLines};
-ghost use Rattle.scan.specs.inner.AtPlace.{linesNext, movedOn, Filled};
+ghost use Rattle.scan.specs.inner.AtPlace.{parsedNumber, numberNext, linesNext, movedOn, ValueReads, StandsFor, NumberReads};
+ghost use Rattle.scan.specs.inner.AtPlace.{LinesReads, ShortReads, FrontReads, ListReads};
 
 // The place of the value of a line: its first byte, and the line feed after it. Or the line is not there.
 pub enum ValueAt {
@@ -54,8 +53,7 @@ struct Front {
 // The value of the line with the key.
 pub fn value_line(s: &[u8], key: &[u8]) -> ValueAt
     requires { ⌜ splitAt lineFeed (now key) ≡ unsplit ⌝ }
-    ensures { λ r. ⌜ parsedValue (now (s .entry)) r ≡ valueLine (now (key .entry)) (now (s .entry)) ⌝ }
-    ensures { λ r. ⌜ ValueWithin (now (s .entry)) r ⌝ }
+    ensures { λ r. ⌜ ValueReads (now (key .entry)) (now (s .entry)) r ⌝ }
 {
     if !bytes::has_key(s, key) {
         return ValueAt::Missing;
@@ -70,8 +68,7 @@ pub fn value_line(s: &[u8], key: &[u8]) -> ValueAt
 
 // The number `lo` to `hi` that the value stands for, and the next place.
 fn number_value(v: &[u8], lo: u32, hi: u32, next: usize) -> NumberAt
-    ensures { λ r. ⌜ ((s : List ℕ) → parsedNumber s r ≡ inRange (readingOf lo hi (now (v .entry))) (drop next s)) ⌝ }
-    ensures { λ r. ⌜ numberNext r ≤ next ⌝ }
+    ensures { λ r. ⌜ StandsFor next (numberNext r) (λ s. parsedNumber s r) (inRange (readingOf lo hi (now (v .entry)))) ⌝ }
 {
     match decimal::read(v, lo, hi) {
         Reading::NotNumber => NumberAt::Refused(Refusal::ValueMalformed),
@@ -83,8 +80,7 @@ fn number_value(v: &[u8], lo: u32, hi: u32, next: usize) -> NumberAt
 // The number `lo` to `hi` of the line with the key.
 pub fn number_line(s: &[u8], key: &[u8], lo: u32, hi: u32) -> NumberAt
     requires { ⌜ splitAt lineFeed (now key) ≡ unsplit ⌝ }
-    ensures { λ r. ⌜ parsedNumber (now (s .entry)) r ≡ numberLine (now (key .entry)) lo hi (now (s .entry)) ⌝ }
-    ensures { λ r. ⌜ numberNext r ≤ length (now (s .entry)) ⌝ }
+    ensures { λ r. ⌜ NumberReads (now (s .entry)) r (numberLine (now (key .entry)) lo hi (now (s .entry))) ⌝ }
 {
     match value_line(s, key) {
         ValueAt::Missing => NumberAt::Refused(Refusal::LineMalformed),
@@ -96,9 +92,8 @@ pub fn number_line(s: &[u8], key: &[u8], lo: u32, hi: u32) -> NumberAt
 fn any_number_lines(s: &[u8], key: &[u8], lo: u32, hi: u32, out: &mut [u16]) -> LinesRead
     requires { ⌜ splitAt lineFeed (now key) ≡ unsplit ⌝ }
     requires { ⌜ hi ≤ 65535 ⌝ }
-    ensures { λ r. ⌜ parsedLines (now (s .entry)) r (now (out .exit))
-        ≡ numberLines (now (key .entry)) lo hi (length (now (out .entry))) (now (s .entry)) ⌝ }
-    ensures { λ r. ⌜ linesNext r ≤ length (now (s .entry)) ⌝ }
+    ensures { λ r. ⌜ LinesReads (now (s .entry)) r (now (out .exit))
+        (numberLines (now (key .entry)) lo hi (length (now (out .entry))) (now (s .entry))) ⌝ }
 {
     let mut at = 0;
     let mut i = 0;
@@ -118,9 +113,7 @@ fn any_number_lines(s: &[u8], key: &[u8], lo: u32, hi: u32, out: &mut [u16]) -> 
 // The number `lo` to `hi` of a line with the key, where it has at most 4 digits and lies within its range.
 fn short_line(s: &[u8], key: &[u8], lo: u32, hi: u32) -> Short
     requires { ⌜ splitAt lineFeed (now key) ≡ unsplit ⌝ }
-    ensures { λ r. ⌜ r .next ≤ length (now (s .entry)) ⌝ }
-    ensures { λ r. ⌜ (0 < r .next
-        → numberLine (now (key .entry)) lo hi (now (s .entry)) ≡ parsed (r .value) (drop (r .next) (now (s .entry)))) ⌝ }
+    ensures { λ r. ⌜ ShortReads (now (s .entry)) (r .next) (r .value) (numberLine (now (key .entry)) lo hi (now (s .entry))) ⌝ }
 {
     if !bytes::has_key(s, key) {
         return Short { value: 0, next: 0 };
@@ -155,11 +148,7 @@ fn short_line(s: &[u8], key: &[u8], lo: u32, hi: u32) -> Short
 fn short_lines(s: &[u8], key: &[u8], lo: u32, hi: u32, out: &mut [u16]) -> Front
     requires { ⌜ splitAt lineFeed (now key) ≡ unsplit ⌝ }
     requires { ⌜ hi ≤ 65535 ⌝ }
-    ensures { λ r. ⌜ (r .count ≤ length (now (out .entry))) × (r .at ≤ length (now (s .entry))) ⌝ }
-    ensures { λ r. ⌜ length (now (out .exit)) ≡ length (now (out .entry)) ⌝ }
-    ensures { λ r. ⌜ numberLines (now (key .entry)) lo hi (length (now (out .entry))) (now (s .entry))
-        ≡ andThen (numberLines (now (key .entry)) lo hi (length (now (out .entry)) - r .count) (drop (r .at) (now (s .entry))))
-        (λ xs end. parsed (take (r .count) (now (out .exit)) ++ xs) end) ⌝ }
+    ensures { λ r. ⌜ FrontReads (now (key .entry)) lo hi (length (now (out .entry))) (now (s .entry)) (now (out .exit)) (r .count) (r .at) ⌝ }
 {
     let mut at = 0;
     let mut i = 0;
@@ -180,9 +169,8 @@ fn short_lines(s: &[u8], key: &[u8], lo: u32, hi: u32, out: &mut [u16]) -> Front
 fn number_lines(s: &[u8], key: &[u8], lo: u32, hi: u32, out: &mut [u16]) -> LinesRead
     requires { ⌜ splitAt lineFeed (now key) ≡ unsplit ⌝ }
     requires { ⌜ hi ≤ 65535 ⌝ }
-    ensures { λ r. ⌜ parsedLines (now (s .entry)) r (now (out .exit))
-        ≡ numberLines (now (key .entry)) lo hi (length (now (out .entry))) (now (s .entry)) ⌝ }
-    ensures { λ r. ⌜ linesNext r ≤ length (now (s .entry)) ⌝ }
+    ensures { λ r. ⌜ LinesReads (now (s .entry)) r (now (out .exit))
+        (numberLines (now (key .entry)) lo hi (length (now (out .entry))) (now (s .entry))) ⌝ }
 {
     let front = short_lines(s, key, lo, hi, out);
     let at = front.at;
@@ -217,11 +205,9 @@ pub fn counted_lines(
 ) -> CountedAt
     requires { ⌜ (splitAt lineFeed (now count) ≡ unsplit) × (splitAt lineFeed (now key) ≡ unsplit) ⌝ }
     requires { ⌜ (length (now out) ≤ 65535) × (hi ≤ 65535) ⌝ }
-    ensures { λ r. ⌜ parsedLines (now (s .entry)) (r .lines) (take (r .count) (now (out .exit)))
-        ≡ counted (numberPart (now (count .entry)) least (length (now (out .entry)))) (numbersPart (now (key .entry)) lo hi) .reads
-        (now (s .entry)) ⌝ }
-    ensures { λ r. ⌜ linesNext (r .lines) ≤ length (now (s .entry)) ⌝ }
-    ensures { λ r. ⌜ Filled (r .count) (now (out .exit)) (now (out .entry)) ⌝ }
+    ensures { λ r. ⌜ ListReads (now (s .entry)) (r .lines) (r .count) (now (out .exit)) (now (out .entry))
+        (counted (numberPart (now (count .entry)) least (length (now (out .entry)))) (numbersPart (now (key .entry)) lo hi) .reads
+        (now (s .entry))) ⌝ }
 {
     match number_line(s, count, least, out.len() as u32) {
         NumberAt::Refused(why) => CountedAt {

@@ -1,15 +1,15 @@
 -- `decimal::front` meets its contract. The loop's invariant: the digits passed are a number, and `value` is its value.
 -- Assumes nothing.
-use mathlib.Core.Path.{_≡_, refl, sym, _∙_}
+use mathlib.Core.Path.{_≡_, sym, _∙_}
 use mathlib.Core.Bool.{true}
 use Prim.Native.Nat.{ℕ, _-_, _≤_}
 use native.Mathlib.Omega.{arith}
 use borrow.Author.Needs.{needs}
 use borrow.Author.Tests.{not-false}
 use lib.ListN.{getD}
-use Rattle.decimal.specs.Decimal.{isDigit, valueFrom}
+use Rattle.decimal.specs.Decimal.{isDigit}
 use Rattle.decimal.proofs.Digits.{digit-bounds}
-use Rattle.decimal.proofs.Leading.{Led, led-start, led-step, led-room, led-gives, zero-number}
+use Rattle.decimal.proofs.Leading.{Led, led-start, led-step, led-room, led-gives, zero-number, no-front}
 use Rattle.decimal.proofs.front.Statement.{statement}
 use Rattle.decimal.proofs.front.Tie as tie
 
@@ -41,19 +41,10 @@ next-digit c = sym (c .before .is-digit2 .ensures) ∙ not-false _ (c .if4 .left
 next-bounds : (c : tie.Else4 Inv-loop μ-loop) → (48 ≤ next-byte c) × (next-byte c ≤ 57)
 next-bounds c = digit-bounds (next-byte c) (next-digit c)
 
-returns : tie.Need-returns Inv-loop μ-loop
-unfolding valueFrom
-returns c = (omega arith, ((λ h. absurd (omega arith)), refl))
-
-returns-2 : tie.Need-returns-2 Inv-loop μ-loop
-unfolding valueFrom
-returns-2 c = (omega arith, ((λ h. absurd (omega arith)), refl))
-
 returns-3 : tie.Need-returns-3 Inv-loop μ-loop
 returns-3 c =
     let e = c .before .before .before .before in
-    let z = zero-number (e .before .before .args .s .now) (e .if1 .left) (c .if3 .taken) in
-    (omega arith, ((λ h. z .0), z .1))
+    zero-number _ (e .if1 .left) (c .if3 .taken)
 
 sub-value : tie.Need-sub-value Inv-loop μ-loop
 sub-value c = omega (arith, first-bounds (c .before))
@@ -95,10 +86,10 @@ front-spec =
     (tie.spec
     Inv-loop
     μ-loop
-    returns
+    (λ c. no-front _)
     (λ c. search needs)
     (λ c κs. search needs)
-    returns-2
+    (λ c. no-front _)
     returns-3
     sub-value
     cast-value

@@ -12,8 +12,14 @@ use Rattle.decimal.proofs.Written.{written-some, written-exact, written
 use Rattle.decimal.proofs.width.Statement.{statement}
 use Rattle.decimal.proofs.width.Tie as tie
 
+record Reached (n power w : ℕ) : Type 0 where
+  power-is : power * 10 ≡ 10 ^ w
+  some : 1 ≤ w
+  no-more : w ≤ length (written n)
+  most : w ≤ 20
+
 abbrev Inv-loop : tie.InvT-loop
-Inv-loop n power₀ w₀ power w = (power * 10 ≡ 10 ^ w) × (1 ≤ w) × (w ≤ length (written n)) × (w ≤ 20)
+Inv-loop n power₀ w₀ power w = Reached n power w
 
 abbrev μ-loop : tie.MeasureT-loop
 μ-loop n power₀ w₀ power w = 20 - w
@@ -31,29 +37,31 @@ last-width : (w : ℕ) → (w < 20 → ⊥) → w ≤ 20 → w ≡ 20
 last-width w h l = omega arith
 
 loop-holds : tie.Need-loop-holds Inv-loop μ-loop
-loop-holds c = (refl, omega arith, written-some _, omega arith)
+loop-holds c = record { power-is = refl; some = omega arith; no-more = written-some _; most = omega arith }
 
 mul-power : tie.Need-mul-power Inv-loop μ-loop
-mul-power c = omega (arith, c .before .loop .inv .0, last-power (c .before .loop .w) (omega arith))
+mul-power c = omega (arith, c .before .loop .inv .power-is, last-power (c .before .loop .w) (omega arith))
 
 returns : tie.Need-returns Inv-loop μ-loop
 returns c =
     let l = c .before .before .loop in
-    written-exact (l .w) _ (l .inv .1) (l .inv .2) (omega (arith, l .inv .0, c .if1 .taken))
+    written-exact (l .w) _ (l .inv .some) (l .inv .no-more) (omega (arith, l .inv .power-is, c .if1 .taken))
 
 loop-again : tie.Need-loop-again Inv-loop μ-loop
 loop-again c =
-    let l = c .before .before .loop in (
-      power-next (l .power) (l .w) (l .inv .0),
-      omega arith,
-      omega (arith, written-longer (l .w) (c .before .before .before .args .n) (omega (arith, l .inv .0, c .if1 .left))),
-      omega arith,
-    )
+    let l = c .before .before .loop in
+    record {
+      power-is = power-next (l .power) (l .w) (l .inv .power-is);
+      some = omega arith;
+      no-more =
+          omega (arith, written-longer (l .w) (c .before .before .before .args .n) (omega (arith, l .inv .power-is, c .if1 .left)));
+      most = omega arith;
+    }
 
 returns-2 : tie.Need-returns-2 Inv-loop μ-loop
 returns-2 c =
     let l = c .before .loop in
-    written-exact (l .w) _ (l .inv .1) (l .inv .2) (rw (last-width (l .w) (omega arith) (l .inv .3)) (omega arith))
+    written-exact (l .w) _ (l .inv .some) (l .inv .no-more) (rw (last-width (l .w) (omega arith) (l .inv .most)) (omega arith))
 
 pub width-spec : {M : Type 1} → statement M
 width-spec =

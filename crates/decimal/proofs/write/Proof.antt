@@ -1,8 +1,8 @@
 -- `decimal::write` meets its contract. The loop's invariant: `out` is as it is to be once the digits of `rest` are written, and these are
 -- `left`. Assumes nothing.
 use mathlib.Core.Path.{_≡_, refl}
-use mathlib.Core.List.{_++_}
-use Prim.Native.Nat.{_+_}
+use mathlib.Core.List.{List, _++_}
+use Prim.Native.Nat.{ℕ, _+_}
 use native.Mathlib.Omega.{arith}
 use borrow.Author.Needs.{needs}
 use lib.ListN.{length, take, drop}
@@ -12,50 +12,55 @@ use Rattle.decimal.proofs.Written.{written-some, written-exact, written
 use Rattle.decimal.proofs.write.Statement.{statement}
 use Rattle.decimal.proofs.write.Tie as tie
 
+record Writing (n at : ℕ) (out₀ out : List ℕ) (rest left : ℕ) : Type 0 where
+  whole : length out ≡ length out₀
+  filling : Filling at (take at out₀ ++ (written n ++ drop (at + length (written n)) out₀)) out rest left
+  left-is : left ≡ length (written rest)
+
 abbrev Inv-loop : tie.InvT-loop
-Inv-loop n out₀ at w rest₀ left₀ out rest left =
-    (length out ≡ length out₀) × Filling at (take at out₀ ++ (written n ++ drop (at + length (written n)) out₀)) out rest left
-    × (left ≡ length (written rest))
+Inv-loop n out₀ at w rest₀ left₀ out rest left = Writing n at out₀ out rest left
 
 abbrev μ-loop : tie.MeasureT-loop
 μ-loop n out₀ at w rest₀ left₀ out rest left = rest
 
 loop-holds : tie.Need-loop-holds Inv-loop μ-loop
-loop-holds c = let e = c .width .ensures in (refl, rw e (fill-start _ _ _ (c .before .before .pre)), e)
+loop-holds c = let e = c .width .ensures in
+    record { whole = refl; filling = rw e (fill-start _ _ _ (c .before .before .pre)); left-is = e }
 
 sub-left : tie.Need-sub-left Inv-loop μ-loop
 sub-left c =
     let l = c .before .loop in
-    omega (arith, l .inv .2, written-twos (l .rest) (omega (arith, c .loop-test .taken)))
+    omega (arith, l .inv .left-is, written-twos (l .rest) (omega (arith, c .loop-test .taken)))
 
 put-pair-requires : tie.Need-put-pair-requires Inv-loop μ-loop
 put-pair-requires c κs =
     let t = c .before in
     let l = t .before .loop in
-    (omega arith, omega (arith, l .inv .1 .room, l .inv .2, written-twos (l .rest) (omega (arith, t .loop-test .taken))))
+    (omega arith, omega (arith, l .inv .filling .room, l .inv .left-is, written-twos (l .rest) (omega (arith, t .loop-test .taken))))
 
 loop-again : tie.Need-loop-again Inv-loop μ-loop
 loop-again c =
     let two = c .before .before in
     let t = two .before .before in
     let l = t .before .loop in
-    let e = written-twos (l .rest) (omega (arith, t .loop-test .taken)) in (
-      search needs,
-      fill-two _ _ _ _ _ _ (l .inv .1) (omega (arith, l .inv .2, e)) (two .put-pair .ensures),
-      omega (arith, l .inv .2, e),
-    )
+    let e = written-twos (l .rest) (omega (arith, t .loop-test .taken)) in
+    record {
+      whole = search needs;
+      filling = fill-two _ _ _ _ _ _ (l .inv .filling) (omega (arith, l .inv .left-is, e)) (two .put-pair .ensures);
+      left-is = omega (arith, l .inv .left-is, e);
+    }
 
 slice-write-out : tie.Need-slice-write-out Inv-loop μ-loop
 slice-write-out c =
     let l = c .before .before .loop in
-    omega (arith, l .inv .1 .room, l .inv .2, written-some (l .rest))
+    omega (arith, l .inv .filling .room, l .inv .left-is, written-some (l .rest))
 
 returns : tie.Need-returns Inv-loop μ-loop
 returns c =
     let l = c .before .before .loop in
     let one = written-exact 1 (l .rest) (omega arith) (written-some (l .rest)) (omega (arith, c .if1 .taken)) in (
       omega (arith, c .before .before .before .width .ensures),
-      fill-last _ _ _ (l .rest) (l .left) (l .inv .1) (omega (arith, l .inv .2, one)) (omega (arith, c .if1 .taken)),
+      fill-last _ _ _ (l .rest) (l .left) (l .inv .filling) (omega (arith, l .inv .left-is, one)) (omega (arith, c .if1 .taken)),
     )
 
 put-pair-requires-2 : tie.Need-put-pair-requires-2 Inv-loop μ-loop
@@ -63,7 +68,7 @@ put-pair-requires-2 c κs =
     let e = c .before in
     let l = e .before .before .loop in
     let two = written-width 1 (l .rest) (omega (arith, e .if1 .left)) (omega (arith, e .before .loop-test .left)) in
-    (omega (arith, e .before .loop-test .left), omega (arith, l .inv .1 .room, l .inv .2, two))
+    (omega (arith, e .before .loop-test .left), omega (arith, l .inv .filling .room, l .inv .left-is, two))
 
 returns-2 : tie.Need-returns-2 Inv-loop μ-loop
 returns-2 c =
@@ -72,7 +77,7 @@ returns-2 c =
     let l = e .before .before .loop in
     let two = written-width 1 (l .rest) (omega (arith, e .if1 .left)) (omega (arith, e .before .loop-test .left)) in (
       omega (arith, e .before .before .before .width .ensures),
-      fill-last-two _ _ _ (l .rest) (l .left) (l .inv .1) (omega (arith, l .inv .2, two)) (omega (arith, e .before .loop-test .left))
+      fill-last-two _ _ _ (l .rest) (l .left) (l .inv .filling) (omega (arith, l .inv .left-is, two)) (omega (arith, e .before .loop-test .left))
           (p .put-pair2 .ensures),
     )
 

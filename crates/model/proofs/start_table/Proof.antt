@@ -19,9 +19,6 @@ Inv-loop warm last₀ n₀ last n = last ≡ startTable (take n warm)
 abbrev μ-loop : tie.MeasureT-loop
 μ-loop warm last₀ n₀ last n = length warm - n
 
-loop-holds : tie.Need-loop-holds Inv-loop μ-loop
-loop-holds c = search needs
-
 cast-i : tie.Need-cast-i Inv-loop μ-loop
 cast-i c = omega (arith, c .shared-slice-known2 .given (c .before .before .loop .n))
 
@@ -45,6 +42,6 @@ pub start-table-spec : {M : Type 1} → statement M
 start-table-spec =
     tie.close
     (tie.spec Inv-loop μ-loop
-    (λ c κs. search needs) loop-holds (λ c. search needs) (λ c. search needs) cast-i (λ c. search needs) (λ c. search needs)
+    (λ c κs. search needs) (λ c. search needs) (λ c. search needs) (λ c. search needs) cast-i (λ c. search needs) (λ c. search needs)
     (λ c. search needs) (λ c. search needs)
     loop-again returns)

@@ -1,23 +1,16 @@
 -- `read_sheet::all_lines` meets its contract: the length, the form line, and the answer to the rest. Assumes nothing.
-use mathlib.Core.Path.{sym, ap, _∙_}
-use Prim.Native.Nat.{_≤_}
+use mathlib.Core.Path.{sym, _∙_}
 use native.Mathlib.Omega.{arith}
 use borrow.Author.Needs.{needs}
-use lib.ListN.{length}
 use Rattle.sheet.specs.Answers.{answerOf}
 use Rattle.sheet.specs.Order.{bodyPart}
 use Rattle.sheet.specs.Reading.{atEnd}
-use Rattle.scan.specs.inner.AtPlace.{parsedNumber, numberNext}
+use Rattle.scan.proofs.NumbersRead.{number-read, number-place, number-refused}
 use Rattle.scan.proofs.Stages.{stage-read, stage-refused}
 use Rattle.read_sheet.proofs.Answered.{none-answered}
 use Rattle.read_sheet.proofs.ReadStages.{answer-long, answer-short, form-bound}
 use Rattle.read_sheet.proofs.all_lines.Statement.{statement}
 use Rattle.read_sheet.proofs.all_lines.Tie as tie
-
--- the form line ends within the bytes
-first : (c : tie.After-form) → c .form .given .0 .1 .0
-    ≤ length (c .before .before .before .before .before .before .before .before .before .before .args .bytes .now)
-first c = omega (arith, c .before .before .form-line .ensures .1, ap numberNext (c .form .given .1))
 
 returns : tie.Need-returns
 returns c =
@@ -25,17 +18,15 @@ returns c =
     none-answered (c .no-sheet .result) _ _ _ _ _ (c .no-sheet .ensures) ∙ sym
     (answer-long _ _ _ _ (t .before .too-long .ensures) (t .if1 .taken))
 
+-- the form line ends within the bytes
 sub-sheet-lines : tie.Need-sub-sheet-lines
-sub-sheet-lines c = omega (arith, first (c .before))
-
-part-sheet-lines-start : tie.Need-part-sheet-lines-start
-part-sheet-lines-start c = omega (arith, first (c .before))
+sub-sheet-lines c = number-place (c .before .before .before .form-line .ensures) (c .before .form .given .1)
 
 cast-sheet-lines : tie.Need-cast-sheet-lines
 cast-sheet-lines c =
     let k = c .before .before in
     let i = k .before .before .before .before .before .before .before .before .before .before in
-    let e = sym (k .before .before .form-line .ensures .0) ∙ ap (parsedNumber _) (k .form .given .1) in
+    let e = number-read (k .before .before .form-line .ensures) (k .form .given .1) in
     omega (arith, form-bound (i .args .lo) (i .args .hi) (i .args .bytes .now) _ _ (omega (arith, i .fits .hi)) e)
 
 returns-2 : tie.Need-returns-2
@@ -43,7 +34,7 @@ returns-2 c =
     let w = c .before .before in
     let f = w .before .before in
     let b = f .before .before in
-    let e = sym (f .form-line .ensures .0) ∙ ap (parsedNumber _) (w .why .given .1) in
+    let e = number-refused (f .form-line .ensures) (w .why .given .1) in
     answer-short _ _ _ _ _ (b .too-long .ensures) (f .before .if1 .left)
     (stage-refused (λ q. answerOf (atEnd q)) _ _ _ _ (none-answered (c .no-sheet2 .result) _ _ _ _ _ (c .no-sheet2 .ensures)) e)
 
@@ -54,7 +45,7 @@ returns-3 c =
     let f = k .before .before in
     let b = f .before .before in
     let s = b .before .before .before .before .before .before .args .bytes .now in
-    let e = sym (f .form-line .ensures .0) ∙ ap (parsedNumber _) (k .form .given .1) in
+    let e = number-read (f .form-line .ensures) (k .form .given .1) in
     answer-short _ _ s _ _ (b .too-long .ensures) (f .before .if1 .left)
     (stage-read (λ q. answerOf (atEnd q)) _ _ (k .form .given .0 .0) s (k .form .given .0 .1 .0) _
     (c .before .before .before .before .before .before .before .before .sheet-lines .ensures) e)
@@ -71,7 +62,7 @@ all-lines-spec =
     (λ c κs. search needs)
     (λ c. search needs)
     sub-sheet-lines
-    part-sheet-lines-start
+    sub-sheet-lines
     (λ c. search needs)
     cast-sheet-lines
     (λ c κs. search needs)

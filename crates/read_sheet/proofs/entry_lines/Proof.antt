@@ -14,22 +14,38 @@ returns : tie.Need-returns
 returns c =
     let l = c .before .before .before .before in
     let e = l .step-lines .ensures in
-    (entries-later _ _ _ _ (l .before .before .before .if1 .taken) (e .0), e .1)
+    record {
+      reads =
+          record {
+            same = entries-later _ _ _ _ (l .before .before .before .if1 .taken) (e .reads .same);
+            within = e .reads .within;
+          };
+      filled = e .filled;
+      marked = e .marked;
+    }
 
 counted-lines-requires : tie.Need-counted-lines-requires
 unfolding splitAt
 counted-lines-requires c κs =
     let p = c .before .before .before .before .before .before .before .pre in
-    ((refl, refl), (omega (arith, ap length (p .1 .0), idles-length mostSteps), omega (arith, p .0)))
+    ((refl, refl), (omega (arith, ap length (p .idle-all), idles-length mostSteps), omega (arith, p .few)))
 
 returns-2 : tie.Need-returns-2
 returns-2 c =
     let l = c .before .before in
     let i = l .before .before .before .before in
     let e = l .counted-lines .ensures in
-    let m = ap length (i .before .before .before .before .pre .1 .0) ∙ idles-length mostSteps in
+    let m = ap length (i .before .before .before .before .pre .idle-all) ∙ idles-length mostSteps in
     let first = i .if1 .left in
-    (entries-first _ _ _ _ (l .counted-lines .result .lines) _ _ first m (e .0), (e .1 .0, (e .1 .1, marks-first _ _ _ first)))
+    record {
+      reads =
+          record {
+            same = entries-first _ _ _ _ (l .counted-lines .result .lines) _ _ first m (e .reads .same);
+            within = e .reads .within;
+          };
+      filled = e .filled;
+      marked = marks-first _ _ _ first;
+    }
 
 pub entry-lines-spec : {M : Type 1} → statement M
 entry-lines-spec =

@@ -48,16 +48,13 @@ all-lines-requires c κs =
     let u = c .before .before .before .before in
     let t = u .before in
     let d = t .before in
-    let b = d .before in (
-      (
-        take-all 256 (b .blank-sizes .result) (omega (arith, sizes-length b)) ∙ b .blank-sizes .ensures,
-        take-all 256 (d .blank-sizes2 .result) (omega (arith, holds-length d)) ∙ d .blank-sizes2 .ensures,
-      ),
-      (
-        take-all 2048 (t .blank-touches .result) (omega (arith, touches-length t)) ∙ t .blank-touches .ensures,
-        take-all 2048 (u .blank-marks .result) (omega (arith, marks-length u)) ∙ u .blank-marks .ensures,
-      ),
-    )
+    let b = d .before in
+    record {
+      sizes-zero = take-all 256 (b .blank-sizes .result) (omega (arith, sizes-length b)) ∙ b .blank-sizes .ensures;
+      holds-zero = take-all 256 (d .blank-sizes2 .result) (omega (arith, holds-length d)) ∙ d .blank-sizes2 .ensures;
+      idle-all = take-all 2048 (t .blank-touches .result) (omega (arith, touches-length t)) ∙ t .blank-touches .ensures;
+      unmarked = take-all 2048 (u .blank-marks .result) (omega (arith, marks-length u)) ∙ u .blank-marks .ensures;
+    }
 
 returns : tie.Need-returns
 returns c =

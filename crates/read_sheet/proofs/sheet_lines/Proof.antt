@@ -1,9 +1,7 @@
 -- `read_sheet::sheet_lines` meets its contract: the head, and the answer to the rest. Assumes nothing.
 use mathlib.Core.Path.{refl}
-use Prim.Native.Nat.{_≤_}
 use native.Mathlib.Omega.{arith}
 use borrow.Author.Needs.{needs}
-use lib.ListN.{length}
 use Rattle.model.specs.Sheets.{mostSegs}
 use Rattle.model.proofs.Values.{zeros-length}
 use Rattle.sheet.specs.Answers.{answerOf}
@@ -16,29 +14,25 @@ use Rattle.read_sheet.proofs.Answered.{none-answered}
 use Rattle.read_sheet.proofs.sheet_lines.Statement.{statement}
 use Rattle.read_sheet.proofs.sheet_lines.Tie as tie
 
--- the lines of the head end within the bytes
-place : (c : tie.After-lines2) → c .lines2 .given .0 .0
-    ≤ length (c .before .before .before .before .before .before .before .before .before .before .before .before .before .before .args .s
-    .now)
-place c = head-place _ _ _ _ _ _ (c .before .before .before .before .before .before .head-lines .ensures) (c .lines2 .given .1)
+-- where the head was read
+abbrev Head : tie.After-lines2 → tie.After-head-lines
+Head c = c .before .before .before .before .before .before
 
+-- its lines end within the bytes
 sub-run-lines : tie.Need-sub-run-lines
-sub-run-lines c = omega (arith, place (c .before))
-
-part-run-lines-start : tie.Need-part-run-lines-start
-part-run-lines-start c = omega (arith, place (c .before))
+sub-run-lines c = head-place _ _ _ _ _ _ (Head (c .before) .head-lines .ensures) (c .before .lines2 .given .1)
 
 run-lines-requires : tie.Need-run-lines-requires
 run-lines-requires c κs =
     let w = c .before .before .before .before in
-    let h = w .before .before .before .before .before .before in
-    let f = h .head-lines .ensures in (
-      (
-        some-segs _ _ _ _ _ (f .filled) (head-parsed _ _ _ _ _ _ f (w .lines2 .given .1)),
-        omega (arith, zeros-length mostSegs, f .filled .sizes .within),
-      ),
-      h .before .before .before .before .before .before .before .before .pre .1,
-    )
+    let f = Head w .head-lines .ensures in
+    let b = Head w .before .before .before .before .before .before .before .before .pre in
+    record {
+      some = some-segs _ _ _ _ _ (f .filled) (head-parsed _ _ _ _ _ _ f (w .lines2 .given .1));
+      few = omega (arith, zeros-length mostSegs, f .filled .sizes .within);
+      idle-all = b .idle-all;
+      unmarked = b .unmarked;
+    }
 
 returns : tie.Need-returns
 returns c =
@@ -50,7 +44,7 @@ returns-2 : tie.Need-returns-2
 returns-2 c =
     let r = c .before .before .before .before .run-lines in
     let w = c .before .before .before .before .before .before .before .before .before in
-    let h = w .before .before .before .before .before .before .head-lines in
+    let h = Head w .head-lines in
     let head = headWith (h .result) (h .last .1 .1 .1 .0) (h .last .1 .1 .1 .1 .0) in
     stage-read (λ q. answerOf (atEnd q)) _ _ _ _ (w .lines2 .given .0 .0) _ (r .ensures head (h .ensures .filled) refl)
     (head-parsed _ _ _ _ _ _ (h .ensures) (w .lines2 .given .1))
@@ -64,7 +58,7 @@ sheet-lines-spec =
     (λ c κs. search needs)
     (λ c. search needs)
     sub-run-lines
-    part-run-lines-start
+    sub-run-lines
     (λ c. search needs)
     run-lines-requires
     (λ c. search needs)

@@ -1,8 +1,11 @@
 -- The answer to what was read of a sheet: its lists stand in slices that were lent. Assumes nothing.
 use Prim.Native.Nat.{ℕ}
+use mathlib.Core.Path.{_≡_}
 use mathlib.Core.Bool.{Bool}
 use mathlib.Core.List.{List}
 use lib.Dec.{leb}
+use Rattle.model.specs.Sheets.{mostSegs, mostSteps}
+use Rattle.model.specs.Values.{zeros, idles, blankMarks}
 use Rattle.model.specs.declared.Head.{Head}
 use Rattle.model.specs.declared.Sheet.{Sheet}
 use Rattle.model.specs.declared.Verdict.the-variants.{Accepted}
@@ -36,3 +39,10 @@ answerAt (NoLines why) sheet = answerOf (rejected why)
 abbrev pub answerWith : SheetRead → List ℕ → List ℕ → List ℕ → List Bool → SheetAnswer
 answerWith r sizes holds touches marks =
     answerAt (r .lines) (sheetOn (r .form) (headWith (r .head) sizes holds) (r .steps) touches marks)
+
+-- the lists of a sheet before they are read
+pub record BlankLists (sizes holds touches : List ℕ) (marks : List Bool) : Type 0 where
+  pub sizes-zero : sizes ≡ zeros mostSegs
+  pub holds-zero : holds ≡ zeros mostSegs
+  pub idle-all : touches ≡ idles mostSteps
+  pub unmarked : marks ≡ blankMarks mostSteps

@@ -11,7 +11,7 @@ use Rattle.model.specs.declared.Kind.{Kind}
 use Rattle.model.specs.declared.Kind.the-variants.{Time}
 use Rattle.model.specs.declared.Refusal.{Refusal}
 use Rattle.sheet.specs.Lines.{Parsed, read, refused}
-use Rattle.scan.specs.inner.AtPlace.{parsedLines, linesNext, Filled}
+use Rattle.scan.specs.inner.AtPlace.{parsedLines, linesNext, ReadsAs, Filled}
 use Rattle.scan.specs.declared.numbers.LinesRead.the-variants.{Refused as NoLines}
 use Rattle.read_sheet.specs.declared.head_lines.HeadRead.{HeadRead}
 use Rattle.read_sheet.specs.declared.head_lines.KindAt.{KindAt}
@@ -25,6 +25,15 @@ parsedKind s (NoKind r) = refused r
 abbrev pub kindNext : KindAt → ℕ
 kindNext (KindThen k next) = next
 kindNext (NoKind r) = 0
+
+-- a kind's line that was read from the head of s
+abbrev pub KindReads : List ℕ → KindAt → Parsed Kind → Type 0
+KindReads s r p = ReadsAs s (kindNext r) (parsedKind s r) p
+
+-- the sizes and the warm segments before they are read
+pub record BlankHead (sizes holds : List ℕ) : Type 0 where
+  pub sizes-zero : sizes ≡ zeros mostSegs
+  pub holds-zero : holds ≡ zeros mostSegs
 
 -- a head with these warm segments
 abbrev pub withWarm : HeadValue → List ℕ → List ℕ → Parsed HeadValue

@@ -1,49 +1,40 @@
 -- `read_touches::refs_lines` meets its contract: the count, and then so many touches into the entries and the marks. Assumes nothing.
-use mathlib.Core.Path.{refl, sym, ap, _∙_}
-use Prim.Native.Nat.{_≤_}
+use mathlib.Core.Path.{refl}
 use native.Mathlib.Omega.{arith}
 use borrow.Author.Needs.{needs}
-use lib.ListN.{length}
 use Rattle.sheet.specs.Lines.{splitAt}
-use Rattle.scan.specs.inner.AtPlace.{parsedNumber, numberNext, linesNext}
-use Rattle.scan.proofs.Stages.{then-part, stage-refused, moved-within}
+use Rattle.scan.proofs.NumbersRead.{number-read, number-place, number-refused}
+use Rattle.scan.proofs.Stages.{then-reads, stage-refused}
 use Rattle.read_touches.proofs.refs_lines.Statement.{statement}
 use Rattle.read_touches.proofs.refs_lines.Tie as tie
-
--- the line refs= ends within the bytes
-place : (c : tie.After-n) → c .n .given .0 .1 .0 ≤ length (c .before .before .before .before .before .before .before .args .s .now)
-place c = omega (arith, c .before .before .number-line .ensures .1, ap numberNext (c .n .given .1))
 
 number-line-requires : tie.Need-number-line-requires
 unfolding splitAt
 number-line-requires c κs = refl
 
+-- the line refs= ends within the bytes
 sub-touch-lines : tie.Need-sub-touch-lines
-sub-touch-lines c = omega (arith, place (c .before))
-
-part-touch-lines-start : tie.Need-part-touch-lines-start
-part-touch-lines-start c = omega (arith, place (c .before))
+sub-touch-lines c = number-place (c .before .before .before .number-line .ensures) (c .before .n .given .1)
 
 returns : tie.Need-returns
 returns c =
-    let w = c .before in
-    let e = sym (w .before .before .number-line .ensures .0) ∙ ap (parsedNumber _) (w .why .given .1) in
-    (stage-refused (λ q. q) _ _ _ _ refl e, (omega arith, λ t. refl))
+    let e = number-refused (c .before .before .before .number-line .ensures) (c .before .why .given .1) in
+    record {
+      reads = record { same = stage-refused (λ q. q) _ _ _ _ refl e; within = omega arith };
+      unmarked = λ t. refl;
+    }
 
 returns-2 : tie.Need-returns-2
 returns-2 c =
     let m = c .before .before .before .before .before in
     let w = m .before .before .before .before .before in
-    let s = w .before .before .before .before .before .before .before .args .s .now in
-    let at = w .n .given .0 .1 .0 in
-    let q = m .touch-lines .result in
-    let e = sym (w .before .before .number-line .ensures .0) ∙ ap (parsedNumber _) (w .n .given .1) in (
-      then-part _ _ _ s at q (c .after .result) _ e (m .touch-lines .ensures .0) (c .after .ensures),
-      (
-        omega (arith, ap linesNext (c .after .ensures), moved-within s at q (place w) (m .touch-lines .ensures .1 .0)),
-        m .touch-lines .ensures .1 .1,
-      ),
-    )
+    let r = w .before .before .number-line .ensures in
+    record {
+      reads =
+          then-reads _ _ _ _ _ (m .touch-lines .result) _ _ (number-read r (w .n .given .1)) (number-place r (w .n .given .1))
+          (m .touch-lines .ensures .reads) (c .after .ensures);
+      unmarked = m .touch-lines .ensures .unmarked;
+    }
 
 pub refs-lines-spec : {M : Type 1} → statement M
 refs-lines-spec =
@@ -55,7 +46,7 @@ refs-lines-spec =
     (λ c. search needs)
     (λ c. search needs)
     sub-touch-lines
-    part-touch-lines-start
+    sub-touch-lines
     (λ c. search needs)
     (λ c. search needs)
     (λ c κs. search needs)

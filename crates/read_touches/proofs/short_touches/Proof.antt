@@ -23,7 +23,7 @@ as-many : (c : tie.At-loop Inv-loop μ-loop)
     → length (c .loop .marks) ≡ length (c .before .before .before .before .args .marks .now)
 as-many c =
     let a = c .before .before .before .before in
-    c .loop .inv .marks-whole ∙ sym (ap length (a .pre .1 .1) ∙ length-replicate (length (a .args .entries .now)) false)
+    c .loop .inv .marks-whole ∙ sym (ap length (a .pre .unmarked) ∙ length-replicate (length (a .args .entries .now)) false)
 
 -- the step of a short line lies within the steps
 step-within : (c : tie.Else1 Inv-loop μ-loop) → (1 ≤ c .before .short-touch .result .step)
@@ -31,11 +31,11 @@ step-within : (c : tie.Else1 Inv-loop μ-loop) → (1 ≤ c .before .short-touch
     × (c .before .short-touch .result .step ≤ length (c .before .before .before .before .loop .marks))
 step-within c =
     let i = c .before .before .before .before .loop .inv in
-    let f = touch-within _ _ _ _ _ _ _ (c .before .short-touch .ensures .1 (omega arith)) in
+    let f = touch-within _ _ _ _ _ _ _ (c .before .short-touch .ensures .same (omega arith)) in
     (f .0, omega (arith, f, i .whole), omega (arith, f, i .marks-whole))
 
 loop-holds : tie.Need-loop-holds Inv-loop μ-loop
-loop-holds c = let p = c .before .before .before .pre in touches-start _ _ _ _ _ _ _ refl (p .1 .0) (p .1 .1)
+loop-holds c = let p = c .before .before .before .pre in touches-start _ _ _ _ _ _ _ refl (p .idle-all) (p .unmarked)
 
 sub-entries : tie.Need-sub-entries Inv-loop μ-loop
 sub-entries c = omega (arith, step-within c)
@@ -57,7 +57,7 @@ slice-write-marks c = omega (arith, step-within c)
 loop-again : tie.Need-loop-again Inv-loop μ-loop
 loop-again c =
     let r = c .before .short-touch .ensures in
-    touches-step _ _ _ _ _ _ _ _ _ _ (c .before .before .before .before .loop .inv) _ _ _ _ (omega arith) (r .1 (omega arith)) (r .0)
+    touches-step _ _ _ _ _ _ _ _ _ _ (c .before .before .before .before .loop .inv) _ _ _ _ (omega arith) (r .same (omega arith)) (r .within)
 
 same-length-2 : tie.Need-same-length-2 Inv-loop μ-loop
 same-length-2 c = as-many (c .before)

@@ -28,7 +28,7 @@ begun c = c .before .before .before .before .before .before .before .before .bef
 as-many : (c : tie.At-loop Inv-loop μ-loop) → length (c .loop .marks) ≡ length (begun c .args .marks .now)
 as-many c =
     let a = begun c in
-    c .loop .inv .marks-whole ∙ sym (ap length (a .pre .1 .1) ∙ length-replicate (length (a .args .entries .now)) false)
+    c .loop .inv .marks-whole ∙ sym (ap length (a .pre .unmarked) ∙ length-replicate (length (a .args .entries .now)) false)
 
 -- the step of a touch lies within the steps
 step-within : (c : tie.After-segment Inv-loop μ-loop) → (let l = c .before .before .before .before .before in
@@ -36,7 +36,7 @@ step-within : (c : tie.After-segment Inv-loop μ-loop) → (let l = c .before .b
     × (c .segment .given .0 .1 .0 ≤ length (l .loop .marks)))
 step-within c =
     let i = c .before .before .before .before .before .loop .inv in
-    let f = touch-within _ _ _ _ _ _ _ (sym (c .before .before .touch-line .ensures .0) ∙ ap (parsedTouch _) (c .segment .given .1)) in
+    let f = touch-within _ _ _ _ _ _ _ (sym (c .before .before .touch-line .ensures .same) ∙ ap (parsedTouch _) (c .segment .given .1)) in
     (f .0, omega (arith, f, i .whole), omega (arith, f, i .marks-whole))
 
 loop-holds : tie.Need-loop-holds Inv-loop μ-loop
@@ -49,10 +49,11 @@ returns : tie.Need-returns Inv-loop μ-loop
 returns c =
     let w = c .before in
     let l = w .before .before .before .before .before in
-    let line = sym (w .before .before .touch-line .ensures .0) ∙ ap (parsedTouch _) (w .why .given .1) in (
-      sym (touches-stop _ _ _ _ _ _ _ _ _ _ (l .loop .inv) _ (omega arith) line),
-      (omega arith, λ t. l .loop .inv .unmarked t ∙ sym (begun l .pre .1 .1)),
-    )
+    let line = sym (w .before .before .touch-line .ensures .same) ∙ ap (parsedTouch _) (w .why .given .1) in
+    record {
+      reads = record { same = sym (touches-stop _ _ _ _ _ _ _ _ _ _ (l .loop .inv) _ (omega arith) line); within = omega arith };
+      unmarked = λ t. l .loop .inv .unmarked t ∙ sym (begun l .pre .unmarked);
+    }
 
 sub-entries : tie.Need-sub-entries Inv-loop μ-loop
 sub-entries c = omega (arith, step-within (c .before))
@@ -79,16 +80,16 @@ add-at c =
       arith,
       begun l .good,
       tail-place (begun l .args .s .now) (l .loop .at) (w .segment .given .0 .1 .1 .1 .0) (l .loop .inv .place)
-          (omega (arith, w .before .before .touch-line .ensures .1, ap touchNext (w .segment .given .1))),
+          (omega (arith, w .before .before .touch-line .ensures .within, ap touchNext (w .segment .given .1))),
     )
 
 loop-again : tie.Need-loop-again Inv-loop μ-loop
 loop-again c =
     let w = c .before in
     let l = w .before .before .before .before in
-    let line = sym (w .before .before .touch-line .ensures .0) ∙ ap (parsedTouch _) (w .segment .given .1) in
+    let line = sym (w .before .before .touch-line .ensures .same) ∙ ap (parsedTouch _) (w .segment .given .1) in
     touches-step _ _ _ _ _ _ _ _ _ _ (l .before .loop .inv) _ _ _ _ (omega arith) line
-    (omega (arith, w .before .before .touch-line .ensures .1, ap touchNext (w .segment .given .1)))
+    (omega (arith, w .before .before .touch-line .ensures .within, ap touchNext (w .segment .given .1)))
 
 same-length-4 : tie.Need-same-length-4 Inv-loop μ-loop
 same-length-4 c = as-many (c .before)
@@ -96,10 +97,11 @@ same-length-4 c = as-many (c .before)
 returns-2 : tie.Need-returns-2 Inv-loop μ-loop
 returns-2 c =
     let l = c .before in
-    let e = l .loop .inv in (
-      sym (touches-end _ _ _ _ _ _ _ _ _ _ e (c .loop-test .left)),
-      (e .place, λ t. e .unmarked t ∙ sym (begun l .pre .1 .1)),
-    )
+    let e = l .loop .inv in
+    record {
+      reads = record { same = sym (touches-end _ _ _ _ _ _ _ _ _ _ e (c .loop-test .left)); within = e .place };
+      unmarked = λ t. e .unmarked t ∙ sym (begun l .pre .unmarked);
+    }
 
 pub touch-lines-spec : {M : Type 1} → statement M
 touch-lines-spec =

@@ -5,10 +5,10 @@ use Rattle.reader.proofs.after.Statement.{statement}
 use Rattle.reader.proofs.after.Tie as tie
 
 returns : tie.Need-returns
-returns c = after-within _ _ _ (c .before .before .find .ensures .1) (c .before .if1 .taken)
+returns c = after-within _ _ _ (c .before .before .find .ensures .split) (c .before .if1 .taken)
 
 returns-2 : tie.Need-returns-2
-returns-2 c = after-none _ _ _ (c .before .before .find .ensures .1) (c .before .if1 .left)
+returns-2 c = after-none _ _ _ (c .before .before .find .ensures .split) (c .before .if1 .left)
 
 pub after-spec : {M : Type 1} → statement M
 after-spec =

@@ -16,10 +16,11 @@ returns c =
     let m = c .before in
     let t = m .before .before in
     let n = c .number-line .ensures in
-    (form-there _ _ _ _ _ _ (t .before .has-key .ensures) (t .if1 .taken) (m .least-form .ensures) (n .0), n .1)
+    let e = form-there _ _ _ _ _ _ (t .before .has-key .ensures) (t .if1 .taken) (m .least-form .ensures) (n .same) in
+    record { same = e; within = n .within }
 
 returns-2 : tie.Need-returns-2
-returns-2 c = (form-away _ _ _ _ (c .before .has-key .ensures) (c .if1 .left), omega arith)
+returns-2 c = record { same = form-away _ _ _ _ (c .before .has-key .ensures) (c .if1 .left); within = omega arith }
 
 pub form-line-spec : {M : Type 1} → statement M
 form-line-spec =

@@ -14,14 +14,14 @@ number-line-requires c κs = refl
 returns : tie.Need-returns
 unfolding namedForm
 returns c =
-    let e = sym (c .before .before .number-line .ensures .0) ∙ ap (parsedNumber _) (c .enum-told .given .1) in
+    let e = sym (c .before .before .number-line .ensures .same) ∙ ap (parsedNumber _) (c .enum-told .given .1) in
     sym (ap formIn e)
 
 returns-2 : tie.Need-returns-2
 unfolding namedForm
 returns-2 c =
     let w = c .before in
-    let e = sym (w .before .before .number-line .ensures .0) ∙ ap (parsedNumber _) (w .form .given .1) in
+    let e = sym (w .before .before .number-line .ensures .same) ∙ ap (parsedNumber _) (w .form .given .1) in
     sym (ap formIn e)
 
 pub named-form-spec : {M : Type 1} → statement M

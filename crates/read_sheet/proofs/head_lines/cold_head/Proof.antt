@@ -18,6 +18,10 @@ use Rattle.read_sheet.proofs.HeadStages.{head-refused}
 use Rattle.read_sheet.proofs.head_lines.cold_head.Statement.{statement}
 use Rattle.read_sheet.proofs.head_lines.cold_head.Tie as tie
 
+-- where the call began
+abbrev Begin : tie.After-counted-lines → tie.Start
+Begin c = c .before .before .before .before .before .before
+
 -- there is room for 256 sizes
 room : (c : tie.Start) → length (c .args .sizes .now) ≡ mostSegs
 room c = ap length (c .pre) ∙ zeros-length mostSegs
@@ -25,32 +29,28 @@ room c = ap length (c .pre) ∙ zeros-length mostSegs
 -- the sizes stand at the front of zeros
 sized : (c : tie.After-counted-lines)
     → Filled (c .counted-lines .result .count) (c .counted-lines .last .1 .1 .1 .1 .1 .1 .0) (zeros mostSegs)
-sized c = subst (Filled _ _) (c .before .before .before .before .before .before .pre) (c .counted-lines .ensures .1 .1)
+sized c = subst (Filled _ _) (Begin c .pre) (c .counted-lines .ensures .filled)
 
 -- the lines of the sizes end within the bytes
-place : (c : tie.After-lines2) → c .lines2 .given .0 .0
-    ≤ length (c .before .before .before .before .before .before .before .before .before .before .args .s .now)
-place c = omega (arith, c .before .before .before .before .counted-lines .ensures .1 .0, ap linesNext (c .lines2 .given .1))
+place : (c : tie.After-lines2) → c .lines2 .given .0 .0 ≤ length (Begin (c .before .before .before .before) .args .s .now)
+place c = omega (arith, c .before .before .before .before .counted-lines .ensures .reads .within, ap linesNext (c .lines2 .given .1))
 
 counted-lines-requires : tie.Need-counted-lines-requires
 unfolding splitAt
 counted-lines-requires c κs = ((refl, refl), (omega (arith, room (c .before .before .before .before .before)), omega arith))
 
 sub-price-lines : tie.Need-sub-price-lines
-sub-price-lines c = omega (arith, place (c .before))
-
-part-price-lines-start : tie.Need-part-price-lines-start
-part-price-lines-start c = omega (arith, place (c .before))
+sub-price-lines c = place (c .before)
 
 returns : tie.Need-returns
 unfolding tablesPart sizesPart
 returns c =
     let n = c .before .before .before .before .before .before in
-    let i = n .before .before .before .before .before .before in
+    let i = Begin n in
     let s = i .args .s .now in
     let segs = n .counted-lines .result .count in
     let xs = n .counted-lines .last .1 .1 .1 .1 .1 .1 .0 in
-    let d = counted-most segsKey sizeKey 1 1 largestSize _ mostSegs s _ (room i) (n .counted-lines .ensures .0) in
+    let d = counted-most segsKey sizeKey 1 1 largestSize _ mostSegs s _ (room i) (n .counted-lines .ensures .reads .same) in
     let e = d ∙ ap (λ l. parsedLines s l (take segs xs)) (c .before .before .lines .given .1) in
     head-refused s (c .no-head .result) _ segs xs (zeros mostSegs) _ (c .no-head .ensures)
     (sym (stage-refused (λ q. q) _ _ _ (refused _) refl e)) (sized n) refl
@@ -61,23 +61,23 @@ returns-2 c =
     let p = c .before .before in
     let w = p .before .before .before in
     let n = w .before .before .before .before in
-    let i = n .before .before .before .before .before .before in
+    let i = Begin n in
     let s = i .args .s .now in
     let at = w .lines2 .given .0 .0 in
     let l = p .price-lines .result .lines in
     let segs = n .counted-lines .result .count in
     let xs = n .counted-lines .last .1 .1 .1 .1 .1 .1 .0 in
-    let d = counted-most segsKey sizeKey 1 1 largestSize _ mostSegs s _ (room i) (n .counted-lines .ensures .0) in
+    let d = counted-most segsKey sizeKey 1 1 largestSize _ mostSegs s _ (room i) (n .counted-lines .ensures .reads .same) in
     let e = d ∙ ap (λ l. parsedLines s l (take segs xs)) (w .lines2 .given .1) in
     record {
       same =
           table-read (i .args .kind) (i .args .a) segs xs _ _ (zeros mostSegs) s at l (c .after .result) e
-          (p .price-lines .ensures .0) (c .after .ensures);
-      within = omega (arith, ap linesNext (c .after .ensures), moved-within s at l (place w) (p .price-lines .ensures .1 .0));
+          (p .price-lines .ensures .reads .same) (c .after .ensures);
+      within = moved-within s at l (c .after .result) (place w) (p .price-lines .ensures .reads .within) (c .after .ensures);
       filled =
           record {
             sizes = sized n;
-            prices = p .price-lines .ensures .1 .1;
+            prices = p .price-lines .ensures .filled;
             holds = filled-start 0 (zeros mostSegs) (zeros mostSegs) (omega arith) refl;
           };
     }
@@ -93,7 +93,7 @@ cold-head-spec =
     (λ c κs. search needs)
     (λ c. search needs)
     sub-price-lines
-    part-price-lines-start
+    sub-price-lines
     (λ c. search needs)
     (λ c κs. search needs)
     (λ c κs. search needs)

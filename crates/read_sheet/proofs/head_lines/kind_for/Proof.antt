@@ -10,20 +10,20 @@ returns : tie.Need-returns
 returns c =
     let k = c .before .before in
     let l = k .before .before .kind-line .ensures in
-    let e = sym (l .0) ∙ ap (parsedKind _) (k .kind .given .1) in
-    (rw (e, c .if1 .taken), omega (arith, l .1, ap kindNext (k .kind .given .1)))
+    let e = sym (l .same) ∙ ap (parsedKind _) (k .kind .given .1) in
+    record { same = rw (e, c .if1 .taken); within = omega (arith, l .within, ap kindNext (k .kind .given .1)) }
 
 returns-2 : tie.Need-returns-2
 returns-2 c =
     let w = c .before in
-    let e = sym (w .before .before .kind-line .ensures .0) ∙ ap (parsedKind _) (w .why .given .1) in
-    (rw e, omega arith)
+    let e = sym (w .before .before .kind-line .ensures .same) ∙ ap (parsedKind _) (w .why .given .1) in
+    record { same = rw e; within = omega arith }
 
 returns-3 : tie.Need-returns-3
 returns-3 c =
     let k = c .before .before in
-    let e = sym (k .before .before .kind-line .ensures .0) ∙ ap (parsedKind _) (k .kind .given .1) in
-    (rw (e, c .if1 .left), omega arith)
+    let e = sym (k .before .before .kind-line .ensures .same) ∙ ap (parsedKind _) (k .kind .given .1) in
+    record { same = rw (e, c .if1 .left); within = omega arith }
 
 pub kind-for-spec : {M : Type 1} → statement M
 kind-for-spec =

@@ -6,17 +6,17 @@ use Rattle.read_sheet.proofs.head_lines.kind_value.Statement.{statement
 use Rattle.read_sheet.proofs.head_lines.kind_value.Tie as tie
 
 returns : tie.Need-returns
-returns c = (λ s. rw (sym (c .before .same .ensures) ∙ c .if1 .taken), omega arith)
+returns c = record { same = λ s. rw (sym (c .before .same .ensures) ∙ c .if1 .taken); within = omega arith }
 
 returns-2 : tie.Need-returns-2
 returns-2 c =
     let d = c .before .before .before in
-    (λ s. rw (sym (d .before .same .ensures) ∙ d .if1 .left, sym (c .before .same2 .ensures) ∙ c .if2 .taken), omega arith)
+    record { same = λ s. rw (sym (d .before .same .ensures) ∙ d .if1 .left, sym (c .before .same2 .ensures) ∙ c .if2 .taken); within = omega arith }
 
 returns-3 : tie.Need-returns-3
 returns-3 c =
     let d = c .before .before .before in
-    (λ s. rw (sym (d .before .same .ensures) ∙ d .if1 .left, sym (c .before .same2 .ensures) ∙ c .if2 .left), omega arith)
+    record { same = λ s. rw (sym (d .before .same .ensures) ∙ d .if1 .left, sym (c .before .same2 .ensures) ∙ c .if2 .left); within = omega arith }
 
 pub kind-value-spec : {M : Type 1} → statement M
 kind-value-spec =

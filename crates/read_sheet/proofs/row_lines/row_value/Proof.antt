@@ -17,14 +17,15 @@ returns : tie.Need-returns
 returns c =
     let y = c .before in
     let x = y .before .before in
-    let k = x .before .before in (
-      λ s. c .row-of .ensures .0 s
-          ∙ row-value _ _ _ _ _ _ (k .before .find .ensures .1) (k .if1 .taken) (x .read .ensures) (y .read2 .ensures),
-      c .row-of .ensures .1,
-    )
+    let k = x .before .before in
+    let r = c .row-of .ensures in
+    record {
+      same = λ s. r .same s ∙ row-value _ _ _ _ _ _ (k .before .find .ensures .split) (k .if1 .taken) (x .read .ensures) (y .read2 .ensures);
+      within = r .within;
+    }
 
 returns-2 : tie.Need-returns-2
-returns-2 c = (λ s. row-none _ _ _ _ (c .before .find .ensures .1) (c .if1 .left), omega arith)
+returns-2 c = record { same = λ s. row-none _ _ _ _ (c .before .find .ensures .split) (c .if1 .left); within = omega arith }
 
 pub row-value-spec : {M : Type 1} → statement M
 row-value-spec =

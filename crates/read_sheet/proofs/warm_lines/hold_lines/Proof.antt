@@ -2,13 +2,13 @@
 -- `out`. Assumes nothing.
 use Prim.Native.Nat.{_-_}
 use mathlib.Core.Option.{none}
-use mathlib.Core.Path.{_≡_, sym, ap, _∙_}
+use mathlib.Core.Path.{sym}
 use native.Mathlib.Omega.{arith}
 use borrow.Author.Needs.{needs}
 use lib.ListN.{length, length-set}
 use Rattle.sheet.specs.Warm.{holdLines}
-use Rattle.scan.specs.inner.AtPlace.{parsedNumber, numberNext}
-use Rattle.scan.proofs.LinesPassed.{PassedLines, pass-start, pass-step, pass-stop, pass-whole}
+use Rattle.scan.proofs.NumbersRead.{number-read, number-place, number-refused}
+use Rattle.scan.proofs.LinesPassed.{PassedWhole, pass-start, pass-step, pass-stop, pass-whole}
 use Rattle.scan.proofs.Tails.{tail-place}
 use Rattle.read_sheet.specs.inner.HoldsAtPlace.{heldBefore}
 use Rattle.read_sheet.proofs.ReadWarm.{held-next, hold-bound, holds-repeat}
@@ -16,70 +16,69 @@ use Rattle.read_sheet.proofs.warm_lines.hold_lines.Statement.{statement
 use Rattle.read_sheet.proofs.warm_lines.hold_lines.Tie as tie
 
 abbrev Inv-loop : tie.InvT-loop
-Inv-loop s segs out₀ least₀ at₀ i₀ out least at i =
-    PassedLines (holdLines segs) (length out₀) none s out (heldBefore least) at i × (length out ≡ length out₀)
+Inv-loop s segs out₀ least₀ at₀ i₀ out least at i = PassedWhole (holdLines segs) none s out₀ out (heldBefore least) at i
 
 abbrev μ-loop : tie.MeasureT-loop
 μ-loop s segs out₀ least₀ at₀ i₀ out least at i = length out₀ - i
 
 loop-holds : tie.Need-loop-holds Inv-loop μ-loop
-loop-holds c = (pass-start _ _ _ (holds-repeat _) _ _ _ _ (omega arith), search needs)
+loop-holds c = record { passed = pass-start _ _ _ (holds-repeat _) _ _ _ _ (omega arith); whole = search needs }
 
 sub-hold-line : tie.Need-sub-hold-line Inv-loop μ-loop
-sub-hold-line c = omega (arith, c .before .loop .inv .0 .place)
-
-part-hold-line-start : tie.Need-part-hold-line-start Inv-loop μ-loop
-part-hold-line-start c = omega (arith, c .before .loop .inv .0 .place)
+sub-hold-line c = c .before .loop .inv .passed .place
 
 same-length : tie.Need-same-length Inv-loop μ-loop
-same-length c = c .before .before .before .before .before .before .loop .inv .1
+same-length c = c .before .before .before .before .before .before .loop .inv .whole
 
 returns : tie.Need-returns Inv-loop μ-loop
 returns c =
     let w = c .before in
     let d = w .before .before .before .before in
-    let line = sym (w .before .before .hold-line .ensures .0) ∙ ap (parsedNumber _) (w .why .given .1) in
-    (sym (pass-stop _ _ _ (holds-repeat _) _ _ _ _ _ _ _ (d .before .loop .inv .0) _ (omega arith) line), omega arith)
+    let line = number-refused (w .before .before .hold-line .ensures) (w .why .given .1) in
+    let e = pass-stop _ _ _ (holds-repeat _) _ _ _ _ _ _ _ (d .before .loop .inv .passed) _ (omega arith) line in
+    record { same = sym e; within = omega arith }
 
 cast-out : tie.Need-cast-out Inv-loop μ-loop
 cast-out c =
-    let w = c .before in
-    let line = sym (w .before .before .hold-line .ensures .0) ∙ ap (parsedNumber _) (w .n .given .1) in
-    omega (arith, hold-bound _ _ _ _ _ line, w .before .before .before .before .before .before .before .before .pre)
+    let h = c .before .before .before in
+    let line = number-read (h .hold-line .ensures) (c .before .n .given .1) in
+    omega (arith, hold-bound _ _ _ _ _ line, h .before .before .before .before .before .before .pre)
 
 add-least : tie.Need-add-least Inv-loop μ-loop
 add-least c =
-    let w = c .before in
-    let line = sym (w .before .before .hold-line .ensures .0) ∙ ap (parsedNumber _) (w .n .given .1) in
-    omega (arith, hold-bound _ _ _ _ _ line, w .before .before .before .before .before .before .before .before .pre)
+    let h = c .before .before .before in
+    let line = number-read (h .hold-line .ensures) (c .before .n .given .1) in
+    omega (arith, hold-bound _ _ _ _ _ line, h .before .before .before .before .before .before .pre)
 
 add-at : tie.Need-add-at Inv-loop μ-loop
 add-at c =
     let w = c .before in
     let d = w .before .before .before .before .before in
-    omega (
-      arith,
-      tail-place (d .before .before .before .args .s .now) (d .loop .at) (w .n .given .0 .1 .0) (d .loop .inv .0 .place)
-          (omega (arith, w .before .before .hold-line .ensures .1, ap numberNext (w .n .given .1))),
-    )
+    let p = number-place (w .before .before .hold-line .ensures) (w .n .given .1) in
+    omega (arith, tail-place (d .before .before .before .args .s .now) (d .loop .at) _ (d .loop .inv .passed .place) p)
 
 loop-again : tie.Need-loop-again Inv-loop μ-loop
 loop-again c =
     let w = c .before in
     let d = w .before .before .before .before in
-    let line = sym (w .before .before .hold-line .ensures .0) ∙ ap (parsedNumber _) (w .n .given .1) in (
-      rw (held-next (w .n .given .0 .0)) (pass-step _ _ _ (holds-repeat _) _ _ _ _ _ _ _ (d .before .loop .inv .0) _ _ (omega arith) line
-          (omega (arith, w .before .before .hold-line .ensures .1, ap numberNext (w .n .given .1)))),
-      rw length-set (d .before .loop .inv .1),
-    )
+    let r = w .before .before .hold-line .ensures in
+    let i = d .before .loop .inv in
+    record {
+      passed =
+          rw (held-next (w .n .given .0 .0))
+          (pass-step _ _ _ (holds-repeat _) _ _ _ _ _ _ _ (i .passed) _ _ (omega arith) (number-read r (w .n .given .1))
+          (number-place r (w .n .given .1)));
+      whole = rw length-set (i .whole);
+    }
 
 same-length-2 : tie.Need-same-length-2 Inv-loop μ-loop
-same-length-2 c = c .before .loop .inv .1
+same-length-2 c = c .before .loop .inv .whole
 
 returns-2 : tie.Need-returns-2 Inv-loop μ-loop
 returns-2 c =
-    let e = c .before .loop .inv in
-    (sym (pass-whole _ _ _ (holds-repeat _) _ _ _ _ _ _ _ (e .0) (omega arith) (omega (arith, e .1))), e .0 .place)
+    let i = c .before .loop .inv in
+    let e = pass-whole _ _ _ (holds-repeat _) _ _ _ _ _ _ _ (i .passed) (omega arith) (omega (arith, i .whole)) in
+    record { same = sym e; within = i .passed .place }
 
 pub hold-lines-spec : {M : Type 1} → statement M
 hold-lines-spec =
@@ -89,7 +88,7 @@ hold-lines-spec =
     μ-loop
     loop-holds
     sub-hold-line
-    part-hold-line-start
+    sub-hold-line
     (λ c. search needs)
     (λ c κs. search needs)
     (λ c. search needs)

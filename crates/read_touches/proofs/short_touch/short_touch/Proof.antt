@@ -10,6 +10,7 @@ use lib.ListN.{length, take}
 use Rattle.text.specs.Keys.{refKey}
 use Rattle.sheet.specs.Lines.{sameBytes}
 use Rattle.scan.proofs.KeyedLines.{long-key}
+use Rattle.scan.proofs.NumbersRead.{another-at}
 use Rattle.read_touches.proofs.ShortTouches.{short-touch}
 use Rattle.scan.proofs.Tails.{tail-place}
 use Rattle.read_touches.proofs.short_touch.short_touch.Statement.{statement}
@@ -35,7 +36,7 @@ first-within : (c : tie.Else2)
 first-within c =
     let k = c .before .before .before in
     tail-place (k .before .before .before .before .args .s .now) 4 _ (long k)
-    (omega (arith, c .before .number-before .ensures (first-some c) .0))
+    (omega (arith, c .before .number-before .ensures .within (first-some c)))
 
 -- and so do the step and what follows it up to the line feed
 second-within : (c : tie.Else3)
@@ -44,25 +45,13 @@ second-within : (c : tie.Else3)
 second-within c =
     let b = c .before .before .before in
     tail-place (b .before .before .before .before .before .before .before .args .s .now) _ _ (omega (arith, first-within b))
-    (c .before .step-before .ensures .0)
-
-sub-number-before : tie.Need-sub-number-before
-sub-number-before c = long c
-
-part-number-before-start : tie.Need-part-number-before-start
-part-number-before-start c = long c
+    (c .before .step-before .ensures .within)
 
 add-at : tie.Need-add-at
 add-at c = omega (arith, first-within c)
 
-add-at-2 : tie.Need-add-at-2
-add-at-2 c = omega (arith, first-within c)
-
 sub-step-before : tie.Need-sub-step-before
 sub-step-before c = omega (arith, first-within c)
-
-part-step-before-start : tie.Need-part-step-before-start
-part-step-before-start c = omega (arith, first-within c)
 
 add-t26 : tie.Need-add-t26
 add-t26 c = omega (arith, second-within (c .before .before .before))
@@ -72,11 +61,13 @@ returns-7 c =
     let d = c .before .before .before in
     let b = d .before .before .before in
     let k = b .before .before .before in
-    let t = d .before .step-before .ensures in (
-      omega (arith, second-within d),
-      λ h. short-touch _ _ _ _ _ _ _ _ _ _ (keyed k) (b .before .number-before .ensures (first-some b) .1) (t .1 (second-some d) .0)
-          (t .1 (second-some d) .1) (c .before .before .if4 .left) (c .before .if5 .left) (c .if6 .left),
-    )
+    let t = d .before .step-before .ensures in
+    record {
+      same = λ h.
+          short-touch _ _ _ _ _ _ _ _ _ _ (keyed k) (b .before .number-before .ensures .same (first-some b)) (t .letter (second-some d))
+          (t .same (second-some d)) (c .before .before .if4 .left) (c .before .if5 .left) (c .if6 .left);
+      within = omega (arith, second-within d);
+    }
 
 pub short-touch-spec : {M : Type 1} → statement M
 short-touch-spec =
@@ -85,27 +76,27 @@ short-touch-spec =
     (λ c. search needs)
     (λ c κs. search needs)
     (λ c κs. search needs)
-    (λ c. (omega arith, (λ h. absurd (omega arith))))
-    sub-number-before
-    part-number-before-start
+    (λ c. another-at (c .another-form .ensures))
+    long
+    long
     (λ c. search needs)
     (λ c κs. search needs)
     (λ c κs. search needs)
-    (λ c. (omega arith, (λ h. absurd (omega arith))))
+    (λ c. another-at (c .another-form2 .ensures))
     add-at
-    add-at-2
+    (λ c. omega (arith, first-within c))
     sub-step-before
-    part-step-before-start
+    sub-step-before
     (λ c. search needs)
     (λ c κs. search needs)
     (λ c κs. search needs)
-    (λ c. (omega arith, (λ h. absurd (omega arith))))
+    (λ c. another-at (c .another-form3 .ensures))
     (λ c κs. search needs)
-    (λ c. (omega arith, (λ h. absurd (omega arith))))
+    (λ c. another-at (c .another-form4 .ensures))
     (λ c κs. search needs)
-    (λ c. (omega arith, (λ h. absurd (omega arith))))
+    (λ c. another-at (c .another-form5 .ensures))
     (λ c κs. search needs)
-    (λ c. (omega arith, (λ h. absurd (omega arith))))
+    (λ c. another-at (c .another-form6 .ensures))
     (λ c. search needs)
     (λ c. search needs)
     add-t26

@@ -15,7 +15,7 @@ within : (c : tie.After-step-bytes) → (let k = c .before .before in
     k .before .find .result + 1 + c .step-bytes .result ≤ length (k .before .before .before .args .v .now))
 within c =
     let k = c .before .before in
-    tail-place (k .before .before .before .args .v .now) (k .before .find .result + 1) _ (omega arith) (c .step-bytes .ensures .0)
+    tail-place (k .before .before .before .args .v .now) (k .before .find .result + 1) _ (omega arith) (c .step-bytes .ensures .within)
 
 add-end : tie.Need-add-end
 add-end c = omega (arith, within c)
@@ -33,11 +33,11 @@ returns c =
     let b = x .before .before in
     let k = b .before .before in
     c .pair-of .ensures
-    ∙ pair-within _ _ _ _ _ _ (k .before .find .ensures .1) _ _ _ _ (k .if1 .taken) (b .step-bytes .ensures .1) refl (x .read .ensures)
+    ∙ pair-within _ _ _ _ _ _ (k .before .find .ensures .split) _ _ _ _ (k .if1 .taken) (b .step-bytes .ensures .split) refl (x .read .ensures)
     (y .read2 .ensures)
 
 returns-2 : tie.Need-returns-2
-returns-2 c = pair-none _ _ _ _ _ _ (c .before .find .ensures .1) (c .if1 .left)
+returns-2 c = pair-none _ _ _ _ _ _ (c .before .find .ensures .split) (c .if1 .left)
 
 pub pair-around-spec : {M : Type 1} → statement M
 pair-around-spec =

@@ -16,23 +16,27 @@ cast-t17 c =
 returns : tie.Need-returns
 returns c =
     let p = c .before .before in
-    (λ s. touch-value _ _ _ _ (p .before .before .pre .0) _ _ _ _ (p .pair-around .ensures) (c .enum-told .given .1), omega arith)
+    let v = touch-value _ _ _ _ (p .before .before .pre .some) _ in
+    record { same = λ s. v _ _ _ (p .pair-around .ensures) (c .enum-told .given .1); within = omega arith }
 
 returns-2 : tie.Need-returns-2
 returns-2 c =
     let p = c .before .before in
-    (λ s. touch-value _ _ _ _ (p .before .before .pre .0) _ _ _ _ (p .pair-around .ensures) (c .enum-told2 .given .1), omega arith)
+    let v = touch-value _ _ _ _ (p .before .before .pre .some) _ in
+    record { same = λ s. v _ _ _ (p .pair-around .ensures) (c .enum-told2 .given .1); within = omega arith }
 
 returns-3 : tie.Need-returns-3
 returns-3 c =
     let p = c .before .before in
-    (λ s. touch-value _ _ _ _ (p .before .before .pre .0) _ _ _ _ (p .pair-around .ensures) (c .enum-told3 .given .1), omega arith)
+    let v = touch-value _ _ _ _ (p .before .before .pre .some) _ in
+    record { same = λ s. v _ _ _ (p .pair-around .ensures) (c .enum-told3 .given .1); within = omega arith }
 
 returns-4 : tie.Need-returns-4
 returns-4 c =
     let x = c .before in
     let p = x .before .before in
-    (λ s. touch-value _ _ _ _ (p .before .before .pre .0) _ _ _ _ (p .pair-around .ensures) (x .x .given .1), omega arith)
+    let v = touch-value _ _ _ _ (p .before .before .pre .some) _ in
+    record { same = λ s. v _ _ _ (p .pair-around .ensures) (x .x .given .1); within = omega arith }
 
 pub touch-value-spec : {M : Type 1} → statement M
 touch-value-spec =

@@ -21,14 +21,12 @@ same-from-requires-2 c κs =
     let w = c .before in
     let l = w .before .before in
     let k = l .before .before in
-    let a = k .before .before .args in (
-      (omega arith, l .before .if1 .left),
-      word-same (a .s .now) (a .t .now) (λ i. omega (arith, k .before .shared-slice-known .given i))
-          (λ i. omega (arith, k .shared-slice-known2 .given i))
-          (l .if2 .left)
-          (l .before .if1 .left)
-          (sym (w .before .word .ensures) ∙ (c .if3 .left ∙ w .word2 .ensures)),
-    )
+    let a = k .before .before .args in
+    word-same (a .s .now) (a .t .now) (λ i. omega (arith, k .before .shared-slice-known .given i))
+    (λ i. omega (arith, k .shared-slice-known2 .given i))
+    (l .if2 .left)
+    (l .before .if1 .left)
+    (sym (w .before .word .ensures) ∙ (c .if3 .left ∙ w .word2 .ensures))
 
 pub same-spec : {M : Type 1} → statement M
 same-spec =

@@ -3,7 +3,8 @@ use Prim.Native.Nat.{_-_}
 use mathlib.Core.Path.{sym}
 use borrow.Author.Needs.{needs}
 use lib.ListN.{length}
-use Rattle.scan.proofs.Splits.{Compared, compare-step, compare-stop, compare-end}
+use Rattle.scan.specs.inner.AtPlace.{Compared}
+use Rattle.scan.proofs.Splits.{compare-step, compare-stop, compare-end}
 use Rattle.scan.proofs.bytes.same_from.Statement.{statement}
 use Rattle.scan.proofs.bytes.same_from.Tie as tie
 

@@ -1,33 +1,29 @@
 -- `scan::numbers::counted_lines` meets its contract: the count, and then so many lines into the front of `out`. Assumes nothing.
-use mathlib.Core.Path.{refl, sym, ap, _∙_}
+use mathlib.Core.Path.{refl, sym}
 use Prim.Native.Nat.{_≤_}
 use native.Mathlib.Omega.{arith}
 use borrow.Author.Needs.{needs}
 use lib.ListN.{length}
 use lib.Seq.{length-take-le}
-use Rattle.scan.specs.inner.AtPlace.{parsedNumber, numberNext, parsedLines, linesNext}
-use Rattle.scan.proofs.Blanks.{filled-start, front-filled, front-take}
-use Rattle.scan.proofs.Stages.{then-part, stage-refused, moved-within, lines-into}
+use Rattle.scan.specs.inner.AtPlace.{linesNext}
+use Rattle.scan.proofs.Blanks.{filled-start}
+use Rattle.scan.proofs.Stages.{stage-refused, counted-reads}
 use Rattle.scan.proofs.NumberLines.{number-bounds}
+use Rattle.scan.proofs.NumbersRead.{number-read, number-place, number-refused}
 use Rattle.scan.proofs.Tails.{tail-place}
 use Rattle.scan.proofs.numbers.counted_lines.Statement.{statement}
 use Rattle.scan.proofs.numbers.counted_lines.Tie as tie
 
--- the count is within the length of `out`
-counted-within : (c : tie.After-n) → c .n .given .0 .0 ≤ length (c .before .before .before .before .before .before .before .args .out .now)
-counted-within c =
-    let e = sym (c .before .before .number-line .ensures .0) ∙ ap (parsedNumber _) (c .n .given .1) in
-    number-bounds _ _ _ _ _ _ e .1
+-- what the count's line gives
+abbrev Count : tie.After-n → tie.After-number-line
+Count c = c .before .before
 
--- and its line ends within the bytes
-place : (c : tie.After-n) → c .n .given .0 .1 .0 ≤ length (c .before .before .before .before .before .before .before .args .s .now)
-place c = omega (arith, c .before .before .number-line .ensures .1, ap numberNext (c .n .given .1))
+-- the count is within the length of `out`
+counted-within : (c : tie.After-n) → c .n .given .0 .0 ≤ length (Count c .before .before .before .before .before .args .out .now)
+counted-within c = number-bounds _ _ _ _ _ _ (number-read (Count c .number-line .ensures) (c .n .given .1)) .1
 
 sub-number-lines : tie.Need-sub-number-lines
-sub-number-lines c = omega (arith, place (c .before))
-
-part-number-lines-start : tie.Need-part-number-lines-start
-part-number-lines-start c = omega (arith, place (c .before))
+sub-number-lines c = number-place (Count (c .before) .number-line .ensures) (c .before .n .given .1)
 
 slice-relend-prefix-number-lines : tie.Need-slice-relend-prefix-number-lines
 slice-relend-prefix-number-lines c = omega (arith, counted-within (c .before .before))
@@ -39,35 +35,26 @@ after-requires : tie.Need-after-requires
 after-requires c κs =
     let m = c .before .before in
     let w = m .before .before .before .before in
-    let s = w .before .before .before .before .before .before .before .args .s .now in
-    omega (arith, tail-place s (w .n .given .0 .1 .0) (linesNext (m .number-lines .result)) (place w) (m .number-lines .ensures .1))
+    let s = Count w .before .before .before .before .before .args .s .now in
+    let p = number-place (Count w .number-line .ensures) (w .n .given .1) in
+    omega (arith, tail-place s (w .n .given .0 .1 .0) (linesNext (m .number-lines .result)) p (m .number-lines .ensures .within))
 
 returns : tie.Need-returns
 returns c =
-    let w = c .before in
-    let e = sym (w .before .before .number-line .ensures .0) ∙ ap (parsedNumber _) (w .why .given .1) in
-    (stage-refused (λ q. q) _ _ _ _ refl e, (omega arith, filled-start 0 _ _ (omega arith) refl))
+    let e = number-refused (c .before .before .before .number-line .ensures) (c .before .why .given .1) in
+    record {
+      reads = record { same = stage-refused (λ q. q) _ _ _ _ refl e; within = omega arith };
+      filled = filled-start 0 _ _ (omega arith) refl;
+    }
 
 returns-2 : tie.Need-returns-2
 returns-2 c =
     let m = c .before .before .before in
     let w = m .before .before .before .before in
-    let a = w .before .before .before .before .before .before .before .args in
-    let n = w .n .given .0 .0 in
-    let at = w .n .given .0 .1 .0 in
-    let q = m .number-lines .result in
-    let xs = m .number-lines .last .1 .1 .1 .1 .0 in
-    let h = slice-aggregate-number-lines (m .before) in
-    let l = m .number-lines .kept .1 .1 .1 .1 .0 ∙ sym h in
-    let e = sym (w .before .before .number-line .ensures .0) ∙ ap (parsedNumber _) (w .n .given .1) in
-    let f = sym (lines-into _ _ _ _ q q n (a .out .now) xs h (m .number-lines .ensures .0) refl) in
-    let t = front-take n xs (a .out .now) (a .out .now) l in (
-      ap (parsedLines (a .s .now) (c .after .result)) t ∙ then-part _ _ n (a .s .now) at q (c .after .result) xs e f (c .after .ensures),
-      (
-        omega (arith, ap linesNext (c .after .ensures), moved-within (a .s .now) at q (place w) (m .number-lines .ensures .1)),
-        front-filled n xs (a .out .now) (a .out .now) l (counted-within w) refl,
-      ),
-    )
+    let r = Count w .number-line .ensures in
+    counted-reads _ _ _ _ _ (m .number-lines .result) _ (m .number-lines .last .1 .1 .1 .1 .0) _ (number-read r (w .n .given .1))
+    (number-place r (w .n .given .1)) (counted-within w) (m .number-lines .kept .1 .1 .1 .1 .0) (m .number-lines .ensures)
+    (c .after .ensures)
 
 pub counted-lines-spec : {M : Type 1} → statement M
 counted-lines-spec =
@@ -79,7 +66,7 @@ counted-lines-spec =
     (λ c. search needs)
     (λ c. search needs)
     sub-number-lines
-    part-number-lines-start
+    sub-number-lines
     (λ c. search needs)
     slice-relend-prefix-number-lines
     slice-aggregate-number-lines

@@ -5,21 +5,20 @@ use Rattle.scan.proofs.NumberLines.{number-value}
 use Rattle.scan.proofs.numbers.number_value.Statement.{statement}
 use Rattle.scan.proofs.numbers.number_value.Tie as tie
 
-enum-told : tie.Need-enum-told
-enum-told c = search needs
-
 returns : tie.Need-returns
-returns c = (λ s. number-value _ _ _ _ _ _ (c .before .before .read .ensures) (c .enum-told .given .1), omega arith)
+returns c =
+    record { same = λ s. number-value _ _ _ _ _ _ (c .before .before .read .ensures) (c .enum-told .given .1); within = omega arith }
 
 returns-2 : tie.Need-returns-2
-returns-2 c = (λ s. number-value _ _ _ _ _ _ (c .before .before .read .ensures) (c .enum-told2 .given .1), omega arith)
+returns-2 c =
+    record { same = λ s. number-value _ _ _ _ _ _ (c .before .before .read .ensures) (c .enum-told2 .given .1); within = omega arith }
 
 returns-3 : tie.Need-returns-3
 returns-3 c =
     let n = c .before in
-    (λ s. number-value _ _ _ _ _ _ (n .before .before .read .ensures) (n .n .given .1), omega arith)
+    record { same = λ s. number-value _ _ _ _ _ _ (n .before .before .read .ensures) (n .n .given .1); within = omega arith }
 
 pub number-value-spec : {M : Type 1} → statement M
 number-value-spec =
     tie.close
-    (tie.spec (λ c κs. search needs) enum-told (λ c. search needs) (λ c. search needs) returns returns-2 returns-3)
+    (tie.spec (λ c κs. search needs) (λ c. search needs) (λ c. search needs) (λ c. search needs) returns returns-2 returns-3)

@@ -1,11 +1,12 @@
 -- `scan::numbers::short_line` meets its contract: the digits after the key reach up to the line feed. Assumes nothing.
-use mathlib.Core.Path.{_≡_, sym, _∙_}
+use mathlib.Core.Path.{_≡_, refl, sym, _∙_}
 use mathlib.Core.Bool.{true}
 use native.Mathlib.Omega.{arith}
 use borrow.Author.Tests.{not-false}
 use lib.ListN.{length, take}
 use Rattle.sheet.specs.Lines.{sameBytes}
 use Rattle.scan.proofs.KeyedLines.{long-key}
+use Rattle.scan.proofs.NumbersRead.{another-at}
 use Rattle.scan.proofs.ShortLines.{short-number}
 use borrow.Author.Needs.{needs}
 use Rattle.scan.proofs.numbers.short_line.Statement.{statement}
@@ -18,57 +19,38 @@ keyed : (c : tie.Else1)
     ≡ true
 keyed c = sym (c .before .has-key .ensures) ∙ not-false _ (c .if1 .left)
 
-returns : tie.Need-returns
-returns c = (omega arith, (λ h. absurd (omega arith)))
-
 sub-front : tie.Need-sub-front
 sub-front c = let a = c .before .before .before .before .args in long-key (a .s .now) (a .key .now) (keyed c)
-
-part-front-start : tie.Need-part-front-start
-part-front-start c = sub-front c
-
-returns-2 : tie.Need-returns-2
-returns-2 c = (omega arith, (λ h. absurd (omega arith)))
-
-returns-3 : tie.Need-returns-3
-returns-3 c = (omega arith, (λ h. absurd (omega arith)))
-
-returns-4 : tie.Need-returns-4
-returns-4 c = (omega arith, (λ h. absurd (omega arith)))
-
-returns-5 : tie.Need-returns-5
-returns-5 c = (omega arith, (λ h. absurd (omega arith)))
-
-returns-6 : tie.Need-returns-6
-returns-6 c = (omega arith, (λ h. absurd (omega arith)))
 
 returns-7 : tie.Need-returns-7
 returns-7 c =
     let r = c .before .before .before in
     let f = r .before .before .before in
-    let k = f .before .before in (
-      omega arith,
-      λ h. short-number _ _ (k .before .before .before .before .pre) (keyed k) _ _ _ _ (f .front .ensures .0)
-          (f .front .ensures .1 .0 (omega arith)) (f .front .ensures .1 .1) (r .before .if3 .left) (c .before .before .if4 .left)
-          (c .before .if5 .left) (c .if6 .left),
-    )
+    let k = f .before .before in
+    let n = f .front .ensures in
+    record {
+      same = λ h.
+          short-number _ _ (k .before .before .before .before .pre) (keyed k) _ _ _ _ (n .within) (n .number (omega arith)) (n .value-is)
+          (r .before .if3 .left) (c .before .before .if4 .left) (c .before .if5 .left) (c .if6 .left);
+      within = omega arith;
+    }
 
 pub short-line-spec : {M : Type 1} → statement M
 short-line-spec =
     tie.close
     (tie.spec
     (λ c κs. search needs)
-    returns
+    (λ c. another-at refl)
     sub-front
-    part-front-start
+    sub-front
     (λ c. search needs)
     (λ c κs. search needs)
     (λ c. search needs)
-    returns-2
-    returns-3
+    (λ c. another-at refl)
+    (λ c. another-at refl)
     (λ c. search needs)
-    returns-4
-    returns-5
-    returns-6
+    (λ c. another-at refl)
+    (λ c. another-at refl)
+    (λ c. another-at refl)
     (λ c. search needs)
     returns-7)
