@@ -148,7 +148,8 @@ fn short_line(s: &[u8], key: &[u8], lo: u32, hi: u32) -> Short
 fn short_lines(s: &[u8], key: &[u8], lo: u32, hi: u32, out: &mut [u16]) -> Front
     requires { ⌜ splitAt lineFeed (now key) ≡ unsplit ⌝ }
     requires { ⌜ hi ≤ 65535 ⌝ }
-    ensures { λ r. ⌜ FrontReads (now (key .entry)) lo hi (length (now (out .entry))) (now (s .entry)) (now (out .exit)) (r .count) (r .at) ⌝ }
+    ensures { λ r. ⌜ FrontReads (now (key .entry)) lo hi (length (now (out .entry))) (now (s .entry)) (now (out .exit))
+        (r .count) (r .at) ⌝ }
 {
     let mut at = 0;
     let mut i = 0;

@@ -77,8 +77,8 @@ returns-2 c =
     let l = e .before .before .loop in
     let two = written-width 1 (l .rest) (omega (arith, e .if1 .left)) (omega (arith, e .before .loop-test .left)) in (
       omega (arith, e .before .before .before .width .ensures),
-      fill-last-two _ _ _ (l .rest) (l .left) (l .inv .filling) (omega (arith, l .inv .left-is, two)) (omega (arith, e .before .loop-test .left))
-          (p .put-pair2 .ensures),
+      fill-last-two _ _ _ (l .rest) (l .left) (l .inv .filling) (omega (arith, l .inv .left-is, two))
+          (omega (arith, e .before .loop-test .left)) (p .put-pair2 .ensures),
     )
 
 pub write-spec : {M : Type 1} → statement M

@@ -21,8 +21,8 @@ returns-3 c h f n =
     let w = c .before .before .before .before .before .before .before .before in
     let e = w .entry-lines .ensures in
     let p = w .before .before .before .before .before .before .pre in
-    run-ended _ _ _ _ _ _ _ (e .reads .same) h f n _ (c .before .before .lines .given .1) (c .if1 .left) (subst (Filled _ _) (p .idle-all) (e .filled))
-    (subst (Filled _ _) (p .unmarked) (e .marked))
+    run-ended _ _ _ _ _ _ _ (e .reads .same) h f n _ (c .before .before .lines .given .1) (c .if1 .left)
+    (subst (Filled _ _) (p .idle-all) (e .filled)) (subst (Filled _ _) (p .unmarked) (e .marked))
 
 pub run-lines-spec : {M : Type 1} → statement M
 run-lines-spec =

@@ -57,7 +57,8 @@ slice-write-marks c = omega (arith, step-within c)
 loop-again : tie.Need-loop-again Inv-loop μ-loop
 loop-again c =
     let r = c .before .short-touch .ensures in
-    touches-step _ _ _ _ _ _ _ _ _ _ (c .before .before .before .before .loop .inv) _ _ _ _ (omega arith) (r .same (omega arith)) (r .within)
+    touches-step _ _ _ _ _ _ _ _ _ _ (c .before .before .before .before .loop .inv) _ _ _ _ (omega arith) (r .same (omega arith))
+    (r .within)
 
 same-length-2 : tie.Need-same-length-2 Inv-loop μ-loop
 same-length-2 c = as-many (c .before)

@@ -76,7 +76,8 @@ returns c =
     let i = w .before .before .before .before .before .before in
     let e = sym (w .before .before .kind-for .ensures .same) ∙ ap (parsedKind _) (w .why .given .1) in
     head-refused (i .args .s .now) (c .no-head .result) _ 0 _ _ _ (c .no-head .ensures)
-    (sym (stage-refused (λ q. q) _ _ _ (refused _) refl e)) (filled-start 0 _ (zeros mostSegs) (omega arith) (i .pre .sizes-zero)) (i .pre .holds-zero)
+    (sym (stage-refused (λ q. q) _ _ _ (refused _) refl e))
+    (filled-start 0 _ (zeros mostSegs) (omega arith) (i .pre .sizes-zero)) (i .pre .holds-zero)
 
 returns-2 : tie.Need-returns-2
 unfolding headPart

@@ -11,12 +11,18 @@ returns c = record { same = λ s. rw (sym (c .before .same .ensures) ∙ c .if1 
 returns-2 : tie.Need-returns-2
 returns-2 c =
     let d = c .before .before .before in
-    record { same = λ s. rw (sym (d .before .same .ensures) ∙ d .if1 .left, sym (c .before .same2 .ensures) ∙ c .if2 .taken); within = omega arith }
+    record {
+      same = λ s. rw (sym (d .before .same .ensures) ∙ d .if1 .left, sym (c .before .same2 .ensures) ∙ c .if2 .taken);
+      within = omega arith;
+    }
 
 returns-3 : tie.Need-returns-3
 returns-3 c =
     let d = c .before .before .before in
-    record { same = λ s. rw (sym (d .before .same .ensures) ∙ d .if1 .left, sym (c .before .same2 .ensures) ∙ c .if2 .left); within = omega arith }
+    record {
+      same = λ s. rw (sym (d .before .same .ensures) ∙ d .if1 .left, sym (c .before .same2 .ensures) ∙ c .if2 .left);
+      within = omega arith;
+    }
 
 pub kind-value-spec : {M : Type 1} → statement M
 kind-value-spec =

@@ -20,7 +20,8 @@ returns c =
     let k = x .before .before in
     let r = c .row-of .ensures in
     record {
-      same = λ s. r .same s ∙ row-value _ _ _ _ _ _ (k .before .find .ensures .split) (k .if1 .taken) (x .read .ensures) (y .read2 .ensures);
+      same = λ s.
+          r .same s ∙ row-value _ _ _ _ _ _ (k .before .find .ensures .split) (k .if1 .taken) (x .read .ensures) (y .read2 .ensures);
       within = r .within;
     }
 

@@ -33,8 +33,8 @@ returns c =
     let b = x .before .before in
     let k = b .before .before in
     c .pair-of .ensures
-    ∙ pair-within _ _ _ _ _ _ (k .before .find .ensures .split) _ _ _ _ (k .if1 .taken) (b .step-bytes .ensures .split) refl (x .read .ensures)
-    (y .read2 .ensures)
+    ∙ pair-within _ _ _ _ _ _ (k .before .find .ensures .split) _ _ _ _ (k .if1 .taken) (b .step-bytes .ensures .split) refl
+    (x .read .ensures) (y .read2 .ensures)
 
 returns-2 : tie.Need-returns-2
 returns-2 c = pair-none _ _ _ _ _ _ (c .before .find .ensures .split) (c .if1 .left)
