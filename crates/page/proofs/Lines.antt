@@ -6,6 +6,7 @@ use mathlib.Core.Bool.{Bool, true, false, cond}
 use mathlib.Core.List.{List, [], _∷_, _++_, map}
 use native.Mathlib.Nat.{not-suc-le-zero, le-of-suc-le-suc}
 use native.Mathlib.Omega.{arith}
+use borrow.Table.Steps.{cases}
 use lib.Dec.{ltb, leb}
 use borrow.Author.Tests.{ltb-true, ltb-false, leb-true, leb-false, le-leb, lt-leb}
 use lib.ListN.{length, getD, take, drop, replicate, length-append, length-replicate, length-take, length-drop, List·getD-append}
@@ -160,11 +161,7 @@ pages-length kind a fs h g l =
 
 -- at least one page, and two where there are more than 58 rows
 pub pages-least : (rows : ℕ) → 4380 ≤ pagesLength rows
-pages-least rows = go (leb rows rowsOnPage)
-  where
-    go : (b : Bool) → 4380 ≤ cond b 4380 8760
-    go true = omega arith
-    go false = omega arith
+pages-least rows = cases (leb rows rowsOnPage) (λ e. rw e (omega arith)) (λ e. rw e (omega arith))
 
 pub pages-two : (rows : ℕ) → rowsOnPage < rows → pagesLength rows ≡ 8760
 pages-two rows h = rw (lt-leb rows rowsOnPage h)

@@ -1,5 +1,5 @@
 -- The page in the parts in which it is written. Assumes nothing.
-use Prim.Native.Nat.{ℕ, _+_, _-_, _≤_, _<_}
+use Prim.Native.Nat.{ℕ, _+_, _*_, _-_, _≤_, _<_}
 use mathlib.Core.Path.{_≡_, refl, sym, ap, _∙_}
 use mathlib.Core.List.{List, [], _∷_, _++_, map, append-assoc, append-nil}
 use native.Mathlib.Omega.{arith}
@@ -11,7 +11,9 @@ use Rattle.model.specs.declared.RowFigures.{RowFigures}
 use Rattle.decimal.specs.Decimal.{written}
 use Rattle.text.specs.Keys.{lineFeed, kindKey, kindWord, aKey}
 use Rattle.text.specs.Texts.{linesText}
+use Rattle.text.proofs.Putting.{Filled, filled-next, put-nothing, put-same}
 use Rattle.text.proofs.Runs.{lines-next}
+use Rattle.page.specs.inner.Wide.{PutWide}
 use Rattle.page.specs.Page.{
   rowsOnPage,
   blank,
@@ -50,6 +52,11 @@ row-parts f g =
   where
     six : (u v w x y z t : List ℕ) → u ++ (v ++ (w ++ (x ++ (y ++ (z ++ t))))) ≡ (u ++ (v ++ (w ++ (x ++ (y ++ z))))) ++ t
     six u v w x y z t = simp append-assoc
+
+-- the words of line 1 have at most 13 characters
+pub kind-within : (kind : Kind) → length (kindKey ++ (kindWord kind ++ (blank ∷ aKey))) ≤ 13
+kind-within Time = omega arith
+kind-within Space = omega arith
 
 -- line 1: its words, the number, and blanks and the line feed
 pub title-parts : (kind : Kind) (a at value end : ℕ) → value ≡ at + length (kindKey ++ (kindWord kind ++ (blank ∷ aKey)))
@@ -104,6 +111,28 @@ blank-parts = refl
 pub blank-lines-next : (i : ℕ)
     → concatenated (replicate (i + 1) blankLine) ≡ concatenated (replicate i blankLine) ++ (blanks 72 ++ (lineFeed ∷ []))
 blank-lines-next i = rw (← replicate-next i blankLine, concatenated-next) (ap (λ l. concatenated (replicate i blankLine) ++ l) blank-parts)
+
+-- what holds where a loop has put the lines from first to before i, of those before end: each has 73 bytes
+pub record LinesPut (first i end : ℕ) (text : List ℕ) (at : ℕ) (place : List ℕ) (next : ℕ) (out : List ℕ) : Type 0 where
+  pub from : first ≤ i
+  pub filled : Filled i end text at place next out
+  pub wide : next ≡ at + 73 * (i - first)
+
+-- before the first
+pub lines-start : {first end at : ℕ} {text p : List ℕ} → first ≤ end → at ≤ length p → [] ≡ text → LinesPut first first end text at p at p
+lines-start h l e = record {
+  from = omega arith;
+  filled = record { within = h; same-length = refl; put = put-same e (put-nothing _ _ l) };
+  wide = omega arith;
+}
+
+-- one line more
+pub lines-more : {first i end at m e : ℕ} {x y z p q r : List ℕ} → LinesPut first i end x at p m q → i < end → PutWide y 73 m q e r
+    → z ≡ x ++ y → LinesPut first (i + 1) end z at p e r
+lines-more {first} {i} f h g s =
+    let n = f .from in
+    let w = f .wide in
+    record { from = omega arith; filled = filled-next (f .filled) h (g .put) s; wide = omega (arith, g .wide) }
 
 -- ---- pages
 

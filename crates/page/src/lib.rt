@@ -19,13 +19,14 @@ ghost use Rattle.model.specs.Standing.{Standing};
 ghost use Rattle.model.specs.Values.{valueOf};
 ghost use Rattle.text.specs.inner.Puts.{Put};
 ghost use Rattle.text.specs.Keys.{kindKey, kindWord, aKey};
+ghost use Rattle.page.specs.inner.Wide.{PutWide};
 ghost use Rattle.page.specs.Page.{blank, blanks, field, titleLine, namesLine, rowLine, blankLine};
 ghost use Rattle.page.specs.Page.{pageLines, concatenated, pages, pagesOf, pagesLength, Fits};
 
 // Writes `n` blanks, and gives the index after them.
 fn put_blanks(n: usize, out: &mut [u8], at: usize) -> usize
     requires { ⌜ at + n ≤ length (now out) ⌝ }
-    ensures { λ r. ⌜ Put (blanks n) at (now (out .entry)) r (now (out .exit)) × (r ≡ at + n) ⌝ }
+    ensures { λ r. ⌜ PutWide (blanks n) n at (now (out .entry)) r (now (out .exit)) ⌝ }
 {
     let mut i = 0;
     while i < n {
@@ -38,7 +39,7 @@ fn put_blanks(n: usize, out: &mut [u8], at: usize) -> usize
 // Writes `n` blanks and a line feed, and gives the index after it.
 fn put_end(n: usize, out: &mut [u8], at: usize) -> usize
     requires { ⌜ at + n + 1 ≤ length (now out) ⌝ }
-    ensures { λ r. ⌜ Put (blanks n ++ (10 ∷ [])) at (now (out .entry)) r (now (out .exit)) × (r ≡ at + n + 1) ⌝ }
+    ensures { λ r. ⌜ PutWide (blanks n ++ (10 ∷ [])) (n + 1) at (now (out .entry)) r (now (out .exit)) ⌝ }
 {
     let last = put_blanks(n, out, at);
     out[last] = 10;
@@ -48,7 +49,7 @@ fn put_end(n: usize, out: &mut [u8], at: usize) -> usize
 // Writes `gap` blanks and then a number, right-aligned in a column of `width` characters, and gives the index after it.
 fn put_field(gap: usize, width: usize, n: u64, out: &mut [u8], at: usize) -> usize
     requires { ⌜ (length (written n) ≤ width) × (at + (gap + width) ≤ length (now out)) ⌝ }
-    ensures { λ r. ⌜ Put (blanks gap ++ field width (written n)) at (now (out .entry)) r (now (out .exit)) × (r ≡ at + (gap + width)) ⌝ }
+    ensures { λ r. ⌜ PutWide (blanks gap ++ field width (written n)) (gap + width) at (now (out .entry)) r (now (out .exit)) ⌝ }
 {
     let first = put_blanks(gap + (width - decimal::width(n)), out, at);
     decimal::write(n, out, first)
@@ -57,7 +58,7 @@ fn put_field(gap: usize, width: usize, n: u64, out: &mut [u8], at: usize) -> usi
 // Writes the line of a row, and gives the index after it.
 fn put_row(f: RowFigures, out: &mut [u8], at: usize) -> usize
     requires { ⌜ Fits f × (at + 73 ≤ length (now out)) ⌝ }
-    ensures { λ r. ⌜ Put (rowLine f) at (now (out .entry)) r (now (out .exit)) × (r ≡ at + 73) ⌝ }
+    ensures { λ r. ⌜ PutWide (rowLine f) 73 at (now (out .entry)) r (now (out .exit)) ⌝ }
 {
     let d = put_field(0, 7, f.h, out, at);
     let misses = put_field(2, 7, f.d, out, d);
@@ -78,8 +79,8 @@ fn put_rows(
 ) -> usize
     requires { ⌜ (first ≤ end) × (end ≤ 64) × ((r : ℕ) → r < end → Fits (getD figures r zeroFigures))
         × (at + 73 * (end - first) ≤ length (now out)) ⌝ }
-    ensures { λ r. ⌜ Put (concatenated (map rowLine (take (end - first) (drop first figures)))) at (now (out .entry)) r (now (out .exit))
-        × (r ≡ at + 73 * (end - first)) ⌝ }
+    ensures { λ r. ⌜ PutWide (concatenated (map rowLine (take (end - first) (drop first figures)))) (73 * (end - first)) at
+        (now (out .entry)) r (now (out .exit)) ⌝ }
 {
     let mut next = at;
     let mut i = first;
@@ -94,7 +95,7 @@ fn put_rows(
 // Writes the start of line 1, up to the number, and gives the index after it.
 fn put_kind(kind: Kind, out: &mut [u8], at: usize) -> usize
     requires { ⌜ at + 13 ≤ length (now out) ⌝ }
-    ensures { λ r. ⌜ Put (kindKey ++ (kindWord kind ++ (blank ∷ aKey))) at (now (out .entry)) r (now (out .exit)) × (r ≤ at + 13) ⌝ }
+    ensures { λ r. ⌜ Put (kindKey ++ (kindWord kind ++ (blank ∷ aKey))) at (now (out .entry)) r (now (out .exit)) ⌝ }
 {
     match kind {
         Kind::Time => put(b"kind=time a=", out, at),
@@ -105,7 +106,7 @@ fn put_kind(kind: Kind, out: &mut [u8], at: usize) -> usize
 // Writes line 1, and gives the index after it.
 fn put_title(kind: Kind, a: u8, out: &mut [u8], at: usize) -> usize
     requires { ⌜ at + 73 ≤ length (now out) ⌝ }
-    ensures { λ r. ⌜ Put (titleLine kind a) at (now (out .entry)) r (now (out .exit)) × (r ≡ at + 73) ⌝ }
+    ensures { λ r. ⌜ PutWide (titleLine kind a) 73 at (now (out .entry)) r (now (out .exit)) ⌝ }
 {
     let value = put_kind(kind, out, at);
     let end = decimal::write(a as u64, out, value);
@@ -115,7 +116,7 @@ fn put_title(kind: Kind, a: u8, out: &mut [u8], at: usize) -> usize
 // Writes line 2, and gives the index after it.
 fn put_names(out: &mut [u8], at: usize) -> usize
     requires { ⌜ at + 73 ≤ length (now out) ⌝ }
-    ensures { λ r. ⌜ Put namesLine at (now (out .entry)) r (now (out .exit)) × (r ≡ at + 73) ⌝ }
+    ensures { λ r. ⌜ PutWide namesLine 73 at (now (out .entry)) r (now (out .exit)) ⌝ }
 {
     put(
         b"      h        d    misses        volume          load          mean    \n",
@@ -127,7 +128,7 @@ fn put_names(out: &mut [u8], at: usize) -> usize
 // Writes `n` lines of blanks, and gives the index after them.
 fn put_blank_lines(n: usize, out: &mut [u8], at: usize) -> usize
     requires { ⌜ at + 73 * n ≤ length (now out) ⌝ }
-    ensures { λ r. ⌜ Put (concatenated (replicate n blankLine)) at (now (out .entry)) r (now (out .exit)) × (r ≡ at + 73 * n) ⌝ }
+    ensures { λ r. ⌜ PutWide (concatenated (replicate n blankLine)) (73 * n) at (now (out .entry)) r (now (out .exit)) ⌝ }
 {
     let mut next = at;
     let mut i = 0;
@@ -150,9 +151,8 @@ fn put_page(
 ) -> usize
     requires { ⌜ (first ≤ end) × (end ≤ 64) × (end ≤ first + 58) × ((r : ℕ) → r < end → Fits (getD figures r zeroFigures))
         × (at + 4380 ≤ length (now out)) ⌝ }
-    ensures { λ r. ⌜ Put (concatenated (pageLines kind a (take (end - first) (drop first figures)))) at (now (out .entry)) r
-        (now (out .exit))
-        × (r ≡ at + 4380) ⌝ }
+    ensures { λ r. ⌜ PutWide (concatenated (pageLines kind a (take (end - first) (drop first figures)))) 4380 at (now (out .entry)) r
+        (now (out .exit)) ⌝ }
 {
     let names = put_title(kind, a, out, at);
     let rows = put_names(out, names);

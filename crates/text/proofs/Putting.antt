@@ -1,4 +1,4 @@
--- Laws of a text put into a place: nothing, one byte, and one text after another. Assumes nothing.
+-- Laws of a text put into a place: nothing, one byte, one text after another, and a loop that puts part after part. Assumes nothing.
 use Prim.Native.Nat.{ℕ, _+_, _≤_, _<_}
 use mathlib.Core.Path.{_≡_, refl, sym, ap, _∙_}
 use mathlib.Core.List.{List, [], _∷_, _++_, append-assoc}
@@ -50,10 +50,14 @@ put-of text at place f e h = record { fits = f; ends = e; holds = h }
 pub put-same : {x y p r : List ℕ} {at e : ℕ} → x ≡ y → Put x at p e r → Put y at p e r
 put-same h f = rw h at f
 
+-- the place keeps its length
+pub put-keeps : {x p q : List ℕ} {at e : ℕ} → Put x at p e q → length q ≡ length p
+put-keeps {x} {p} {q} {at} f = rw (f .holds) (put-length at x p (f .fits))
+
 -- one text and then another after it
 pub put-then : {x y p q r : List ℕ} {at m e : ℕ} → Put x at p m q → Put y m q e r → Put (x ++ y) at p e r
 put-then {x} {y} {p} {q} {r} {at} {m} {e} f g =
-    let l : length q ≡ length p = rw (f .holds) (put-length at x p (f .fits)) in
+    let l = put-keeps f in
     record {
       fits = rw length-append (omega (arith, f .ends, g .fits));
       ends = rw length-append (omega (arith, f .ends, g .ends));
@@ -65,3 +69,22 @@ pub put-next : (text : List ℕ) (i at : ℕ) (p q : List ℕ) → i < length te
     → Put (take i text) at p (at + i) q → Put (take (i + 1) text) at p (at + (i + 1)) (set q (at + i) (getD text i 0))
 put-next text i at p q h room l f =
     rw (add-one i, take-suc text i 0 h, ← add-one i, ← add-assoc) (put-then f (put-byte (getD text i 0) (at + i) q (omega arith)))
+
+-- ---- part after part
+
+-- what holds where a loop has put i parts of n: their text is put from the index at on
+pub record Filled (i n : ℕ) (text : List ℕ) (at : ℕ) (place : List ℕ) (next : ℕ) (out : List ℕ) : Type 0 where
+  pub within : i ≤ n
+  pub same-length : length out ≡ length place
+  pub put : Put text at place next out
+
+-- before the first
+pub filled-start : (n at : ℕ) (p : List ℕ) → at ≤ length p → Filled 0 n [] at p at p
+filled-start n at p h = record { within = omega arith; same-length = refl; put = put-nothing at p h }
+
+-- one part more
+pub filled-next : {i n at m e : ℕ} {x y z p q r : List ℕ} → Filled i n x at p m q → i < n → Put y m q e r → z ≡ x ++ y
+    → Filled (i + 1) n z at p e r
+filled-next f h g s =
+    let t = put-same (sym s) (put-then (f .put) g) in
+    record { within = omega arith; same-length = put-keeps t; put = t }

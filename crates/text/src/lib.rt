@@ -1,17 +1,20 @@
 // Writing lines: a text, the digits of a number, and the line of a number, each from an index of the lent place on.
 // What a place becomes is written in specs/; nothing is assumed.
-ghost use mathlib.Core.Path.{_≡_};
+use model::PlaceAnswer;
+use model::Refusal;
+use model::Verdict;
 ghost use mathlib.Core.List.{[], _∷_, _++_};
 ghost use Prim.Native.Nat.{_+_, _≤_};
 ghost use lib.ListN.{length};
 ghost use Rattle.decimal.specs.Decimal.{written};
-ghost use Rattle.text.specs.inner.Puts.{Put};
+ghost use Rattle.model.specs.Places.{gives, PlaceLeft};
+ghost use Rattle.text.specs.inner.Puts.{Put, LengthOf};
 ghost use Rattle.text.specs.Texts.{numberText};
 
 // The length of the line of a number.
 pub fn number_length(key: &[u8], n: u64) -> usize
     requires { ⌜ length (now key) ≤ 9 ⌝ }
-    ensures { λ r. ⌜ (r ≡ length (numberText (now (key .entry)) n)) × (r ≤ length (now (key .entry)) + 21) ⌝ }
+    ensures { λ r. ⌜ LengthOf (numberText (now (key .entry)) n) (length (now (key .entry)) + 21) r ⌝ }
 {
     key.len() + decimal::width(n) + 1
 }
@@ -27,6 +30,19 @@ pub fn put(text: &[u8], out: &mut [u8], at: usize) -> usize
         i += 1;
     }
     at + i
+}
+
+// Copies `text` to the front of a lent place; refusal 11 and no change where the place is shorter.
+pub fn place(text: &[u8], out: &mut [u8]) -> PlaceAnswer
+    ensures { λ r. ⌜ PlaceLeft (gives (now (text .entry))) (now (out .entry)) (now (out .exit)) r ⌝ }
+{
+    if out.len() < text.len() {
+        return PlaceAnswer::refused(Refusal::PlaceTooShort);
+    }
+    PlaceAnswer {
+        verdict: Verdict::Accepted,
+        length: put(text, out, 0),
+    }
 }
 
 // Writes the digits of `n` and the byte `end` after them, and gives the index after it.

@@ -1,11 +1,11 @@
 -- The value of a head whose counts are cut off at the lengths of its arrays: it is the same. Assumes nothing.
 use Prim.Native.Nat.{ℕ, min}
-use mathlib.Core.Path.{_≡_, refl, sym, _∙_}
-use mathlib.Core.Bool.{Bool, true, false}
+use mathlib.Core.Path.{_≡_, sym, _∙_}
 use mathlib.Core.List.{List}
 use native.Mathlib.Nat.{min-eq-left}
 use native.Mathlib.Omega.{arith}
 use borrow.Author.Tests.{leb-true, leb-false}
+use borrow.Table.Steps.{cases}
 use lib.Dec.{leb}
 use lib.ListN.{length, take}
 use lib.Seq.{take-all}
@@ -20,13 +20,9 @@ clampedHead h segs rows warm =
 
 -- the first n elements are the first of n and the length
 pub take-min : {A : Type 0} (xs : List A) (n m most : ℕ) → length xs ≡ most → m ≡ min n most → take m xs ≡ take n xs
-take-min xs n m most l e = go (leb n most) refl
-  where
-    go : (b : Bool) → leb n most ≡ b → take m xs ≡ take n xs
-    go true h = rw (e, min-eq-left (leb-true n most h))
-    go false h =
-        let f = leb-false n most h in
-        take-all m xs (omega arith) ∙ sym (take-all n xs (omega arith))
+take-min xs n m most l e =
+    cases (leb n most) (λ h. rw (e, min-eq-left (leb-true n most h)))
+    (λ h. let f = leb-false n most h in take-all m xs (omega arith) ∙ sym (take-all n xs (omega arith)))
 
 -- so a head's value is the same with each count cut off at the length of its array
 pub head-clamped : (h : Head) (segs rows warm : ℕ)

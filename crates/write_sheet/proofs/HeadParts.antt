@@ -1,8 +1,9 @@
 -- The text of a head in the parts in which it is written, and the lengths of the parts. Assumes nothing.
 use Prim.Native.Nat.{ℕ, _+_, _≤_}
-use mathlib.Core.Path.{_≡_, refl}
-use mathlib.Core.Bool.{Bool, true, false, cond}
+use mathlib.Core.Path.{_≡_}
+use mathlib.Core.Bool.{true, false}
 use mathlib.Core.List.{List, [], _++_, append-assoc}
+use borrow.Table.Steps.{cases}
 use lib.Dec.{leb}
 use lib.ListN.{length, take, length-append}
 use lib.Seq.{length-take-le}
@@ -51,11 +52,7 @@ module _ (form : ℕ) where
 -- the warm segments
 warm : (form segs : ℕ) (xs : List ℕ) → textOf (warmFor (leb 3 form) segs .lines xs) ≡ warmText form xs
 unfolding warmText linesText
-warm form segs xs = go (leb 3 form)
-  where
-    go : (b : Bool) → textOf (warmFor b segs .lines xs) ≡ cond b (countedText warmKey holdKey xs) []
-    go true = warm-text segs xs
-    go false = refl
+warm form segs xs = cases (leb 3 form) (λ e. rw e (warm-text segs xs)) (λ e. rw e)
 
 -- texts in the parts of a head and in those that are written
 joined : (a b c d e : List ℕ) → a ++ (b ++ ((c ++ d) ++ e)) ≡ (a ++ (b ++ (c ++ d))) ++ e

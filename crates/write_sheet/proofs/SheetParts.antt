@@ -1,17 +1,17 @@
 -- The text of a sheet in the parts in which it is written, and the lengths of the parts. Assumes nothing.
 use Prim.Native.Nat.{ℕ, _+_}
-use mathlib.Core.Path.{_≡_, refl}
-use mathlib.Core.Bool.{Bool, true, false, cond}
-use mathlib.Core.List.{List, [], _∷_, _++_, append-nil}
+use mathlib.Core.Path.{_≡_}
+use mathlib.Core.Bool.{Bool, true, false}
+use mathlib.Core.List.{List, [], _++_, append-nil}
+use borrow.Table.Steps.{cases}
 use lib.Dec.{leb}
 use lib.ListN.{length, length-append}
 use Rattle.model.specs.Sheets.{HeadValue, SheetValue}
-use Rattle.decimal.specs.Decimal.{written}
-use Rattle.text.specs.Keys.{formKey, stepsKey, refsKey, refKey}
+use Rattle.text.specs.Keys.{formKey, refsKey, refKey}
 use Rattle.text.specs.Texts.{numberText, linesText}
-use Rattle.sheet.specs.Order.{formLines, entriesPart}
+use Rattle.sheet.specs.Order.{formLines}
 use Rattle.sheet.specs.Parts.{textOf}
-use Rattle.sheet.specs.Touches.{Entries, touchesOf, touchesText}
+use Rattle.sheet.specs.Touches.{Entries}
 use Rattle.sheet.specs.Writing.{sheetText}
 use Rattle.sheet.proofs.PartTexts.{plain-text, steps-text, entriesText, entriesIn, sheet-text}
 use Rattle.write_sheet.specs.inner.Heads.{countedText, headText}
@@ -40,23 +40,13 @@ module _ (form : ℕ) where
 -- the form line
 form-text : (form : ℕ) → textOf (formLines form) ≡ formText form
 unfolding formText linesText
-form-text form = go (leb 2 form)
-  where
-    go : (b : Bool) → textOf (cond b ((formKey, written form) ∷ []) []) ≡ cond b (numberText formKey form) []
-    go true = append-nil (numberText formKey form)
-    go false = refl
+form-text form = cases (leb 2 form) (λ e. rw e (append-nil (numberText formKey form))) (λ e. rw e)
 
 -- the entries
 runs : (form : ℕ) (h : HeadValue) (e : Entries) → entriesText form h e ≡ runText form (e .entries) (e .marks)
 unfolding entriesText runText stepsText
-runs form h e = go (leb 2 form)
-  where
-    go : (b : Bool) → textOf (entriesPart b (leb 4 form) (length (h .sizes)) .lines e)
-        ≡ cond b
-        (numberText stepsKey (length (e .entries)) ++ (numberText refsKey (length (touchesOf e)) ++ touchesText (touchesOf e)))
-        (countedText refsKey refKey (e .entries))
-    go true = steps-text (leb 4 form) (length (h .sizes)) e
-    go false = plain-text (length (h .sizes)) e
+runs form h e =
+    cases (leb 2 form) (λ f. rw f (steps-text (leb 4 form) (length (h .sizes)) e)) (λ f. rw f (plain-text (length (h .sizes)) e))
 
 -- the whole
 pub text-parts : (v : SheetValue)

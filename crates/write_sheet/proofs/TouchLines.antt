@@ -99,11 +99,6 @@ module _ (marks : List Bool) (xs : List ℕ) (i : ℕ) (h : i < length xs) where
       let n = ap length text-next ∙ length-append (touchesText (upTo i)) (touchesText here) in
       omega (arith, m, n)
 
-  -- how long they are
-  pub length-next : (sum n : ℕ) → sum ≡ length (touchesText (upTo i)) → n ≡ length (touchesText here)
-      → sum + n ≡ length (touchesText (upTo (i + 1)))
-  length-next sum n e f = rw (text-next, length-append, e, f)
-
   -- how many touches
   pub count-next : (count n : ℕ) → count ≡ length (upTo i) → n ≡ length here → count + n ≡ length (upTo (i + 1))
   count-next count n e f = rw (touches-next, length-append, e, f)

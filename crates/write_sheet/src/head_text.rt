@@ -15,7 +15,7 @@ ghost use lib.ListN.{length, take};
 ghost use Rattle.model.specs.Sheets.{mostRows, mostSteps};
 ghost use Rattle.model.specs.Values.{headValueOf};
 ghost use Rattle.text.specs.Keys.{kindKey, kindWord};
-ghost use Rattle.text.specs.inner.Puts.{Put};
+ghost use Rattle.text.specs.inner.Puts.{Put, LengthOf};
 ghost use Rattle.text.specs.Texts.{lineText};
 ghost use Rattle.sheet.specs.Values.{rowText};
 ghost use Rattle.write_sheet.specs.inner.Heads.{countedText, numbersText, rowsText, segmentsText, pricedText, warmText, headText};
@@ -38,7 +38,7 @@ fn has_warm(form: u8) -> bool
 
 // The length of the line of a kind.
 fn kind_length(kind: Kind) -> usize
-    ensures { λ r. ⌜ (r ≡ length (lineText kindKey (kindWord kind))) × (r ≤ 11) ⌝ }
+    ensures { λ r. ⌜ LengthOf (lineText kindKey (kindWord kind)) 11 r ⌝ }
 {
     match kind {
         Kind::Time => 10,
@@ -49,7 +49,7 @@ fn kind_length(kind: Kind) -> usize
 // The length of the lines of numbers.
 fn numbers_length(key: &[u8], xs: &[u16]) -> usize
     requires { ⌜ (length (now key) ≤ 5) × (length (now xs) ≤ mostSteps) ⌝ }
-    ensures { λ r. ⌜ (r ≡ length (numbersText (now (key .entry)) (now (xs .entry)))) × (r ≤ 53248) ⌝ }
+    ensures { λ r. ⌜ LengthOf (numbersText (now (key .entry)) (now (xs .entry))) 53248 r ⌝ }
 {
     let mut sum: usize = 0;
     let mut i = 0;
@@ -63,14 +63,14 @@ fn numbers_length(key: &[u8], xs: &[u16]) -> usize
 // The length of the line that counts the numbers, and of their lines.
 pub fn counted_length(count: &[u8], key: &[u8], xs: &[u16]) -> usize
     requires { ⌜ (length (now count) ≤ 5) × (length (now key) ≤ 5) × (length (now xs) ≤ mostSteps) ⌝ }
-    ensures { λ r. ⌜ (r ≡ length (countedText (now (count .entry)) (now (key .entry)) (now (xs .entry)))) × (r ≤ 53274) ⌝ }
+    ensures { λ r. ⌜ LengthOf (countedText (now (count .entry)) (now (key .entry)) (now (xs .entry))) 53274 r ⌝ }
 {
     number_length(count, xs.len() as u64) + numbers_length(key, xs)
 }
 
 // The length of the line of a row.
 fn row_length(q: PriceRow) -> usize
-    ensures { λ r. ⌜ (r ≡ length (rowText q)) × (r ≤ 16) ⌝ }
+    ensures { λ r. ⌜ LengthOf (rowText q) 16 r ⌝ }
 {
     6 + decimal::width(q.h as u64) + decimal::width(q.d as u64)
 }
@@ -78,7 +78,7 @@ fn row_length(q: PriceRow) -> usize
 // The length of the lines of the first `n` rows.
 fn rows_length(prices: [PriceRow; Sheet::MAX_ROWS], n: usize) -> usize
     requires { ⌜ n ≤ mostRows ⌝ }
-    ensures { λ r. ⌜ (r ≡ length (rowsText (take n prices))) × (r ≤ 1024) ⌝ }
+    ensures { λ r. ⌜ LengthOf (rowsText (take n prices)) 1024 r ⌝ }
 {
     let mut sum: usize = 0;
     let mut i = 0;
@@ -93,7 +93,7 @@ fn rows_length(prices: [PriceRow; Sheet::MAX_ROWS], n: usize) -> usize
 // The length of the lines from kind= to the sizes.
 fn segments_length(kind: Kind, a: u8, sizes: &[u16]) -> usize
     requires { ⌜ length (now sizes) ≤ mostSteps ⌝ }
-    ensures { λ r. ⌜ (r ≡ length (segmentsText kind a (now (sizes .entry)))) × (r ≤ 53311) ⌝ }
+    ensures { λ r. ⌜ LengthOf (segmentsText kind a (now (sizes .entry))) 53311 r ⌝ }
 {
     kind_length(kind) + number_length(b"a=", a as u64) + counted_length(b"segs=", b"size=", sizes)
 }
@@ -101,7 +101,7 @@ fn segments_length(kind: Kind, a: u8, sizes: &[u16]) -> usize
 // The length of the line that counts the first `n` rows, and of their lines.
 fn priced_length(prices: [PriceRow; Sheet::MAX_ROWS], n: usize) -> usize
     requires { ⌜ n ≤ mostRows ⌝ }
-    ensures { λ r. ⌜ (r ≡ length (pricedText (take n prices))) × (r ≤ 1050) ⌝ }
+    ensures { λ r. ⌜ LengthOf (pricedText (take n prices)) 1050 r ⌝ }
 {
     number_length(b"rows=", n as u64) + rows_length(prices, n)
 }
@@ -109,7 +109,7 @@ fn priced_length(prices: [PriceRow; Sheet::MAX_ROWS], n: usize) -> usize
 // The length of the lines of the warm segments, which a sheet has from form 3 on.
 fn warm_length(form: u8, holds: &[u16]) -> usize
     requires { ⌜ length (now holds) ≤ mostSteps ⌝ }
-    ensures { λ r. ⌜ (r ≡ length (warmText form (now (holds .entry)))) × (r ≤ 53274) ⌝ }
+    ensures { λ r. ⌜ LengthOf (warmText form (now (holds .entry))) 53274 r ⌝ }
 {
     if has_warm(form) {
         return counted_length(b"warm=", b"hold=", holds);
@@ -119,7 +119,7 @@ fn warm_length(form: u8, holds: &[u16]) -> usize
 
 // The length of the lines of a head in a form.
 pub fn head_length(form: u8, head: Head) -> usize
-    ensures { λ r. ⌜ (r ≡ length (headText form (headValueOf head))) × (r ≤ 107635) ⌝ }
+    ensures { λ r. ⌜ LengthOf (headText form (headValueOf head)) 107635 r ⌝ }
 {
     let kind = head.kind;
     let sizes = head.sizes;

@@ -20,7 +20,7 @@ ghost use lib.ListN.{length};
 ghost use Rattle.model.specs.Sheets.{mostSteps};
 ghost use Rattle.model.specs.Places.{gives, PlaceLeft};
 ghost use Rattle.model.specs.Values.{valueOf};
-ghost use Rattle.text.specs.inner.Puts.{Put};
+ghost use Rattle.text.specs.inner.Puts.{Put, LengthOf};
 ghost use Rattle.write_sheet.specs.inner.Parts.{formText, runText};
 ghost use Rattle.sheet.specs.Writing.{sheetText};
 
@@ -28,7 +28,7 @@ ghost use Rattle.sheet.specs.Writing.{sheetText};
 
 // The length of the form line.
 fn form_length(form: u8) -> usize
-    ensures { λ r. ⌜ (r ≡ length (formText form)) × (r ≤ 26) ⌝ }
+    ensures { λ r. ⌜ LengthOf (formText form) 26 r ⌝ }
 {
     if 2 <= form {
         return number_length(b"form=", form as u64);
@@ -39,7 +39,7 @@ fn form_length(form: u8) -> usize
 // The length of the lines of the entries of a form.
 fn run_length(form: u8, entries: &[u16], marks: &[bool]) -> usize
     requires { ⌜ length (now entries) ≤ mostSteps ⌝ }
-    ensures { λ r. ⌜ (r ≡ length (runText form (now (entries .entry)) (now (marks .entry)))) × (r ≤ 65589) ⌝ }
+    ensures { λ r. ⌜ LengthOf (runText form (now (entries .entry)) (now (marks .entry))) 65589 r ⌝ }
 {
     if 2 <= form {
         return touch_text::steps_length(entries, marks);

@@ -8,13 +8,13 @@ use text::put_number;
 ghost use mathlib.Core.Path.{_≡_};
 ghost use mathlib.Core.Bool.{Bool, cond};
 ghost use mathlib.Core.List.{List, [], _∷_};
-ghost use Prim.Native.Nat.{ℕ, _+_, _≤_, _<_};
+ghost use Prim.Native.Nat.{_+_, _≤_, _<_};
 ghost use lib.Dec.{eqb};
 ghost use lib.ListN.{length};
 ghost use Rattle.model.specs.Sheets.{idle, mostSteps, marksOf};
 ghost use Rattle.text.specs.Keys.{lineFeed, markLetter};
-ghost use Rattle.text.specs.inner.Puts.{Put};
-ghost use Rattle.write_sheet.specs.inner.Steps.{touchesWith, stepsText};
+ghost use Rattle.text.specs.inner.Puts.{Put, LengthOf};
+ghost use Rattle.write_sheet.specs.inner.Steps.{touchesWith, stepsText, EntryCount};
 ghost use Rattle.sheet.specs.Touches.{touchesFrom, touchText, touchesText};
 
 // Whether the entry is that of a step without a touch.
@@ -38,8 +38,7 @@ fn modifies_at(marks: &[bool], t: usize) -> bool
 
 // How many touches the entry of a step stands for.
 fn entry_count(x: u16) -> u16
-    ensures { λ r. ⌜ ((marks : ℕ → Bool) (before : ℕ) → r ≡ length (touchesFrom marks before (x ∷ []))) ⌝ }
-    ensures { λ r. ⌜ r ≤ 1 ⌝ }
+    ensures { λ r. ⌜ EntryCount x r ⌝ }
 {
     if is_idle(x) {
         return 0;
@@ -70,7 +69,7 @@ fn letter_length(modifies: bool) -> usize
 
 // The length of the line of a touch.
 fn touch_length(x: u16, step: usize, modifies: bool) -> usize
-    ensures { λ r. ⌜ (r ≡ length (touchText (record { segment = x; step = step; modifies = modifies }))) × (r ≤ 32) ⌝ }
+    ensures { λ r. ⌜ LengthOf (touchText (record { segment = x; step = step; modifies = modifies })) 32 r ⌝ }
 {
     6 + decimal::width(x as u64) + decimal::width(step as u64) + letter_length(modifies)
 }
@@ -78,7 +77,7 @@ fn touch_length(x: u16, step: usize, modifies: bool) -> usize
 // The length of the line of an entry, which is that of the step after `before`.
 fn entry_length(x: u16, before: usize, marks: &[bool]) -> usize
     requires { ⌜ before < mostSteps ⌝ }
-    ensures { λ r. ⌜ (r ≡ length (touchesText (touchesFrom (marksOf (now (marks .entry))) before (x ∷ [])))) × (r ≤ 32) ⌝ }
+    ensures { λ r. ⌜ LengthOf (touchesText (touchesFrom (marksOf (now (marks .entry))) before (x ∷ []))) 32 r ⌝ }
 {
     if is_idle(x) {
         return 0;
@@ -89,7 +88,7 @@ fn entry_length(x: u16, before: usize, marks: &[bool]) -> usize
 // The length of the lines of touches.
 fn touches_length(entries: &[u16], marks: &[bool]) -> usize
     requires { ⌜ length (now entries) ≤ mostSteps ⌝ }
-    ensures { λ r. ⌜ (r ≡ length (touchesText (touchesWith (now (entries .entry)) (now (marks .entry))))) × (r ≤ 65536) ⌝ }
+    ensures { λ r. ⌜ LengthOf (touchesText (touchesWith (now (entries .entry)) (now (marks .entry)))) 65536 r ⌝ }
 {
     let mut sum: usize = 0;
     let mut i = 0;
@@ -103,7 +102,7 @@ fn touches_length(entries: &[u16], marks: &[bool]) -> usize
 // The length of the lines of the entries of form 2 on.
 pub fn steps_length(entries: &[u16], marks: &[bool]) -> usize
     requires { ⌜ length (now entries) ≤ mostSteps ⌝ }
-    ensures { λ r. ⌜ (r ≡ length (stepsText (now (entries .entry)) (now (marks .entry)))) × (r ≤ 65589) ⌝ }
+    ensures { λ r. ⌜ LengthOf (stepsText (now (entries .entry)) (now (marks .entry))) 65589 r ⌝ }
 {
     let refs = count_touches(entries);
     number_length(b"steps=", entries.len() as u64)

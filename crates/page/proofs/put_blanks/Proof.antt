@@ -1,11 +1,9 @@
 -- `page::put_blanks` meets its contract. The loop's invariant: `i` blanks are put from `at` on. Assumes nothing.
-use mathlib.Core.Path.{_≡_, refl, ap}
-use Prim.Native.Nat.{_+_, _-_, _≤_}
+use mathlib.Core.Path.{_≡_, ap}
+use Prim.Native.Nat.{_+_, _-_}
 use native.Mathlib.Nat.{add-zero}
 use native.Mathlib.Omega.{arith}
-use lib.ListN.{length, length-set}
-use Rattle.text.specs.inner.Puts.{Put}
-use Rattle.text.proofs.Putting.{put-nothing, put-same}
+use Rattle.text.proofs.Putting.{Filled, filled-start, put-keeps, put-same}
 use Rattle.page.specs.Page.{blanks}
 use Rattle.page.proofs.Blanks.{blanks-next}
 use borrow.Author.Needs.{needs}
@@ -13,23 +11,24 @@ use Rattle.page.proofs.put_blanks.Statement.{statement}
 use Rattle.page.proofs.put_blanks.Tie as tie
 
 abbrev Inv-loop : tie.InvT-loop
-Inv-loop n out₀ at i₀ out i = (i ≤ n) × (length out ≡ length out₀) × Put (blanks i) at out₀ (at + i) out
+Inv-loop n out₀ at i₀ out i = Filled i n (blanks i) at out₀ (at + i) out
 
 abbrev μ-loop : tie.MeasureT-loop
 μ-loop n out₀ at i₀ out i = n - i
 
 loop-holds : tie.Need-loop-holds Inv-loop μ-loop
-loop-holds c = (omega arith, refl, rw add-zero (put-nothing _ _ (omega arith)))
+loop-holds c = rw add-zero (filled-start _ _ _ (omega arith))
 
 loop-again : tie.Need-loop-again Inv-loop μ-loop
 loop-again c =
-    let l = c .before .loop in (omega arith, simp length-set (l .inv .1), blanks-next _ _ _ _ (omega arith) (l .inv .2))
+    let p = blanks-next _ _ _ _ (omega arith) (c .before .loop .inv .put) in
+    record { within = omega arith; same-length = put-keeps p; put = p }
 
 returns : tie.Need-returns Inv-loop μ-loop
 returns c =
     let l = c .before .loop in
     let e : l .i ≡ c .before .before .args .n = omega arith in
-    (put-same (ap (λ k. blanks k) e) (l .inv .2), omega arith)
+    record { put = put-same (ap (λ k. blanks k) e) (l .inv .put); wide = omega arith }
 
 pub put-blanks-spec : {M : Type 1} → statement M
 put-blanks-spec =

@@ -8,7 +8,7 @@ use Rattle.page.proofs.put_end.Tie as tie
 returns : tie.Need-returns
 returns c =
     let b = c .before .before .put-blanks in
-    (put-then (b .ensures .0) (put-byte 10 (b .result) _ (omega arith)), omega arith)
+    record { put = put-then (b .ensures .put) (put-byte 10 (b .result) _ (omega arith)); wide = omega arith }
 
 pub put-end-spec : {M : Type 1} → statement M
 put-end-spec =

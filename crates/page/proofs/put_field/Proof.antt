@@ -10,11 +10,12 @@ use Rattle.page.proofs.put_field.Tie as tie
 returns : tie.Need-returns
 returns c =
     let w = c .before .before .write in
-    let b = c .before .before .before .before .before .before .put-blanks in
-    let n = c .before .before .before .before .before .before .before .before .width in
-    let a = c .before .before .before .before .before .before .before .before .before .before .args in
+    let b = c .before .before .before .before .before .before in
+    let n = b .before .before .width in
+    let a = b .before .before .before .before .args in
     let p = put-of (written (a .n)) _ _ (omega arith) (w .ensures .0) (w .ensures .1) in
-    (put-same (aligned (a .gap) (a .width) (n .result) (written (a .n)) (n .ensures)) (put-then (b .ensures .0) p), omega arith)
+    let t = aligned (a .gap) (a .width) (n .result) (written (a .n)) (n .ensures) in
+    record { put = put-same t (put-then (b .put-blanks .ensures .put) p); wide = omega arith }
 
 pub put-field-spec : {M : Type 1} → statement M
 put-field-spec =

@@ -14,10 +14,10 @@ returns c =
     let t = n .before .before .before .before in
     let s = t .before .before .before in
     let a = s .args in
-    let q = put-then (t .put-title .ensures .0)
-    (put-then (n .put-names .ensures .0) (put-then (r .put-rows .ensures .0) (b .put-blank-lines .ensures .0))) in
+    let q = put-then (t .put-title .ensures .put)
+    (put-then (n .put-names .ensures .put) (put-then (r .put-rows .ensures .put) (b .put-blank-lines .ensures .put))) in
     let p = page-parts (a .kind) (a .a) (a .figures) (a .first) (a .end) (omega (arith, s .pre)) (omega (arith, s .pre, s .good)) in
-    (put-same p q, omega arith)
+    record { put = put-same p q; wide = omega arith }
 
 pub put-page-spec : {M : Type 1} → statement M
 put-page-spec =

@@ -6,13 +6,13 @@ use borrow.Author.Needs.{needs}
 use Rattle.page.proofs.put_row.Statement.{statement}
 use Rattle.page.proofs.put_row.Tie as tie
 
-put-end-requires : tie.Need-put-end-requires
-put-end-requires c κs =
-    omega (
-      arith,
-      c .before .before .before .before .before .before .before .before .before .before .before .before .before .before
-          .before .before .before .before .before .before .before .before .before .before .before .before .pre .1,
-    )
+-- where the function begins, seen from the first field and from the last
+abbrev Begin : tie.After-put-field → tie.Start
+Begin f1 = f1 .before .before .before
+
+abbrev First : tie.After-put-field6 → tie.After-put-field
+First f6 = f6 .before .before .before .before .before .before .before .before .before .before
+    .before .before .before .before .before .before .before .before .before .before
 
 returns : tie.Need-returns
 returns c =
@@ -22,12 +22,12 @@ returns c =
     let f4 = f5 .before .before .before .before in
     let f3 = f4 .before .before .before .before in
     let f2 = f3 .before .before .before .before in
-    let f1 = f2 .before .before .before .before in
-    let s = f1 .before .before .before in
-    let p = put-then (f1 .put-field .ensures .0) (put-then (f2 .put-field2 .ensures .0) (put-then (f3 .put-field3 .ensures .0)
-    (put-then (f4 .put-field4 .ensures .0) (put-then (f5 .put-field5 .ensures .0)
-    (put-then (f6 .put-field6 .ensures .0) (end .put-end .ensures .0)))))) in
-    (put-same (row-parts (s .args .f) (s .pre .0)) p, omega arith)
+    let f1 = First f6 in
+    let (fits, room) = Begin f1 .pre in
+    let p = put-then (f1 .put-field .ensures .put) (put-then (f2 .put-field2 .ensures .put) (put-then (f3 .put-field3 .ensures .put)
+    (put-then (f4 .put-field4 .ensures .put) (put-then (f5 .put-field5 .ensures .put)
+    (put-then (f6 .put-field6 .ensures .put) (end .put-end .ensures .put)))))) in
+    record { put = put-same (row-parts (Begin f1 .args .f) fits) p; wide = omega arith }
 
 pub put-row-spec : {M : Type 1} → statement M
 put-row-spec =
@@ -39,6 +39,6 @@ put-row-spec =
     (λ c κs. search needs)
     (λ c κs. search needs)
     (λ c κs. search needs)
-    put-end-requires
+    (λ c κs. omega (arith, Begin (First (c .before .before .before)) .pre))
     (λ c. search needs)
     returns)

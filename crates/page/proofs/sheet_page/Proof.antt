@@ -14,9 +14,10 @@ write-requires c κs =
 
 returns : tie.Need-returns
 returns c =
-    let b = c .before .before .before .before .before .before .before in
-    rw (c .before .before .before .before .before .all-figures .ensures, pages-of (b .args .s) (b .pre)) at
-    (c .before .before .write .ensures)
+    let w = c .before .before in
+    let f = w .before .before .before in
+    let b = f .before .before in
+    rw (f .all-figures .ensures, pages-of (b .args .s) (b .pre)) at (w .write .ensures)
 
 pub sheet-page-spec : {M : Type 1} → statement M
 sheet-page-spec = tie.close (tie.spec (λ c κs. search needs) write-requires (λ c. search needs) returns)

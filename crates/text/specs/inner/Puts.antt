@@ -1,4 +1,4 @@
--- A text put into a lent place from an index on. Assumes nothing.
+-- A text put into a lent place from an index on, and how long a text is. Assumes nothing.
 use Prim.Native.Nat.{ℕ, _+_, _≤_}
 use mathlib.Core.Path.{_≡_}
 use mathlib.Core.List.{List, _++_}
@@ -13,3 +13,8 @@ pub record Put (text : List ℕ) (at : ℕ) (place : List ℕ) (end : ℕ) (afte
   pub fits : at + length text ≤ length place
   pub ends : end ≡ at + length text
   pub holds : after ≡ putAt at text place
+
+-- n is the length of the text, and at most so many bytes
+pub record LengthOf (text : List ℕ) (most n : ℕ) : Type 0 where
+  pub is-length : n ≡ length text
+  pub at-most : n ≤ most

@@ -1,9 +1,10 @@
 -- `write_sheet::form_length` meets its contract: a sheet has a form line from form 2 on. Assumes nothing.
-use mathlib.Core.Path.{sym, ap, _∙_}
+use mathlib.Core.Path.{ap}
 use native.Mathlib.Omega.{arith}
 use borrow.Author.Needs.{needs}
 use borrow.Author.Tests.{le-leb, lt-leb}
 use lib.ListN.{length}
+use Rattle.text.proofs.Lengths.{length-of}
 use Rattle.write_sheet.proofs.SheetParts.{form-later, form-first}
 use Rattle.write_sheet.proofs.form_length.Statement.{statement}
 use Rattle.write_sheet.proofs.form_length.Tie as tie
@@ -12,12 +13,12 @@ returns : tie.Need-returns
 returns c =
     let i = c .before .before in
     let e = form-later (i .before .args .form) (le-leb 2 (i .before .args .form) (i .if1 .taken)) in
-    (c .number-length .ensures .0 ∙ sym (ap length e), c .number-length .ensures .1)
+    length-of (omega (arith, ap length e))
 
 returns-2 : tie.Need-returns-2
 returns-2 c =
     let form = c .before .args .form in
-    (sym (ap length (form-first form (lt-leb 2 form (c .if1 .left)))), omega arith)
+    length-of (omega (arith, ap length (form-first form (lt-leb 2 form (c .if1 .left)))))
 
 pub form-length-spec : {M : Type 1} → statement M
 form-length-spec = tie.close (tie.spec (λ c. search needs) (λ c κs. search needs) returns returns-2)

@@ -5,6 +5,7 @@ use native.Mathlib.Omega.{arith}
 use borrow.Author.Needs.{needs}
 use lib.ListN.{length, length-take}
 use lib.Seq.{length-take-le}
+use Rattle.model.specs.Sheets.{SheetValue}
 use Rattle.model.specs.Values.{valueOf}
 use Rattle.sheet.specs.Writing.{sheetText}
 use Rattle.text.proofs.Putting.{put-same, put-then}
@@ -17,74 +18,42 @@ use Rattle.write_sheet.proofs.put_sheet.Tie as tie
 lengths : (s : tie.Start) → (length (s .args .sheet .touches) ≡ 2048) × (length (s .args .sheet .marks) ≡ 2048)
 lengths s = (search needs, search needs)
 
--- the value that is written is that of the sheet
-same : (m : tie.After-least2)
-    → (let n = m .before .before in
-    let s = n .before .before .before .before .args .sheet in
-    clamped s (n .least .result) (m .least2 .result) ≡ valueOf s)
+-- where the function begins
+abbrev Begin : tie.After-least2 → tie.Start
+Begin m = m .before .before .before .before .before .before
+
+-- where the counts are cut off
+abbrev Counted : tie.After-put-head → tie.After-least2
+Counted q = q .before .before .before .before .before .before
+
+-- the value that is written
+abbrev written : tie.After-least2 → SheetValue
+written m = clamped (Begin m .args .sheet) (m .before .before .least .result) (m .least2 .result)
+
+-- it is that of the sheet
+same : (m : tie.After-least2) → written m ≡ valueOf (Begin m .args .sheet)
 same m =
     let n = m .before .before in
-    let s = n .before .before .before .before in
-    let (l₁, l₂) = lengths s in
-    value-clamped (s .args .sheet) (n .least .result) (m .least2 .result) l₁ l₂ (n .least .ensures) (m .least2 .ensures)
+    let (l₁, l₂) = lengths (Begin m) in
+    value-clamped (Begin m .args .sheet) (n .least .result) (m .least2 .result) l₁ l₂ (n .least .ensures) (m .least2 .ensures)
 
 -- there is room for its parts
-room : (m : tie.After-least2)
-    → (let n = m .before .before in
-    let s = n .before .before .before .before .args .sheet in
-    let v = clamped s (n .least .result) (m .least2 .result) in
-    length (sheetText v) ≡ length (sheetText (valueOf s)))
+room : (m : tie.After-least2) → length (sheetText (written m)) ≡ length (sheetText (valueOf (Begin m .args .sheet)))
 room m = ap (λ v. length (sheetText v)) (same m)
-
-put-form-requires : tie.Need-put-form-requires
-put-form-requires c κs =
-    let m = c .before in
-    let n = m .before .before in
-    let s = n .before .before .before .before in
-    omega (arith, room m, parts-length (clamped (s .args .sheet) (n .least .result) (m .least2 .result)), s .pre)
 
 put-head-requires : tie.Need-put-head-requires
 put-head-requires c κs =
     let p = c .before .before .before in
     let m = p .before .before in
-    let n = m .before .before in
-    let s = n .before .before .before .before in
-    let l = parts-length (clamped (s .args .sheet) (n .least .result) (m .least2 .result)) in
-    omega (arith, room m, l, s .pre, p .put-form .ensures .ends)
-
-array-share-prefix-touches : tie.Need-array-share-prefix-touches
-array-share-prefix-touches c =
-    let m = c .before .before .before .before .before .before .before .before in
-    let e = lengths (m .before .before .before .before .before .before) in
-    omega arith
-
-slice-aggregate-put-run : tie.Need-slice-aggregate-put-run
-slice-aggregate-put-run c =
-    let m = c .before .before .before .before .before .before .before .before .before in
-    let e = lengths (m .before .before .before .before .before .before) in
-    sym (length-take-le _ _ (omega arith))
-
-array-share-prefix-marks : tie.Need-array-share-prefix-marks
-array-share-prefix-marks c =
-    let m = c .before .before .before .before .before .before .before .before .before in
-    let e = lengths (m .before .before .before .before .before .before) in
-    omega arith
-
-slice-aggregate-put-run-2 : tie.Need-slice-aggregate-put-run-2
-slice-aggregate-put-run-2 c =
-    let m = c .before .before .before .before .before .before .before .before .before .before in
-    let e = lengths (m .before .before .before .before .before .before) in
-    sym (length-take-le _ _ (omega arith))
+    omega (arith, room m, parts-length (written m), Begin m .pre, p .put-form .ensures .ends)
 
 put-run-requires : tie.Need-put-run-requires
 put-run-requires c κs =
     let q = c .before .before .before .before .before in
     let p = q .before .before .before .before in
-    let m = p .before .before in
-    let n = m .before .before in
-    let s = n .before .before .before .before in
-    let l = parts-length (clamped (s .args .sheet) (n .least .result) (m .least2 .result)) in
-    (simp length-take (omega arith), omega (arith, room m, l, s .pre, p .put-form .ensures .ends, q .put-head .ensures .ends))
+    let m = Counted q in
+    let l = parts-length (written m) in
+    (simp length-take (omega arith), omega (arith, room m, l, Begin m .pre, p .put-form .ensures .ends, q .put-head .ensures .ends))
 
 returns : tie.Need-returns
 returns c =
@@ -92,9 +61,7 @@ returns c =
     let q = w .before .before .before .before .before .before in
     let p = q .before .before .before .before in
     let m = p .before .before in
-    let n = m .before .before in
-    let v = clamped (n .before .before .before .before .args .sheet) (n .least .result) (m .least2 .result) in
-    put-same (text-parts v ∙ ap sheetText (same m))
+    put-same (text-parts (written m) ∙ ap sheetText (same m))
     (put-then (p .put-form .ensures) (put-then (q .put-head .ensures) (w .put-run .ensures)))
 
 pub put-sheet-spec : {M : Type 1} → statement M
@@ -103,12 +70,12 @@ put-sheet-spec =
     (tie.spec
     (λ c κs. search needs)
     (λ c κs. search needs)
-    put-form-requires
+    (λ c κs. let m = c .before in omega (arith, room m, parts-length (written m), Begin m .pre))
     put-head-requires
-    array-share-prefix-touches
-    slice-aggregate-put-run
-    array-share-prefix-marks
-    slice-aggregate-put-run-2
+    (λ c. let e = lengths (Begin (Counted (c .before .before))) in omega arith)
+    (λ c. let e = lengths (Begin (Counted (c .before .before .before))) in sym (length-take-le _ _ (omega arith)))
+    (λ c. let e = lengths (Begin (Counted (c .before .before .before))) in omega arith)
+    (λ c. let e = lengths (Begin (Counted (c .before .before .before .before))) in sym (length-take-le _ _ (omega arith)))
     put-run-requires
     (λ c. search needs)
     returns)

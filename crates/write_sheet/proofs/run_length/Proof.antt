@@ -1,9 +1,10 @@
 -- `write_sheet::run_length` meets its contract, by the form. Assumes nothing.
-use mathlib.Core.Path.{sym, ap, _∙_}
+use mathlib.Core.Path.{ap}
 use native.Mathlib.Omega.{arith}
 use borrow.Author.Needs.{needs}
 use borrow.Author.Tests.{le-leb, lt-leb}
 use lib.ListN.{length}
+use Rattle.text.proofs.Lengths.{length-of}
 use Rattle.write_sheet.proofs.SheetParts.{run-later, run-first}
 use Rattle.write_sheet.proofs.run_length.Statement.{statement}
 use Rattle.write_sheet.proofs.run_length.Tie as tie
@@ -13,14 +14,14 @@ returns c =
     let i = c .before in
     let a = i .before .before .before .args in
     let e = run-later (a .form) (a .entries .now) (a .marks .now) (le-leb 2 (a .form) (i .if1 .taken)) in
-    (c .steps-length .ensures .0 ∙ sym (ap length e), c .steps-length .ensures .1)
+    length-of (omega (arith, ap length e))
 
 returns-2 : tie.Need-returns-2
 returns-2 c =
     let i = c .before .before .before in
     let a = i .before .before .before .args in
     let e = run-first (a .form) (a .entries .now) (a .marks .now) (lt-leb 2 (a .form) (i .if1 .left)) in
-    (c .counted-length .ensures .0 ∙ sym (ap length e), omega arith)
+    length-of (omega (arith, ap length e))
 
 pub run-length-spec : {M : Type 1} → statement M
 run-length-spec =

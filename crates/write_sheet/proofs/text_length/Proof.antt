@@ -15,34 +15,15 @@ use Rattle.write_sheet.proofs.text_length.Tie as tie
 lengths : (s : tie.Start) → (length (s .args .sheet .touches) ≡ 2048) × (length (s .args .sheet .marks) ≡ 2048)
 lengths s = (search needs, search needs)
 
-array-share-prefix-touches : tie.Need-array-share-prefix-touches
-array-share-prefix-touches c =
-    let e = lengths (c .before .before .before .before .before .before .before) in
-    omega arith
-
-slice-aggregate-run-length : tie.Need-slice-aggregate-run-length
-slice-aggregate-run-length c =
-    let e = lengths (c .before .before .before .before .before .before .before .before) in
-    sym (length-take-le _ _ (omega arith))
-
-array-share-prefix-marks : tie.Need-array-share-prefix-marks
-array-share-prefix-marks c =
-    let e = lengths (c .before .before .before .before .before .before .before .before) in
-    omega arith
-
-slice-aggregate-run-length-2 : tie.Need-slice-aggregate-run-length-2
-slice-aggregate-run-length-2 c =
-    let e = lengths (c .before .before .before .before .before .before .before .before .before) in
-    sym (length-take-le _ _ (omega arith))
-
-run-length-requires : tie.Need-run-length-requires
-run-length-requires c κs = simp length-take (omega arith)
+-- where the function begins
+abbrev Begin : tie.After-least2 → tie.Start
+Begin m = m .before .before .before .before .before
 
 returns : tie.Need-returns
 returns c =
     let m = c .before .before .before .before .before in
     let n = m .before .before in
-    let s = n .before .before .before in
+    let s = Begin m in
     let (l₁, l₂) = lengths s in
     let v = clamped (s .args .sheet) (n .least .result) (m .least2 .result) in
     let e = value-clamped (s .args .sheet) (n .least .result) (m .least2 .result) l₁ l₂ (n .least .ensures) (m .least2 .ensures) in
@@ -57,10 +38,10 @@ text-length-spec =
     (λ c κs. search needs)
     (λ c κs. search needs)
     (λ c. search needs)
-    array-share-prefix-touches
-    slice-aggregate-run-length
-    array-share-prefix-marks
-    slice-aggregate-run-length-2
-    run-length-requires
+    (λ c. let e = lengths (Begin (c .before .before)) in omega arith)
+    (λ c. let e = lengths (Begin (c .before .before .before)) in sym (length-take-le _ _ (omega arith)))
+    (λ c. let e = lengths (Begin (c .before .before .before)) in omega arith)
+    (λ c. let e = lengths (Begin (c .before .before .before .before)) in sym (length-take-le _ _ (omega arith)))
+    (λ c κs. simp length-take (omega arith))
     (λ c. search needs)
     returns)

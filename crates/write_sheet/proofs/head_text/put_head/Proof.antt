@@ -20,69 +20,55 @@ lengths : (s : tie.Start)
     → (length (s .args .head .sizes) ≡ 256) × (length (s .args .head .prices) ≡ 64) × (length (s .args .head .holds) ≡ 256)
 lengths s = (search needs, simp length-map at (s .good .1 .0 .1 .1 .1 .1 .1 .1 .1 .0 .1 .0 .1), search needs)
 
+-- where the function begins
+abbrev Begin : tie.After-least3 → tie.Start
+Begin r = r .before .before .before .before .before .before .before
+
+-- where the counts are cut off
+abbrev Counted : tie.After-put-priced → tie.After-least3
+Counted q = q .before .before .before .before .before .before .before
+
 -- the head whose counts are cut off
 abbrev clampedAt : tie.After-least3 → HeadValue
 clampedAt r =
-    clampedHead (r .before .before .before .before .before .before .before .args .head)
+    clampedHead (Begin r .args .head)
     (r .before .before .before .before .least .result) (r .before .before .least2 .result) (r .least3 .result)
 
 -- it is the head's value
-same : (r : tie.After-least3) → clampedAt r ≡ headValueOf (r .before .before .before .before .before .before .before .args .head)
+same : (r : tie.After-least3) → clampedAt r ≡ headValueOf (Begin r .args .head)
 same r =
-    let (l₁, l₂, l₃) = lengths (r .before .before .before .before .before .before .before) in
+    let (l₁, l₂, l₃) = lengths (Begin r) in
     head-clamped _ _ _ _ l₁ l₂ l₃
     (r .before .before .before .before .least .ensures) (r .before .before .least2 .ensures) (r .least3 .ensures)
 
 -- and its text is as long as its parts
 whole : (r : tie.After-least3)
-    → (let a = r .before .before .before .before .before .before .before .args in
+    → (let a = Begin r .args in
     let h = clampedAt r in
     length (headText (a .form) (headValueOf (a .head)))
     ≡ length (segmentsText (h .kind) (h .a) (h .sizes)) + (length (pricedText (h .rows)) + length (warmText (a .form) (h .warm))))
 whole r =
-    let a = r .before .before .before .before .before .before .before .args in
+    let a = Begin r .args in
     ap (λ h. length (headText (a .form) h)) (sym (same r)) ∙ head-length (a .form) (clampedAt r)
-
-array-share-prefix-sizes : tie.Need-array-share-prefix-sizes
-array-share-prefix-sizes c =
-    let e = lengths (c .before .before .before .before .before .before .before) in
-    omega arith
-
-slice-aggregate-put-segments : tie.Need-slice-aggregate-put-segments
-slice-aggregate-put-segments c =
-    let e = lengths (c .before .before .before .before .before .before .before .before) in
-    sym (length-take-le _ _ (omega arith))
 
 put-segments-requires : tie.Need-put-segments-requires
 put-segments-requires c κs =
     let r = c .before .before in
-    omega (arith, whole r, r .before .before .before .before .before .before .before .pre)
+    omega (arith, whole r, Begin r .pre)
 
 put-priced-requires : tie.Need-put-priced-requires
 put-priced-requires c κs =
     let p = c .before .before .before in
     let r = p .before .before .before in
-    let s = r .before .before .before .before .before .before .before in
+    let s = Begin r in
     (omega arith, omega (arith, whole r, s .pre, p .put-segments .ensures .ends))
-
-array-share-prefix-holds : tie.Need-array-share-prefix-holds
-array-share-prefix-holds c =
-    let r = c .before .before .before .before .before .before .before .before .before in
-    let e = lengths (r .before .before .before .before .before .before .before) in
-    omega arith
-
-slice-aggregate-put-warm : tie.Need-slice-aggregate-put-warm
-slice-aggregate-put-warm c =
-    let r = c .before .before .before .before .before .before .before .before .before .before in
-    let e = lengths (r .before .before .before .before .before .before .before) in
-    sym (length-take-le _ _ (omega arith))
 
 put-warm-requires : tie.Need-put-warm-requires
 put-warm-requires c κs =
     let q = c .before .before .before .before in
     let p = q .before .before .before .before in
     let r = p .before .before .before in
-    let s = r .before .before .before .before .before .before .before in
+    let s = Begin r in
     omega (arith, whole r, s .pre, p .put-segments .ensures .ends, q .put-priced .ensures .ends)
 
 returns : tie.Need-returns
@@ -92,7 +78,7 @@ returns c =
     let q = w .before .before .before .before .before in
     let p = q .before .before .before .before in
     let r = p .before .before .before in
-    let a = r .before .before .before .before .before .before .before .args in
+    let a = Begin r .args in
     put-same (ap (headText (a .form)) (same r))
     (put-then (p .put-segments .ensures) (put-then (q .put-priced .ensures) (w .put-warm .ensures)))
 
@@ -103,12 +89,12 @@ put-head-spec =
     (λ c κs. search needs)
     (λ c κs. search needs)
     (λ c κs. search needs)
-    array-share-prefix-sizes
-    slice-aggregate-put-segments
+    (λ c. let e = lengths (Begin c) in omega arith)
+    (λ c. let e = lengths (Begin (c .before)) in sym (length-take-le _ _ (omega arith)))
     put-segments-requires
     put-priced-requires
-    array-share-prefix-holds
-    slice-aggregate-put-warm
+    (λ c. let e = lengths (Begin (Counted (c .before .before))) in omega arith)
+    (λ c. let e = lengths (Begin (Counted (c .before .before .before))) in sym (length-take-le _ _ (omega arith)))
     put-warm-requires
     (λ c. search needs)
     returns)

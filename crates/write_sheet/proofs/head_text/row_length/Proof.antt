@@ -3,6 +3,7 @@ use borrow.Author.Needs.{needs}
 use native.Mathlib.Omega.{arith}
 use Rattle.decimal.proofs.Written.{written-length}
 use Rattle.sheet.proofs.Lengths.{row-length}
+use Rattle.text.proofs.Lengths.{length-of}
 use Rattle.write_sheet.proofs.head_text.row_length.Statement.{statement}
 use Rattle.write_sheet.proofs.head_text.row_length.Tie as tie
 
@@ -17,7 +18,7 @@ add-result-2 c =
 returns : tie.Need-returns
 returns c =
     let q = c .before .before .before .before .args .q in
-    omega (arith, written-length 4 (q .h) (omega arith), written-length 4 (q .d) (omega arith), row-length q)
+    length-of (omega (arith, written-length 4 (q .h) (omega arith), written-length 4 (q .d) (omega arith), row-length q))
 
 pub row-length-spec : {M : Type 1} → statement M
 row-length-spec =

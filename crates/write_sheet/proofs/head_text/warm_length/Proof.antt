@@ -3,6 +3,7 @@ use mathlib.Core.Path.{sym, ap, _∙_}
 use native.Mathlib.Omega.{arith}
 use borrow.Author.Needs.{needs}
 use lib.ListN.{length}
+use Rattle.text.proofs.Lengths.{length-of}
 use Rattle.write_sheet.proofs.HeadParts.{warm-later, warm-first}
 use Rattle.write_sheet.proofs.head_text.warm_length.Statement.{statement}
 use Rattle.write_sheet.proofs.head_text.warm_length.Tie as tie
@@ -12,12 +13,12 @@ returns c =
     let i = c .before .before .before in
     let a = i .before .before .before .args in
     let e = warm-later (a .form) (a .holds .now) (sym (i .before .has-warm .ensures) ∙ i .if1 .taken) in
-    (c .counted-length .ensures .0 ∙ sym (ap length e), c .counted-length .ensures .1)
+    length-of (omega (arith, ap length e))
 
 returns-2 : tie.Need-returns-2
 returns-2 c =
     let a = c .before .before .before .args in
-    (sym (ap length (warm-first (a .form) (a .holds .now) (sym (c .before .has-warm .ensures) ∙ c .if1 .left))), omega arith)
+    length-of (omega (arith, ap length (warm-first (a .form) (a .holds .now) (sym (c .before .has-warm .ensures) ∙ c .if1 .left))))
 
 pub warm-length-spec : {M : Type 1} → statement M
 warm-length-spec =

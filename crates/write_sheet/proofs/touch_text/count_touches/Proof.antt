@@ -3,7 +3,7 @@
 use mathlib.Core.Path.{_≡_, refl}
 use mathlib.Core.Bool.{Bool}
 use mathlib.Core.List.{List}
-use Prim.Native.Nat.{_-_, _≤_}
+use Prim.Native.Nat.{ℕ, _-_, _≤_}
 use native.Mathlib.Omega.{arith}
 use borrow.Author.Needs.{needs}
 use lib.ListN.{length, take}
@@ -15,30 +15,35 @@ use Rattle.write_sheet.proofs.TouchLines.{count-next}
 use Rattle.write_sheet.proofs.touch_text.count_touches.Statement.{statement}
 use Rattle.write_sheet.proofs.touch_text.count_touches.Tie as tie
 
+-- what holds after i of the entries
+record Counted (entries : List ℕ) (count i : ℕ) : Type 0 where
+  within : i ≤ length entries
+  count-is : (marks : List Bool) → count ≡ length (touchesWith (take i entries) marks)
+  few : count ≤ i
+
 abbrev Inv-loop : tie.InvT-loop
-Inv-loop entries count₀ i₀ count i =
-    (i ≤ length entries) × ((marks : List Bool) → count ≡ length (touchesWith (take i entries) marks)) × (count ≤ i)
+Inv-loop entries count₀ i₀ count i = Counted entries count i
 
 abbrev μ-loop : tie.MeasureT-loop
 μ-loop entries count₀ i₀ count i = length entries - i
 
 loop-holds : tie.Need-loop-holds Inv-loop μ-loop
 unfolding touchesFrom
-loop-holds c = (omega arith, λ marks. refl, omega arith)
+loop-holds c = record { within = omega arith; count-is = λ marks. refl; few = omega arith }
 
 loop-again : tie.Need-loop-again Inv-loop μ-loop
 loop-again c =
     let t = c .before .before in
-    let l = t .before .loop in (
-      omega arith,
-      λ m. count-next m _ (l .i) (t .loop-test .taken) _ _ (l .inv .1 m) (c .entry-count .ensures .0 (marksOf m) (l .i)),
-      omega arith,
-    )
+    let l = t .before .loop in
+    let e = c .entry-count .ensures in
+    record {
+      within = omega arith;
+      count-is = λ m. count-next m _ (l .i) (t .loop-test .taken) _ _ (l .inv .count-is m) (e .count-is (marksOf m) (l .i));
+      few = omega arith;
+    }
 
 returns : tie.Need-returns Inv-loop μ-loop
-returns c =
-    let l = c .before .loop in
-    λ marks. rw (take-all (l .i) _ (c .loop-test .left)) at (l .inv .1 marks)
+returns c = let l = c .before .loop in λ marks. rw (take-all (l .i) _ (c .loop-test .left)) at (l .inv .count-is marks)
 
 pub count-touches-spec : {M : Type 1} → statement M
 count-touches-spec =

@@ -3,19 +3,21 @@ use mathlib.Core.Path.{sym, ap, _∙_}
 use native.Mathlib.Omega.{arith}
 use borrow.Author.Needs.{needs}
 use lib.ListN.{length}
+use Rattle.text.proofs.Lengths.{length-of}
 use Rattle.write_sheet.proofs.TouchLines.{text-idle, text-touch}
 use Rattle.write_sheet.proofs.touch_text.entry_length.Statement.{statement}
 use Rattle.write_sheet.proofs.touch_text.entry_length.Tie as tie
 
 returns : tie.Need-returns
-returns c = (sym (ap length (text-idle _ _ _ (sym (c .before .is-idle .ensures) ∙ c .if1 .taken))), omega arith)
+returns c = length-of (sym (ap length (text-idle _ _ _ (sym (c .before .is-idle .ensures) ∙ c .if1 .taken))), omega arith)
 
 returns-2 : tie.Need-returns-2
 returns-2 c =
     let m = c .before in
     let e = m .before in
     let t = text-touch _ _ _ _ (m .modifies-at .ensures) (sym (e .before .is-idle .ensures) ∙ e .if1 .left) in
-    (c .touch-length .ensures .0 ∙ ap length t, c .touch-length .ensures .1)
+    let l = c .touch-length .ensures in
+    length-of (l .is-length ∙ ap length t, l .at-most)
 
 pub entry-length-spec : {M : Type 1} → statement M
 entry-length-spec =
