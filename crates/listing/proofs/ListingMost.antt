@@ -3,13 +3,12 @@
 use Prim.Native.Nat.{ℕ, zero, suc, _+_, _*_, _^_, _≤_, _<_}
 use mathlib.Core.Path.{_≡_}
 use mathlib.Core.Bool.{Bool, true, false, cond}
-use mathlib.Core.List.{List, []}
+use mathlib.Core.List.{List}
 use native.Mathlib.Omega.{arith}
 use lib.ListN.{length, getD}
 use lib.Dec.{leb, ltb}
 use lib.Seq.{take-all}
-use Rattle.decimal.specs.Decimal.{written}
-use Rattle.decimal.proofs.Written.{written-length}
+use borrow.Table.Steps.{cases}
 use Rattle.model.specs.Figures.{load}
 use Rattle.model.specs.Refusals.{numberOf}
 use Rattle.model.specs.Rows.{rowFigures, zeroFigures}
@@ -19,8 +18,7 @@ use Rattle.model.specs.declared.Refusal.{Refusal}
 use Rattle.model.specs.declared.RowFigures.{RowFigures}
 use Rattle.model.proofs.Bounds.{product-within}
 use Rattle.model.proofs.References.{refs-none, refs-next}
-use Rattle.text.specs.Texts.{numberText}
-use Rattle.text.proofs.Lengths.{line-length}
+use Rattle.text.proofs.Lengths.{number-within}
 use Rattle.model.specs.Sums.{tabulate}
 use Rattle.model.specs.RowAnswers.{figuresAt}
 use Rattle.model.proofs.Tables.{length-tabulate, getD-tabulate}
@@ -61,32 +59,24 @@ pub record Digits (f : RowFigures) : Type 0 where
   pub wsocc-digits : f .wsocc < 10 ^ 15
   pub mean-digits : f .mean < 10 ^ 10
 
--- the line of a number below 10 ^ suc k
-line-most : (key : List ℕ) (k n : ℕ) → n < 10 ^ suc k → length (numberText key n) ≤ length key + (suc k + 1)
-line-most key k n h = rw (line-length key (written n)) (omega (arith, written-length k n h))
-
 -- steps= of at most 9,999 steps
 steps-most : (form n : ℕ) → n < 10 ^ 4 → length (stepsListing form n) ≤ 11
 unfolding stepsListing
-steps-most form n h = go (leb 2 form)
-  where
-    go : (b : Bool) → length (cond b (numberText stepsKey n) []) ≤ 11
-    go true = omega (arith, line-most stepsKey 3 n h)
-    go false = omega arith
+steps-most form n h =
+    cases (leb 2 form) (λ e. rw e (omega (arith, number-within stepsKey 3 n h))) (λ e. rw e (omega arith))
 
 -- there are no more references than steps
 refs-most : (T : Trace) (t : ℕ) → refsBy T t ≤ t
 refs-most T zero = omega (arith, refs-none T)
-refs-most T (suc t) = omega (arith, refs-most T t, refs-next T t, one (ltb (entry T t) (segs T)))
-  where
-    one : (b : Bool) → cond {A = ℕ} b 1 0 ≤ 1
-    one true = omega arith
-    one false = omega arith
+refs-most T (suc t) =
+    let one : cond {A = ℕ} (ltb (entry T t) (segs T)) 1 0 ≤ 1 =
+    cases (ltb (entry T t) (segs T)) (λ e. rw e (omega arith)) (λ e. rw e (omega arith)) in
+    omega (arith, refs-most T t, refs-next T t)
 
 -- the line of a refusal with one digit has fewer than a listing
 pub refused-most : (q : Refusal) → numberOf q < 100 → length (refusedText q) ≤ mostListing
 unfolding refusedText
-refused-most q h = omega (arith, line-most refusedKey 1 (numberOf q) h)
+refused-most q h = omega (arith, number-within refusedKey 1 (numberOf q) h)
 
 -- a row has at most 180 bytes
 row-most : (f : RowFigures) → Digits f → length (rowListing f) ≤ 180
@@ -97,17 +87,17 @@ row-most f w =
       three-length missesKey (f .misses) volumeKey (f .volume) loadKey (f .load .0),
       three-length optmemKey (f .optmem .0) opttotalKey (f .opttotal) optoccKey (f .optocc),
       three-length wsmemKey (f .wsmem) wsoccKey (f .wsocc) meanKey (f .mean),
-      line-most hKey 4 (f .h) (w .h-digits),
-      line-most dKey 4 (f .d) (w .d-digits),
-      line-most missesKey 3 (f .misses) (w .misses-digits),
-      line-most volumeKey 6 (f .volume) (w .volume-digits),
-      line-most loadKey 9 (f .load .0) (w .load-digits),
-      line-most optmemKey 9 (f .optmem .0) (w .optmem-digits),
-      line-most opttotalKey 14 (f .opttotal) (w .opttotal-digits),
-      line-most optoccKey 9 (f .optocc) (w .optocc-digits),
-      line-most wsmemKey 14 (f .wsmem) (w .wsmem-digits),
-      line-most wsoccKey 14 (f .wsocc) (w .wsocc-digits),
-      line-most meanKey 9 (f .mean) (w .mean-digits),
+      number-within hKey 4 (f .h) (w .h-digits),
+      number-within dKey 4 (f .d) (w .d-digits),
+      number-within missesKey 3 (f .misses) (w .misses-digits),
+      number-within volumeKey 6 (f .volume) (w .volume-digits),
+      number-within loadKey 9 (f .load .0) (w .load-digits),
+      number-within optmemKey 9 (f .optmem .0) (w .optmem-digits),
+      number-within opttotalKey 14 (f .opttotal) (w .opttotal-digits),
+      number-within optoccKey 9 (f .optocc) (w .optocc-digits),
+      number-within wsmemKey 14 (f .wsmem) (w .wsmem-digits),
+      number-within wsoccKey 14 (f .wsocc) (w .wsocc-digits),
+      number-within meanKey 9 (f .mean) (w .mean-digits),
     )
 
 -- a row with its modtotal has at most 205 where the form has it
@@ -116,11 +106,10 @@ rowBytes marked = cond marked 205 180
 
 marked-most : (form : ℕ) (f : RowFigures) (m : ℕ) → Digits f → m < 10 ^ 15 → length (markedText form f m) ≤ rowBytes (leb 4 form)
 unfolding modListing
-marked-most form f m w few = rw (marked-length form f m) (go (leb 4 form))
-  where
-    go : (b : Bool) → length (rowListing f) + length (modListing b m) ≤ rowBytes b
-    go true = omega (arith, row-most f w, line-most modtotalKey 14 m few)
-    go false = omega (arith, row-most f w)
+marked-most form f m w few =
+    let row = row-most f w in
+    rw (marked-length form f m)
+    (cases (leb 4 form) (λ e. rw e (omega (arith, number-within modtotalKey 14 m few))) (λ e. rw e (omega arith)))
 
 -- the lines before those of the rows have at most 38
 head-most : (form refs steps segs rows : ℕ) → refs < 10 ^ 4 → steps < 10 ^ 4 → segs < 10 ^ 3 → rows < 10 ^ 2
@@ -128,10 +117,10 @@ head-most : (form refs steps segs rows : ℕ) → refs < 10 ^ 4 → steps < 10 ^
 head-most form refs steps segs rows r t s n =
     omega (
       arith,
-      line-most refsKey 3 refs r,
+      number-within refsKey 3 refs r,
       steps-most form steps t,
-      line-most segsKey 2 segs s,
-      line-most rowsKey 1 rows n,
+      number-within segsKey 2 segs s,
+      number-within rowsKey 1 rows n,
       counts-length form refs steps,
       head-length form refs steps segs rows,
     )
@@ -150,6 +139,10 @@ all-most form refs steps segs fs ms r t s few row =
         → all ≤ cond b mostListing olderListing
     go true few le l e = omega arith
     go false few le l e = omega arith
+
+-- that of form 4 may have the most
+pub bytes-most : (form : ℕ) → listingBytes form ≤ mostListing
+bytes-most form = cases (leb 4 form) (λ e. rw e (omega arith)) (λ e. rw e (omega arith))
 
 module _ (v : SheetValue) (c : Valid v) where
   pub row-modtotal-within : (r : ℕ) → r < length (v .head .rows) → rowModtotal v r < 10 ^ 15
@@ -205,8 +198,4 @@ module _ (v : SheetValue) (c : Valid v) where
 
   -- of whatever form
   pub listing-most : length (listingOf v) ≤ mostListing
-  listing-most = go (leb 4 (v .form)) listing-within
-    where
-      go : (b : Bool) {n : ℕ} → n ≤ cond b mostListing olderListing → n ≤ mostListing
-      go true le = le
-      go false le = omega arith
+  listing-most = omega (arith, listing-within, bytes-most (v .form))

@@ -7,7 +7,7 @@ use mathlib.Core.List.{List, [], _∷_, _++_, append-assoc}
 use mathlib.Core.Option.{Option, none}
 use native.Mathlib.Omega.{arith}
 use lib.Dec.{leb}
-use lib.ListN.{length, getD, take, drop, length-append}
+use lib.ListN.{length, getD, take, drop}
 use lib.Seq.{getD-drop}
 use Rattle.model.specs.Rows.{zeroFigures}
 use Rattle.model.specs.declared.RowFigures.{RowFigures}
@@ -84,11 +84,6 @@ module _ (form : ℕ) where
         first-lines (i + 1) fs ms
         ∙ lines-next pairText (paired fs ms) i (zeroFigures, 0) here
         ∙ rw (paired-at fs ms i lt, first-lines i fs ms)
-
-    -- the length of the rows passed, and of one more
-    pub rows-sum : {sum w : ℕ} → sum ≡ length (rowsListing (leb 4 form) (take i fs) ms) → w ≡ length rowAdds
-        → sum + w ≡ length (rowsListing (leb 4 form) (take (i + 1) fs) ms)
-    rows-sum e f = rw (rows-next, length-append, e, f)
 
     -- the rows passed and one more are no longer than the first n
     pub rows-room : (n : ℕ) → i < n

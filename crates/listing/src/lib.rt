@@ -1,4 +1,4 @@
-// The listing as text: its length first where the place may be too short, then its lines one after the other into the lent place.
+// The listing as text: its lines one after the other into the lent place, or first into a local one where the lent place may be too short.
 // What the text is stands in specs/Listing.antt, and its parts in specs/Parts.antt. Nothing is assumed.
 pub mod of_sheet;
 pub mod row_text;
@@ -10,19 +10,19 @@ use model::Sheet;
 use model::Verdict;
 use row_text::has_modtotal;
 use row_text::put_rows;
-use row_text::rows_length;
 use text::number_length;
 use text::put;
 use text::put_digits;
 use text::put_number;
 ghost use mathlib.Core.Path.{_≡_};
 ghost use Prim.Native.Nat.{_+_, _≤_};
-ghost use lib.Dec.{leb, ltb};
+ghost use lib.Dec.{leb};
 ghost use lib.ListN.{length, take};
 ghost use Rattle.model.specs.Sheets.{mostRows};
 ghost use Rattle.model.specs.Places.{gives, PlaceLeft};
+ghost use Rattle.model.specs.Values.{zeros};
 ghost use Rattle.text.specs.inner.Puts.{Put};
-ghost use Rattle.listing.specs.Listing.{listing, listingBytes, refusedText};
+ghost use Rattle.listing.specs.Listing.{listing, listingBytes, mostListing, refusedText};
 ghost use Rattle.listing.specs.inner.Parts.{countsText, headText};
 
 // The most bytes of the listing of a sheet of form 1 to 3, and of form 4.
@@ -49,49 +49,6 @@ fn most_bytes(form: u8) -> usize
     MAX_BYTES
 }
 
-// ---- lengths
-
-// The length of refs= and, where the form has it, steps=.
-fn counts_length(form: u8, refs: usize, steps: usize) -> usize
-    ensures { λ r. ⌜ (r ≡ length (countsText form refs steps)) × (r ≤ 60) ⌝ }
-{
-    let first = number_length(b"refs=", refs as u64);
-    if has_steps(form) {
-        return first + number_length(b"steps=", steps as u64);
-    }
-    first
-}
-
-// The length of the lines before those of the rows.
-fn head_length(form: u8, refs: usize, steps: usize, segs: usize, rows: usize) -> usize
-    ensures { λ r. ⌜ (r ≡ length (headText form refs steps segs rows)) × (r ≤ 120) ⌝ }
-{
-    counts_length(form, refs, steps)
-        + number_length(b"segs=", segs as u64)
-        + number_length(b"rows=", rows as u64)
-}
-
-// Whether a place of `size` bytes is shorter than the listing. Its length is worked out only for a place that is shorter than the longest.
-fn too_short(
-    form: u8,
-    refs: usize,
-    steps: usize,
-    segs: usize,
-    figures: [RowFigures; Sheet::MAX_ROWS],
-    modtotals: [u64; Sheet::MAX_ROWS],
-    rows: usize,
-    size: usize,
-) -> bool
-    requires { ⌜ (rows ≤ mostRows) × (length (listing form refs steps segs (take rows figures) modtotals) ≤ listingBytes form) ⌝ }
-    ensures { λ r. ⌜ r ≡ ltb size (length (listing form refs steps segs (take rows figures) modtotals)) ⌝ }
-{
-    if most_bytes(form) <= size {
-        return false;
-    }
-    let head = head_length(form, refs, steps, segs, rows);
-    size < head + rows_length(form, figures, modtotals, rows)
-}
-
 // ---- parts
 
 // Writes refs= and, where the form has it, steps=, and gives the index after them.
@@ -116,10 +73,36 @@ fn put_head(form: u8, refs: usize, steps: usize, segs: usize, rows: usize, out: 
     put_number(b"rows=", rows as u64, out, fourth)
 }
 
+// Writes the listing at the front of `out`, and gives the index after it.
+fn put_listing(
+    form: u8,
+    refs: usize,
+    steps: usize,
+    segs: usize,
+    figures: [RowFigures; Sheet::MAX_ROWS],
+    modtotals: [u64; Sheet::MAX_ROWS],
+    rows: usize,
+    out: &mut [u8],
+) -> usize
+    requires { ⌜ (rows ≤ mostRows) × (length (listing form refs steps segs (take rows figures) modtotals) ≤ length (now out)) ⌝ }
+    ensures { λ r. ⌜ Put (listing form refs steps segs (take rows figures) modtotals) 0 (now (out .entry)) r (now (out .exit)) ⌝ }
+{
+    let first = put_head(form, refs, steps, segs, rows, out);
+    put_rows(form, figures, modtotals, rows, out, first)
+}
+
 // ---- the listing
 
+// A place of zeros for the longest listing.
+fn longest_place() -> [u8; MAX_BYTES_4]
+    ensures { λ r. ⌜ r ≡ zeros mostListing ⌝ }
+{
+    [0; MAX_BYTES_4]
+}
+
 // The listing of a form and so many references, steps, segments and rows into a lent place, then its old contents; refusal 11 and no
-// change where the place is shorter. It has no more bytes than that of an accepted sheet of the form can have.
+// change where the place is shorter. It has no more bytes than that of an accepted sheet of the form can have: a place of so many takes it
+// at once, and for a shorter one it is written into a local place first.
 pub fn write(
     form: u8,
     refs: usize,
@@ -134,15 +117,16 @@ pub fn write(
     ensures { λ r.
         ⌜ PlaceLeft (gives (listing form refs steps segs (take rows figures) modtotals)) (now (out .entry)) (now (out .exit)) r ⌝ }
 {
-    if too_short(form, refs, steps, segs, figures, modtotals, rows, out.len()) {
-        return PlaceAnswer::refused(Refusal::PlaceTooShort);
+    if most_bytes(form) <= out.len() {
+        let length = put_listing(form, refs, steps, segs, figures, modtotals, rows, out);
+        return PlaceAnswer {
+            verdict: Verdict::Accepted,
+            length,
+        };
     }
-    let first = put_head(form, refs, steps, segs, rows, out);
-    let length = put_rows(form, figures, modtotals, rows, out, first);
-    PlaceAnswer {
-        verdict: Verdict::Accepted,
-        length,
-    }
+    let mut own = longest_place();
+    let length = put_listing(form, refs, steps, segs, figures, modtotals, rows, &mut own);
+    text::place(&own[..length], out)
 }
 
 // The line for a refusal into a lent place, then its old contents; refusal 11 and no change where the place is shorter. Since

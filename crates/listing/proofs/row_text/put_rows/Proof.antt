@@ -1,13 +1,12 @@
 -- `listing::row_text::put_rows` meets its contract. The loop's invariant: the lines of the rows passed are put from `at` on.
 -- Assumes nothing.
-use mathlib.Core.Path.{_≡_, refl, sym}
-use Prim.Native.Nat.{_-_, _≤_}
+use mathlib.Core.Path.{_≡_}
+use Prim.Native.Nat.{_-_}
 use native.Mathlib.Omega.{arith}
 use borrow.Author.Needs.{needs}
 use lib.Dec.{leb}
-use lib.ListN.{length, take}
-use Rattle.text.specs.inner.Puts.{Put}
-use Rattle.text.proofs.Putting.{put-nothing, put-same, put-then}
+use lib.ListN.{take}
+use Rattle.text.proofs.Putting.{Filled, filled-start, filled-next}
 use Rattle.listing.specs.RowListing.{rowsListing}
 use Rattle.listing.proofs.RowLines.{rows-next, rows-room}
 use Rattle.listing.proofs.row_text.put_rows.Statement.{statement}
@@ -15,38 +14,35 @@ use Rattle.listing.proofs.row_text.put_rows.Tie as tie
 
 abbrev Inv-loop : tie.InvT-loop
 Inv-loop form n out₀ at figures modtotals next₀ i₀ out next i =
-    (i ≤ n) × (length out ≡ length out₀) × Put (rowsListing (leb 4 form) (take i figures) modtotals) at out₀ next out
+    Filled i n (rowsListing (leb 4 form) (take i figures) modtotals) at out₀ next out
 
 abbrev μ-loop : tie.MeasureT-loop
 μ-loop form n out₀ at figures modtotals next₀ i₀ out next i = n - i
 
 loop-holds : tie.Need-loop-holds Inv-loop μ-loop
 unfolding rowsListing
-loop-holds c = (omega arith, refl, put-nothing _ _ (omega arith))
+loop-holds c = filled-start _ _ _ (omega arith)
 
 put-marked-requires : tie.Need-put-marked-requires Inv-loop μ-loop
 put-marked-requires c κs =
     let t = c .before .before in
     let l = t .before .loop in
     let a = t .before .before .before .args in
-    omega (arith, rows-room (a .form) (a .t2) (a .t3) (l .i) (search needs) (a .n) (t .loop-test .taken), l .inv .2 .ends)
+    omega (arith, rows-room (a .form) (a .t2) (a .t3) (l .i) (search needs) (a .n) (t .loop-test .taken), l .inv .put .ends)
 
 loop-again : tie.Need-loop-again Inv-loop μ-loop
 loop-again c =
     let t = c .before .before .before .before .before in
     let l = t .before .loop in
     let a = t .before .before .before .args in
-    let p = put-then (l .inv .2) (c .before .before .put-marked .ensures) in
-    (omega arith, omega arith, put-same (sym (rows-next (a .form) (a .t2) (a .t3) (l .i) (search needs))) p)
-
-same-length : tie.Need-same-length Inv-loop μ-loop
-same-length c = c .before .loop .inv .1
+    filled-next (l .inv) (t .loop-test .taken) (c .before .before .put-marked .ensures)
+    (rows-next (a .form) (a .t2) (a .t3) (l .i) (search needs))
 
 returns : tie.Need-returns Inv-loop μ-loop
 returns c =
     let l = c .before .loop in
     let e : l .i ≡ c .before .before .before .args .n = omega arith in
-    rw e at (l .inv .2)
+    rw e at (l .inv .put)
 
 pub put-rows-spec : {M : Type 1} → statement M
 put-rows-spec =
@@ -63,5 +59,5 @@ put-rows-spec =
     (λ c. search needs)
     (λ c. search needs)
     loop-again
-    same-length
+    (λ c. search needs)
     returns)
