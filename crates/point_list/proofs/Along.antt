@@ -7,18 +7,19 @@ use mathlib.Core.List.{List}
 use native.Mathlib.Omega.{arith}
 use lib.Dec.{eqb, ltb}
 use lib.ListN.{length, getD}
+use borrow.Table.Steps.{cases}
+use native.Mathlib.Nat.{eq-or-lt-of-le}
 use borrow.Author.Tests.{eqb-true, eqb-false, ltb-true, ltb-false}
-use Rattle.model.specs.Sheets.{RunWithin}
 use Rattle.model.specs.Traces.{Trace, steps}
 use Rattle.points.specs.Points.{Ratio, ratioAt, zeroOne, thresholds, thresholdAt, LessRatio, EqualRatio, Has, Earliest}
 use Rattle.points.specs.Curve.{NoZero}
 use Rattle.points.proofs.Thresholds.{thresholds-positive, thresholds-ascending, thresholds-have, thresholds-first, thresholds-of-run}
-use Rattle.point_list.specs.inner.Held.{ratio, Holding, reuseRatios}
-use Rattle.point_list.specs.inner.Keys.{unitsOf, numbers, SortedKeys}
+use Rattle.point_list.specs.inner.Held.{ratio}
+use Rattle.point_list.specs.inner.Keys.{unitsOf, numbers}
 use Rattle.point_list.proofs.Quotients.{quotient-within}
 use Rattle.point_list.proofs.Fine.{Fine, fine-zero, fine-reuse, below-quotient, quotient-same, same-quotient, quotient-less}
 use Rattle.point_list.specs.inner.Walk.{quotientAt, reuseAt, beforeAt, ended, firstCost, leader}
-use Rattle.point_list.proofs.Ordered.{atKey, quot, key-at, key-fine, key-step, quotients-rise, found, exact-key}
+use Rattle.point_list.proofs.Ordered.{SortedRun, atKey, quot, key-at, key-fine, key-step, quotients-rise, found, exact-key}
 use Rattle.point_list.proofs.Writing.{ended-new, ended-same}
 
 below-equal : (p q r : Ratio) → q ≡ r → LessRatio p q → LessRatio p r
@@ -30,14 +31,13 @@ same-both p q r s e f h = rw (← e, ← f) h
 zero-ratio : (r w : ℕ) (y : Ratio) → ratio r w ≡ y → y .R ≡ 0 → ratio 0 w ≡ y
 zero-ratio r w y e z = rw (← z, ← e)
 
-module _ (T : Trace) (ok : RunWithin T) (rs ws keys : List ℕ) (n : ℕ) (held : Holding rs ws n (reuseRatios T (steps T)))
-    (sorted : SortedKeys rs ws (unitsOf (T .a)) n keys) where
+module _ {T : Trace} {rs ws keys : List ℕ} {n : ℕ} (g : SortedRun T rs ws keys n) where
   -- a threshold is fine
   pub fine-threshold : (k : ℕ) → k < length (thresholds T) → Fine (T .a) (thresholdAt T k)
   fine-threshold k lt =
       ⊎-elim
       (λ z. rw (z .is-zero) (fine-zero (T .a)))
-      (λ e. rw (e .exact) (fine-reuse T ok (e .step) (e .before) (e .reuse)))
+      (λ e. rw (e .exact) (fine-reuse T (g .ok) (e .step) (e .before) (e .reuse)))
       (thresholds-of-run T k lt)
 
   -- a threshold behind another is that of a reuse
@@ -56,128 +56,113 @@ module _ (T : Trace) (ok : RunWithin T) (rs ws keys : List ℕ) (n : ℕ) (held 
   pub record KeyOf (y : Ratio) : Type 0 where
     pub at : ℕ
     pub within : at < n
-    pub quotient : quotientAt keys at ≡ quot T ok rs ws keys n held sorted y
+    pub quotient : quotientAt keys at ≡ quot T y
 
   key-of : (y : Ratio) → Earliest T (steps T) y → KeyOf y
   key-of y e =
-      let f = found T ok rs ws keys n held sorted (e .step) (e .before) (e .reuse) in
+      let f = found g (e .step) (e .before) (e .reuse) in
       record {
         at = f .at;
         within = f .within;
         quotient =
-            key-at T ok rs ws keys n held sorted (f .at) (f .within) .quotient
-            ∙ ap (quot T ok rs ws keys n held sorted) (f .exact ∙ sym (e .exact));
+            key-at g (f .at) (f .within) .quotient
+            ∙ ap (quot T) (f .exact ∙ sym (e .exact));
       }
 
   -- before key i all quotients are at most the one before it
   pub before-most : (i k : ℕ) → i ≤ n → k < i → quotientAt keys k ≤ beforeAt keys i
   unfolding beforeAt
   before-most zero k le lt = absurd (omega arith)
-  before-most (suc i) k le lt = quotients-rise T ok rs ws keys n held sorted k i (omega arith) le
+  before-most (suc i) k le lt = quotients-rise g k i (omega arith) le
 
   -- the quotient before key i is at most its own
   pub before-rises : (i : ℕ) → i < n → beforeAt keys i ≤ quotientAt keys i
   unfolding beforeAt
   before-rises zero lt = omega arith
-  before-rises (suc i) lt = quotients-rise T ok rs ws keys n held sorted i (suc i) (omega arith) lt
+  before-rises (suc i) lt = quotients-rise g i (suc i) (omega arith) lt
 
   -- threshold k has the quotient before key i
   pub record Reached (k i : ℕ) : Type 0 where
     pub there : k < length (thresholds T)
-    pub quotient : quot T ok rs ws keys n held sorted (thresholdAt T k) ≡ beforeAt keys i
+    pub quotient : quot T (thresholdAt T k) ≡ beforeAt keys i
 
   module _ (k i : ℕ) (v : Reached k i) where
     -- a quotient above it: the next threshold is that of key i
     module _ (lt : i < n) (up : beforeAt keys i < quotientAt keys i) where
       abbrev x : Ratio
-      x = atKey T ok rs ws keys n held sorted i
+      x = atKey g i
 
-      x-is : quotientAt keys i ≡ quot T ok rs ws keys n held sorted x
-      x-is = key-at T ok rs ws keys n held sorted i lt .quotient
+      x-is : quotientAt keys i ≡ quot T x
+      x-is = key-at g i lt .quotient
 
       fine-x : Fine (T .a) x
-      fine-x = key-fine T ok rs ws keys n held sorted i lt
+      fine-x = key-fine g i lt
 
       above : LessRatio (thresholdAt T k) x
-      above = quotient-less (T .a) (thresholdAt T k) x (fine-threshold k (v .there)) fine-x (omega (arith, v .quotient, x-is))
+      above = quotient-less (fine-threshold k (v .there)) fine-x (omega (arith, v .quotient, x-is))
 
       -- the threshold of key i's ratio
       x-has : Has (thresholds T) x
       x-has =
-          let o = key-step T ok rs ws keys n held sorted i lt in
+          let o = key-step g i lt in
           rw (o .exact) (thresholds-have T (o .step) (o .before) (o .reuse))
+
+      fine-has : Fine (T .a) (thresholdAt T (x-has .place))
+      fine-has = fine-threshold (x-has .place) (x-has .within)
 
       -- it is behind threshold k
       x-behind : k < x-has .place
-      x-behind = go (ltb k (x-has .place)) refl (eqb (x-has .place) k) refl
-        where
-          go : (a : Bool) → ltb k (x-has .place) ≡ a → (b : Bool) → eqb (x-has .place) k ≡ b → k < x-has .place
-          go true e b f = ltb-true k (x-has .place) e
-          go false e true f =
-              let same : EqualRatio (thresholdAt T k) x = rw (eqb-true (x-has .place) k f) at (x-has .equal) in
-              absurd (omega (arith, same, above))
-          go false e false f =
-              let ne = eqb-false (x-has .place) k f in
-              let low =
-              thresholds-ascending T (x-has .place) k (omega (arith, ltb-false k (x-has .place) e)) (v .there) in
-              let at = thresholdAt T (x-has .place) in
-              let fine-at = fine-threshold (x-has .place) (x-has .within) in
-              absurd
-              (omega (
-                arith,
-                below-quotient (T .a) at (thresholdAt T k) fine-at (fine-threshold k (v .there)) low,
-                quotient-same (T .a) at x fine-at fine-x (x-has .equal),
-                v .quotient,
-                x-is,
-              ))
+      x-behind =
+          cases (ltb k (x-has .place)) (λ e. ltb-true k (x-has .place) e)
+          (λ e. ⊎-elim
+          (λ f.
+          let same : EqualRatio (thresholdAt T k) x = rw f at (x-has .equal) in
+          absurd (omega (arith, same, above)))
+          (λ lt. absurd
+          (omega (
+            arith,
+            below-quotient fine-has (fine-threshold k (v .there)) (thresholds-ascending T (x-has .place) k lt (v .there)),
+            quotient-same fine-has fine-x (x-has .equal),
+            v .quotient,
+            x-is,
+          )))
+          (eq-or-lt-of-le (ltb-false k (x-has .place) e)))
 
       next-there : suc k < length (thresholds T)
       next-there = omega (arith, x-behind, x-has .within)
 
       -- its key is not before key i, nor is its quotient above
-      next-quotient : quotientAt keys i ≡ quot T ok rs ws keys n held sorted (thresholdAt T (suc k))
+      next-quotient : quotientAt keys i ≡ quot T (thresholdAt T (suc k))
       next-quotient =
-          let y = thresholdAt T (suc k) in
-          let key = key-of y (later-earliest k next-there) in
-          let fine-y = fine-threshold (suc k) next-there in
+          let key = key-of (thresholdAt T (suc k)) (later-earliest k next-there) in
           let over =
-          below-quotient (T .a) (thresholdAt T k) y (fine-threshold k (v .there)) fine-y
-          (thresholds-ascending T k (suc k) (omega arith) next-there) in
-          let low = from key over (ltb (key .at) i) refl in
-          omega (arith, low, x-is, not-above fine-y (eqb (suc k) (x-has .place)) refl)
+          below-quotient (fine-threshold k (v .there)) fine-next (thresholds-ascending T k (suc k) (omega arith) next-there) in
+          let low : quotientAt keys i ≤ quot T (thresholdAt T (suc k)) =
+          cases (ltb (key .at) i)
+          (λ e. absurd (omega (arith, over, key .quotient, v .quotient, before-most i (key .at) (omega arith) (ltb-true (key .at) i e))))
+          (λ e. omega (arith, key .quotient, quotients-rise g i (key .at) (ltb-false (key .at) i e) (key .within))) in
+          omega (arith, low, x-is, not-above)
         where
-          from : (key : KeyOf (thresholdAt T (suc k)))
-              → quot T ok rs ws keys n held sorted (thresholdAt T k) < quot T ok rs ws keys n held sorted (thresholdAt T (suc k))
-              → (b : Bool) → ltb (key .at) i ≡ b → quotientAt keys i ≤ quot T ok rs ws keys n held sorted (thresholdAt T (suc k))
-          from key over true e =
-              absurd (omega (arith, over, key .quotient, v .quotient, before-most i (key .at) (omega arith) (ltb-true (key .at) i e)))
-          from key over false e =
-              omega (
-                arith,
-                key .quotient,
-                quotients-rise T ok rs ws keys n held sorted i (key .at) (ltb-false (key .at) i e) (key .within),
-              )
+          fine-next : Fine (T .a) (thresholdAt T (suc k))
+          fine-next = fine-threshold (suc k) next-there
 
-          not-above : Fine (T .a) (thresholdAt T (suc k)) → (b : Bool) → eqb (suc k) (x-has .place) ≡ b
-              → quot T ok rs ws keys n held sorted (thresholdAt T (suc k)) ≤ quot T ok rs ws keys n held sorted x
-          not-above fine-y true e =
-              let same : EqualRatio (thresholdAt T (suc k)) x = rw (← eqb-true (suc k) (x-has .place) e) at (x-has .equal) in
-              omega (arith, quotient-same (T .a) (thresholdAt T (suc k)) x fine-y fine-x same)
-          not-above fine-y false e =
-              let ne = eqb-false (suc k) (x-has .place) e in
-              let at = thresholdAt T (x-has .place) in
-              let fine-at = fine-threshold (x-has .place) (x-has .within) in
-              omega (
+          not-above : quot T (thresholdAt T (suc k)) ≤ quot T x
+          not-above =
+              ⊎-elim
+              (λ e.
+              let same : EqualRatio (thresholdAt T (suc k)) x = rw (← e) at (x-has .equal) in
+              omega (arith, quotient-same fine-next fine-x same))
+              (λ lt. omega (
                 arith,
-                below-quotient (T .a) (thresholdAt T (suc k)) at fine-y fine-at
-                    (thresholds-ascending T (suc k) (x-has .place) (omega (arith, x-behind)) (x-has .within)),
-                quotient-same (T .a) at x fine-at fine-x (x-has .equal),
-              )
+                below-quotient fine-next fine-has (thresholds-ascending T (suc k) (x-has .place) lt (x-has .within)),
+                quotient-same fine-has fine-x (x-has .equal),
+              ))
+              (eq-or-lt-of-le x-behind)
 
       pub next-threshold : thresholdAt T (suc k) ≡ x
       next-threshold =
           sym
-          (exact-key T ok rs ws keys n held sorted (thresholdAt T (suc k)) (later-earliest k next-there) i lt next-quotient
+          (exact-key g (thresholdAt T (suc k)) (later-earliest k next-there) i lt next-quotient
           (λ j lj. omega (arith, before-most i j (omega arith) lj)))
 
       pub next-reached : Reached (suc k) (suc i)
@@ -186,25 +171,23 @@ module _ (T : Trace) (ok : RunWithin T) (rs ws keys : List ℕ) (n : ℕ) (held 
 
     -- no key left: no threshold behind
     pub last-threshold : n ≤ i → i ≤ n → length (thresholds T) ≡ suc k
-    last-threshold ge le = go (ltb (suc k) (length (thresholds T))) refl
-      where
-        go : (b : Bool) → ltb (suc k) (length (thresholds T)) ≡ b → length (thresholds T) ≡ suc k
-        go true e =
-            let lt = ltb-true (suc k) (length (thresholds T)) e in
-            let key = key-of (thresholdAt T (suc k)) (later-earliest k lt) in
-            absurd
-            (omega (
-              arith,
-              below-quotient (T .a) (thresholdAt T k) (thresholdAt T (suc k)) (fine-threshold k (v .there)) (fine-threshold (suc k) lt)
-                  (thresholds-ascending T k (suc k) (omega arith) lt),
-              key .quotient,
-              v .quotient,
-              before-most i (key .at) le (omega (arith, key .within)),
-            ))
-        go false e = omega (arith, ltb-false (suc k) (length (thresholds T)) e, v .there)
+    last-threshold ge le =
+        cases (ltb (suc k) (length (thresholds T)))
+        (λ e.
+        let lt = ltb-true (suc k) (length (thresholds T)) e in
+        let key = key-of (thresholdAt T (suc k)) (later-earliest k lt) in
+        absurd
+        (omega (
+          arith,
+          below-quotient (fine-threshold k (v .there)) (fine-threshold (suc k) lt) (thresholds-ascending T k (suc k) (omega arith) lt),
+          key .quotient,
+          v .quotient,
+          before-most i (key .at) le (omega (arith, key .within)),
+        )))
+        (λ e. omega (arith, ltb-false (suc k) (length (thresholds T)) e, v .there))
 
   -- the first threshold is 0
-  first-quotient : quot T ok rs ws keys n held sorted (thresholdAt T 0) ≡ 0
+  first-quotient : quot T (thresholdAt T 0) ≡ 0
   first-quotient =
       let first = thresholds-first T in
       let none : thresholdAt T 0 .R * unitsOf (T .a) ≡ 0 = ap (λ (r : ℕ). r * unitsOf (T .a)) (first .zero-first) ∙ omega arith in
@@ -223,12 +206,12 @@ module _ (T : Trace) (ok : RunWithin T) (rs ws keys : List ℕ) (n : ℕ) (held 
     where
       none-there : NoZero T (thresholdAt T 0) → 0 < n → quotientAt keys 0 ≡ 0 → ⊥
       none-there z lt q =
-          let o = key-step T ok rs ws keys n held sorted 0 lt in
-          let x = atKey T ok rs ws keys n held sorted 0 in
+          let o = key-step g 0 lt in
+          let x = atKey g 0 in
           let same : EqualRatio x (thresholdAt T 0) =
-          same-quotient (T .a) x (thresholdAt T 0) (key-fine T ok rs ws keys n held sorted 0 lt)
+          same-quotient (key-fine g 0 lt)
           (fine-threshold 0 (thresholds-first T .some-entry))
-          (sym (key-at T ok rs ws keys n held sorted 0 lt .quotient) ∙ (q ∙ sym first-quotient)) in
+          (sym (key-at g 0 lt .quotient) ∙ (q ∙ sym first-quotient)) in
           z .no-reuse (o .step) (o .before) (o .reuse)
           (same-both x (ratioAt T (o .step)) (thresholdAt T 0) zeroOne (o .exact) (z .is-zero) same)
 
@@ -240,7 +223,7 @@ module _ (T : Trace) (ok : RunWithin T) (rs ws keys : List ℕ) (n : ℕ) (held 
               arith,
               key .quotient,
               first-quotient,
-              quotients-rise T ok rs ws keys n held sorted 0 (key .at) (omega arith) (key .within),
+              quotients-rise g 0 (key .at) (omega arith) (key .within),
             ),
           )
 
@@ -255,7 +238,7 @@ module _ (T : Trace) (ok : RunWithin T) (rs ws keys : List ℕ) (n : ℕ) (held 
           let zero-quotient : quotientAt keys 0 ≡ 0 = omega arith in
           let number : reuseAt keys 0 ≡ getD keys 0 0 = omega arith in
           let is =
-          exact-key T ok rs ws keys n held sorted (thresholdAt T 0) y 0 lt (zero-quotient ∙ sym first-quotient)
+          exact-key g (thresholdAt T 0) y 0 lt (zero-quotient ∙ sym first-quotient)
           (λ k l. absurd (omega arith)) in
           rw (e, f, ← number)
           (zero-ratio (getD rs (reuseAt keys 0) 0) (getD ws (reuseAt keys 0) 0) (thresholdAt T 0) is (thresholds-first T .zero-first))
@@ -276,24 +259,22 @@ module _ (T : Trace) (ok : RunWithin T) (rs ws keys : List ℕ) (n : ℕ) (held 
 
     along-step : (i : ℕ) → i < n → Along i → Along (suc i)
     unfolding leader beforeAt
-    along-step i lt v = go (eqb (quotientAt keys i) (beforeAt keys i)) refl
-      where
-        go : (b : Bool) → eqb (quotientAt keys i) (beforeAt keys i) ≡ b → Along (suc i)
-        go true e =
-            let same = eqb-true (quotientAt keys i) (beforeAt keys i) e in
-            record {
-              reached =
-                  rw (ended-same keys i same)
-                  (record { there = v .reached .there; quotient = v .reached .quotient ∙ sym same });
-              leads = rw (e, ended-same keys i same) (v .leads);
-            }
-        go false e =
-            let ne = eqb-false (quotientAt keys i) (beforeAt keys i) e in
-            let up : beforeAt keys i < quotientAt keys i = omega (arith, before-rises i lt) in
-            record {
-              reached = rw (ended-new keys i ne) (next-reached (ended keys i) i (v .reached) lt up);
-              leads = rw (e, ended-new keys i ne) (sym (next-threshold (ended keys i) i (v .reached) lt up));
-            }
+    along-step i lt v =
+        cases (eqb (quotientAt keys i) (beforeAt keys i))
+        (λ e.
+        let same = eqb-true (quotientAt keys i) (beforeAt keys i) e in
+        record {
+          reached =
+              rw (ended-same keys i same) (record { there = v .reached .there; quotient = v .reached .quotient ∙ sym same });
+          leads = rw (e, ended-same keys i same) (v .leads);
+        })
+        (λ e.
+        let ne = eqb-false (quotientAt keys i) (beforeAt keys i) e in
+        let up : beforeAt keys i < quotientAt keys i = omega (arith, before-rises i lt) in
+        record {
+          reached = rw (ended-new keys i ne) (next-reached (ended keys i) i (v .reached) lt up);
+          leads = rw (e, ended-new keys i ne) (sym (next-threshold (ended keys i) i (v .reached) lt up));
+        })
 
     pub along : (i : ℕ) → i ≤ n → Along i
     along zero le = along-start

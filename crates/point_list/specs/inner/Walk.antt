@@ -1,5 +1,5 @@
 -- The walk along sorted keys: where the quotient changes one point ends and the next begins. Assumes nothing.
-use Prim.Native.Nat.{ℕ, zero, suc, _+_, _-_, _/_, _%_, _^_, _≤_, _<_}
+use Prim.Native.Nat.{ℕ, zero, suc, _+_, _-_, _*_, _/_, _%_, _^_, _≤_, _<_}
 use mathlib.Core.Bool.{cond, _&&_}
 use mathlib.Core.List.{List, [], _∷_, _++_}
 use lib.Dec.{eqb, ltb}
@@ -71,3 +71,8 @@ module _ (rs ws keys : List ℕ) (memory load n : ℕ) where
     pub ws-long : places ≤ length ws
     pub memory-small : memoryTo n < 2 ^ 64
     pub cost-within : sum n (λ k. getD ws (reuseAt keys k) 0) ≤ load
+
+  -- and a place has room for the points
+  pub record Writable (out : List ℕ) : Type 0 where
+    pub sums : Summable
+    pub room : 4 * suc (ended keys n) ≤ length out

@@ -18,9 +18,6 @@ Inv-loop keys n count₀ last₀ k₀ count last k = Counting keys n count last 
 abbrev μ-loop : tie.MeasureT-loop
 μ-loop keys n count₀ last₀ k₀ count last k = n - k
 
-loop-holds : tie.Need-loop-holds Inv-loop μ-loop
-loop-holds c = counting-start (now (c .before .args .keys)) (c .before .args .n)
-
 add-count : tie.Need-add-count Inv-loop μ-loop
 add-count c =
     let s = c .before .before .before .before .before in
@@ -34,11 +31,7 @@ add-count c =
     )
 
 loop-again : tie.Need-loop-again Inv-loop μ-loop
-loop-again c =
-    let s = c .before .before .before .before .before in
-    let l = c .before .before .before .loop in
-    counting-step (now (s .args .keys)) (s .args .n) (l .count) (l .last) (l .k) (c .differ .result) (l .inv)
-    (c .before .before .loop-test .taken) (c .differ .ensures)
+loop-again c = counting-step (c .before .before .before .loop .inv) (c .before .before .loop-test .taken) (c .differ .ensures)
 
 returns : tie.Need-returns Inv-loop μ-loop
 returns c =
@@ -52,7 +45,7 @@ count-points-spec =
     (tie.spec
     Inv-loop
     μ-loop
-    loop-holds
+    (λ c. counting-start)
     (λ c. search needs)
     (λ c. search needs)
     (λ c κs. search needs)
