@@ -18,7 +18,7 @@ use Rattle.stores.specs.Modtotal.{joinsBefore, modSchedule}
 use Rattle.stores.specs.inner.Decisions.{modKept}
 use Rattle.stores.proofs.Decisions.{decisions-mod}
 use Rattle.stores.proofs.Nexts.{nextMark, mark-step, mark-end, nextMarked-eq}
-use Rattle.store_plan.specs.declared.Found.{Found}
+use Rattle.store_plan.specs.declared.mod_pass.Found.{Found}
 use Rattle.store_plan.specs.inner.Decisions.{noFlags, noDecisions, FoundIn, FoldedFrom, Folded, Decides}
 
 -- before the step at place t: the flag of each segment, and the decisions of the steps from there on
@@ -159,8 +159,8 @@ unfolding modKept
 folded-decides T marks row found on told folded t lt touch =
     folded t (omega arith) lt touch
     ∙ rw (
-      told .kept-are t lt touch,
-      nextMarked-eq T marks (decisionsOf (found .joined)) (joinsBefore T marks (row .h) (row .d)) (told .joined-are) (steps T - t) t
+      told .touches .kept-are t lt touch,
+      nextMarked-eq T marks (decisionsOf (found .joined)) (joinsBefore T marks (row .h) (row .d)) (told .touches .joined-are) (steps T - t) t
           (entry T t)
           (omega arith),
     )

@@ -1,4 +1,3 @@
-pub mod Adding
 pub mod Bounds
 pub mod Finding
 pub mod Folding

@@ -66,15 +66,15 @@ pub record Told (T : Trace) (marks : ℕ → Bool) (row : PriceRow) (t i : ℕ) 
   pub kept-is : x .kept ≡ kept T (row .h) (row .d) t i
   pub joined-is : x .joined ≡ joinsBefore T marks (row .h) (row .d) t i
 
-module _ (T : Trace) (marks : ℕ → Bool) (row : PriceRow) (ok : RunWithin T) where
-  pub tables-start : (last since : List ℕ) → last ≡ lastTable T 0 → since ≡ noneSince → Tables T marks row last since 0
-  tables-start last since el es = record { within = omega arith; last-is = el; since-is = es ∙ since-start T marks row }
+module _ {T : Trace} (ok : RunWithin T) {marks : ℕ → Bool} {row : PriceRow} where
+  pub tables-start : {last since : List ℕ} → last ≡ lastTable T 0 → since ≡ noneSince → Tables T marks row last since 0
+  tables-start el es = record { within = omega arith; last-is = el; since-is = es ∙ since-start T marks row }
 
-  module _ (last since : List ℕ) (t : ℕ) (v : Tables T marks row last since t) (lt : t < steps T) where
-    pub tables-told : (i : ℕ) (x : Touched) → i < segs T
+  module _ {last since : List ℕ} {t : ℕ} (v : Tables T marks row last since t) (lt : t < steps T) where
+    pub tables-told : {i : ℕ} {x : Touched} → i < segs T
         → x ≡ touchBy (T .kind) (T .a) row (sizeOf T i) (getD last i 0) (getD since i 0) t (marks t) → Told T marks row t i x
     unfolding storeCost joinsBefore
-    tables-told i x li ex =
+    tables-told {i} li ex =
         rw (
           ex,
           v .last-is,
@@ -104,9 +104,9 @@ module _ (T : Trace) (marks : ℕ → Bool) (row : PriceRow) (ok : RunWithin T) 
         (omega (arith, since-within T ok marks row prices t i (v .within) li, ok .steps-within))
 
     -- a touch of segment i
-    pub tables-touch : (i : ℕ) (x : Touched) → i ≡ getD (T .entries) t 0 → i < segs T → Told T marks row t i x
+    pub tables-touch : {i : ℕ} {x : Touched} → i ≡ getD (T .entries) t 0 → i < segs T → Told T marks row t i x
         → Tables T marks row (set last i (t + 1)) (set since i (x .since)) (t + 1)
-    tables-touch i x ei li told =
+    tables-touch {i} ei li told =
         let e : entry T t ≡ i = entry-ref T t lt ∙ sym ei in
         record {
           within = omega arith;

@@ -4,8 +4,9 @@ pub mod mod_pass;
 pub mod modtotals;
 pub mod store_price;
 
-use mod_pass::touching::none_since;
-use mod_pass::touching::touch;
+use mod_pass::Found;
+use mod_pass::find;
+use mod_pass::no_decisions;
 use model::Kind;
 use model::PriceRow;
 use model::Sheet;
@@ -14,65 +15,16 @@ ghost use mathlib.Core.Bool.{cond, _||_};
 ghost use mathlib.Core.List.{_++_};
 ghost use Prim.Native.Nat.{_*_, _≤_};
 ghost use lib.ListN.{length, drop};
-ghost use Rattle.model.specs.Sheets.{mostSegs, mostSteps, runOf, RunWithin, marksOf};
+ghost use Rattle.model.specs.Sheets.{runOf, marksOf};
 ghost use Rattle.model.specs.Traces.{Trace, segs};
 ghost use Rattle.stores.specs.Modtotal.{modSchedule};
-ghost use Rattle.store_plan.specs.inner.Decisions.{noDecisions, noFlags, FoundIn, Folded, Decides};
-
-// For each step whether its touch is a kept reuse, and whether, modifying, it belongs to the stay of the modifying touch before.
-struct Found {
-    kept: [bool; Sheet::MAX_STEPS],
-    joined: [bool; Sheet::MAX_STEPS],
-}
-
-// No touch is decided so.
-fn no_decisions() -> [bool; Sheet::MAX_STEPS]
-    ensures { λ r. ⌜ r ≡ noDecisions ⌝ }
-{
-    [false; Sheet::MAX_STEPS]
-}
+ghost use Rattle.store_plan.specs.inner.Decisions.{noFlags, Markable, Foldable, Folded, Decides};
 
 // After the last step no segment has a next modifying touch.
 fn no_flags() -> [bool; Sheet::MAX_SEGS]
     ensures { λ r. ⌜ r ≡ noFlags ⌝ }
 {
     [false; Sheet::MAX_SEGS]
-}
-
-// The pass over the references, from the warm segments on.
-fn find(
-    kind: Kind,
-    a: u8,
-    row: PriceRow,
-    sizes: &[u16],
-    warm: &[u16],
-    refs: &[u16],
-    marks: &[bool],
-) -> Found
-    requires { ⌜ RunWithin (runOf kind a (now sizes) (now warm) (now refs)) × (length (now marks) ≡ length (now refs)) ⌝ }
-    ensures { λ r.
-        ⌜ FoundIn (runOf kind a (now (sizes .entry)) (now (warm .entry)) (now (refs .entry))) (marksOf (now (marks .entry))) row r ⌝ }
-{
-    let mut kept = no_decisions();
-    let mut joined = no_decisions();
-    let mut last = model::start_table(warm);
-    let mut since = none_since();
-    let mut t: usize = 0;
-    while t < refs.len() {
-        let i = refs[t] as usize;
-        if i < sizes.len() {
-            let z = sizes[i];
-            let x = touch(kind, a, row, z, last[i], since[i], t as u16, marks[t]);
-            kept[t] = x.kept;
-            joined[t] = x.joined;
-            since[i] = x.since;
-            t += 1;
-            last[i] = t as u16;
-        } else {
-            t += 1;
-        }
-    }
-    Found { kept, joined }
 }
 
 // Whether the next modifying touch of a segment, from a touch of it on, belongs to the stay of the one before.
@@ -91,7 +43,7 @@ fn either(kept: bool, flag: bool) -> bool
 
 // The pass from the last step to the first, which keeps a flag of each segment.
 fn fold(segments: usize, refs: &[u16], marks: &[bool], found: Found) -> [bool; Sheet::MAX_STEPS]
-    requires { ⌜ (segments ≤ mostSegs) × (length (now refs) ≤ mostSteps) × (length (now marks) ≡ length (now refs)) ⌝ }
+    requires { ⌜ Foldable segments (now refs) (now marks) ⌝ }
     ensures { λ r.
         ⌜ ((T : Trace) → segs T ≡ segments → T .entries ≡ now (refs .entry) → Folded T (marksOf (now (marks .entry))) found r) ⌝ }
 {
@@ -120,7 +72,7 @@ pub fn mod_decisions(
     refs: &[u16],
     marks: &[bool],
 ) -> [bool; Sheet::MAX_STEPS]
-    requires { ⌜ RunWithin (runOf kind a (now sizes) (now warm) (now refs)) × (length (now marks) ≡ length (now refs)) ⌝ }
+    requires { ⌜ Markable (runOf kind a (now sizes) (now warm) (now refs)) (now marks) ⌝ }
     ensures { λ r.
         ⌜ Decides (runOf kind a (now (sizes .entry)) (now (warm .entry)) (now (refs .entry))) (marksOf (now (marks .entry))) row r ⌝ }
 {
@@ -139,7 +91,7 @@ pub fn write_modified(
     marks: &[bool],
     out: &mut [u8],
 )
-    requires { ⌜ RunWithin (runOf kind a (now sizes) (now warm) (now refs)) × (length (now marks) ≡ length (now refs)) ⌝ }
+    requires { ⌜ Markable (runOf kind a (now sizes) (now warm) (now refs)) (now marks) ⌝ }
     requires { ⌜ 32 * length (now refs) ≤ length (now out) ⌝ }
     ensures { λ _.
         ⌜ now (out .exit) ≡ modSchedule (runOf kind a (now (sizes .entry)) (now (warm .entry)) (now (refs .entry)))

@@ -56,7 +56,10 @@ fn row_modtotal(
         (row .h) (row .d) ⌝ }
 {
     if any {
-        return total + crate::mod_pass::stores(kind, a, row, sizes, warm, refs, marks);
+        return total
+            + crate::mod_pass::find(kind, a, row, sizes, warm, refs, marks)
+                .added
+                .0;
     }
     total
 }

@@ -24,7 +24,7 @@ loop-holds : tie.Need-loop-holds Inv-loop μ-loop
 loop-holds c =
     let s = c .before .before .before .before in
     let a = s .args in
-    folding-start (a .segments) (now (a .refs)) (marksOf (now (a .marks))) (a .t4) (s .pre .0) (s .pre .1) (c .before .no-flags .result)
+    folding-start (a .segments) (now (a .refs)) (marksOf (now (a .marks))) (a .t4) (s .pre .segs-within) (s .pre .steps-within) (c .before .no-flags .result)
     (c .no-decisions .result) (c .before .no-flags .ensures) (c .no-decisions .ensures)
 
 cast-i : tie.Need-cast-i Inv-loop μ-loop
@@ -37,7 +37,7 @@ loop-again c =
     let s = Entry turn in
     let a = s .args in
     let l = turn .before .loop in
-    folding-touch (a .segments) (now (a .refs)) (marksOf (now (a .marks))) (a .t4) (s .pre .0) (s .pre .1) (l .flags) (l .on) (l .t)
+    folding-touch (a .segments) (now (a .refs)) (marksOf (now (a .marks))) (a .t4) (s .pre .segs-within) (s .pre .steps-within) (l .flags) (l .on) (l .t)
     (l .inv) (turn .loop-test .taken) (getD (now (a .refs)) (l .t - 1) 0) (c .before .before .flag .result) (c .either .result) refl
     (touch .if1 .taken) (c .before .before .flag .ensures) (c .either .ensures)
 
@@ -47,7 +47,7 @@ loop-again-2 c =
     let s = Entry turn in
     let a = s .args in
     let l = turn .before .loop in
-    folding-idle (a .segments) (now (a .refs)) (marksOf (now (a .marks))) (a .t4) (s .pre .0) (s .pre .1) (l .flags) (l .on) (l .t)
+    folding-idle (a .segments) (now (a .refs)) (marksOf (now (a .marks))) (a .t4) (s .pre .segs-within) (s .pre .steps-within) (l .flags) (l .on) (l .t)
     (l .inv) (turn .loop-test .taken) (c .if1 .left)
 
 returns : tie.Need-returns Inv-loop μ-loop
@@ -55,7 +55,7 @@ returns c =
     let s = c .before .before .before .before .before .before in
     let a = s .args in
     let l = c .before .loop in
-    folding-end (a .segments) (now (a .refs)) (marksOf (now (a .marks))) (a .t4) (s .pre .0) (s .pre .1) (l .flags) (l .on) (l .t)
+    folding-end (a .segments) (now (a .refs)) (marksOf (now (a .marks))) (a .t4) (s .pre .segs-within) (s .pre .steps-within) (l .flags) (l .on) (l .t)
     (l .inv) (c .loop-test .left)
 
 pub fold-spec : {M : Type 1} → statement M

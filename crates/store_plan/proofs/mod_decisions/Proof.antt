@@ -19,7 +19,7 @@ returns c =
 fold-requires : tie.Need-fold-requires
 fold-requires c κs =
     let s = c .before .before .before .before .before in
-    (s .pre .0 .segs-within, s .pre .0 .steps-within, s .pre .1)
+    record { segs-within = s .pre .run .segs-within; steps-within = s .pre .run .steps-within; marks-all = s .pre .marks-all }
 
 pub mod-decisions-spec : {M : Type 1} → statement M
 mod-decisions-spec = tie.close (tie.spec (λ c κs. search needs) fold-requires returns)

@@ -14,12 +14,12 @@ use Rattle.store_plan.proofs.write_modified.Tie as tie
 
 slice-aggregate-write-decided : tie.Need-slice-aggregate-write-decided
 slice-aggregate-write-decided c =
-    sym (length-take-le _ _ (omega (arith, c .before .before .before .before .before .before .before .pre .0 .0 .steps-within)))
+    sym (length-take-le _ _ (omega (arith, c .before .before .before .before .before .before .before .pre .0 .run .steps-within)))
 
 write-decided-requires : tie.Need-write-decided-requires
 write-decided-requires c κs =
     let s = c .before .before .before .before .before .before .before .before in
-    (s .pre .0 .0 .segs-within, length-take-le _ _ (omega (arith, s .pre .0 .0 .steps-within)), s .pre .1)
+    (s .pre .0 .run .segs-within, length-take-le _ _ (omega (arith, s .pre .0 .run .steps-within)), s .pre .1)
 
 returns : tie.Need-returns
 returns c =

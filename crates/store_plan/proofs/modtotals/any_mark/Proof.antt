@@ -14,9 +14,6 @@ Inv-loop marks t₀ t = someMark (drop t marks) ≡ someMark marks
 abbrev μ-loop : tie.MeasureT-loop
 μ-loop marks t₀ t = length marks - t
 
-loop-holds : tie.Need-loop-holds Inv-loop μ-loop
-loop-holds c = refl
-
 returns : tie.Need-returns Inv-loop μ-loop
 returns c =
     let turn = c .before .before in
@@ -40,7 +37,7 @@ any-mark-spec =
     (tie.spec
     Inv-loop
     μ-loop
-    loop-holds
+    (λ c. refl)
     (λ c. search needs)
     returns
     (λ c. search needs)

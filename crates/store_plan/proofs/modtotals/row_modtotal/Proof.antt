@@ -16,27 +16,27 @@ use Rattle.store_plan.proofs.modtotals.row_modtotal.Tie as tie
 abbrev Run : tie.Start → Trace
 Run s = runOf (s .args .kind) (s .args .a) (now (s .args .sizes)) (now (s .args .warm)) (now (s .args .refs))
 
--- the sum is modtotal
-adds : (c : tie.After-stores) → let s = c .before .before .before .before .before .before in
-    s .args .total + c .stores .result ≡ modtotal (Run s) (marksOf (now (s .args .marks))) (s .args .row .h) (s .args .row .d)
+-- where the function begins, from the pass; and the sum is modtotal
+abbrev Begin : tie.After-find → tie.Start
+Begin c = c .before .before .before .before .before .before
+
+adds : (c : tie.After-find) → let a = Begin c .args in
+    a .total + c .find .result .added .0 ≡ modtotal (Run (Begin c)) (marksOf (now (a .marks))) (a .row .h) (a .row .d)
 adds c =
-    let s = c .before .before .before .before .before .before in
-    modtotal-adds (Run s) (now (s .args .marks)) (s .args .row) (s .pre .1 .1) (c .stores .ensures)
+    let s = Begin c in
+    modtotal-adds (Run s) (now (s .args .marks)) (s .args .row) (s .pre .1 .1) (c .find .ensures .added-is)
 
 -- which is within 64 bits
 add-result : tie.Need-add-result
 add-result c =
-    let s = c .before .before .before .before .before .before in
+    let s = Begin (c .before) in
     let row = s .args .row in
-    let marks = marksOf (now (s .args .marks)) in
     omega (
       arith,
-      adds c,
-      modtotal-within (Run s) (s .pre .0 .0) marks (row .h) (row .d) (omega (arith, s .good)) (omega (arith, s .good)),
+      adds (c .before),
+      modtotal-within (Run s) (s .pre .0 .0) (marksOf (now (s .args .marks))) (row .h) (row .d) (omega (arith, s .good))
+          (omega (arith, s .good)),
     )
-
-returns : tie.Need-returns
-returns c = adds c
 
 returns-2 : tie.Need-returns-2
 returns-2 c =
@@ -44,4 +44,4 @@ returns-2 c =
     modtotal-plain (Run s) (now (s .args .marks)) (s .args .row) (s .pre .1 .1) (sym (s .pre .1 .0) ∙ c .if1 .left)
 
 pub row-modtotal-spec : {M : Type 1} → statement M
-row-modtotal-spec = tie.close (tie.spec (λ c κs. search needs) add-result returns returns-2)
+row-modtotal-spec = tie.close (tie.spec (λ c κs. search needs) add-result (λ c. adds (c .before)) returns-2)

@@ -1,8 +1,8 @@
 -- `no_decisions` meets its contract. Assumes nothing.
 use mathlib.Core.Path.{refl}
 use Rattle.store_plan.specs.inner.Decisions.{noDecisions}
-use Rattle.store_plan.proofs.no_decisions.Statement.{statement}
-use Rattle.store_plan.proofs.no_decisions.Tie as tie
+use Rattle.store_plan.proofs.mod_pass.no_decisions.Statement.{statement}
+use Rattle.store_plan.proofs.mod_pass.no_decisions.Tie as tie
 
 returns : tie.Need-returns
 unfolding noDecisions
