@@ -1,15 +1,16 @@
 -- The prices of the rows in two lists: they are filled row by row, and tell which rows keep a reuse; where the rows that do begin is the
 -- first row. Assumes nothing.
-use Prim.Native.Nat.{ℕ, suc, _+_, _*_, _≤_, _<_, min}
+use Prim.Native.Nat.{ℕ, _+_, _*_, _≤_, _<_}
 use mathlib.Core.Path.{_≡_, refl, sym, ap, _∙_}
 use mathlib.Core.Logic.{_⊎_, inl, inr, ⊎-elim}
-use mathlib.Core.Bool.{Bool, true, false}
+use mathlib.Core.Bool.{true, false}
 use mathlib.Core.List.{List}
 use native.Mathlib.Omega.{arith}
-use native.Mathlib.Nat.{zero-mul}
+use native.Mathlib.Nat.{le-antisymm}
 use lib.Dec.{ltb}
-use lib.ListN.{length, getD, set, take, replicate, length-take, List·getD-eq-default}
+use lib.ListN.{length, set, take, replicate, length-take, List·getD-eq-default}
 use lib.Seq.{getD-take, length-take-le}
+use borrow.Table.Steps.{cases}
 use borrow.Author.Tests.{le-leb, ltb-true, ltb-false}
 use Rattle.model.specs.Sheets.{RowsWithin, rowIn, mostRows}
 use Rattle.model.specs.Sums.{tabulate}
@@ -29,23 +30,12 @@ beyond rows r le = List·getD-eq-default rows noRow le
 
 -- a place among the first n, or beyond
 among : (r n : ℕ) → (r < n) ⊎ (n ≤ r)
-among r n = go (ltb r n) refl
-  where
-    go : (b : Bool) → ltb r n ≡ b → (r < n) ⊎ (n ≤ r)
-    go true e = inl (ltb-true r n e)
-    go false e = inr (ltb-false r n e)
+among r n = cases (ltb r n) (λ e. inl (ltb-true r n e)) (λ e. inr (ltb-false r n e))
 
--- a price f of each of the first r rows, and 0 for the rest
-module _ (f : PriceRow → ℕ) (nothing : f noRow ≡ 0) (prices : List PriceRow) where
-  abbrev pub pricesTo : ℕ → List ℕ
-  pricesTo r = tabulate mostRows (λ j. f (rowIn (take r prices) j))
-
+-- the first r rows with one more: the others stay
+module _ (prices : List PriceRow) where
   past-last : (r j : ℕ) → r ≤ j → rowIn (take r prices) j ≡ noRow
   past-last r j le = beyond (take r prices) j (omega (arith, length-take r prices))
-
-  pub prices-start : replicate mostRows 0 ≡ pricesTo 0
-  prices-start =
-      tabulate-const mostRows 0 (λ j. f (rowIn (take 0 prices) j)) (λ j lt. ap f (past-last 0 j (omega arith)) ∙ nothing)
 
   same-price : (r j : ℕ) → (j ≡ r → ⊥) → rowIn (take (r + 1) prices) j ≡ rowIn (take r prices) j
   same-price r j ne =
@@ -54,12 +44,38 @@ module _ (f : PriceRow → ℕ) (nothing : f noRow ≡ 0) (prices : List PriceRo
       (λ le. past-last (r + 1) j (omega arith) ∙ sym (past-last r j le))
       (among j r)
 
-  -- one more is stored
-  pub prices-step : (r : ℕ) → r < mostRows → (out : List ℕ) → out ≡ pricesTo r → set out r (f (rowIn prices r)) ≡ pricesTo (r + 1)
-  prices-step r lt out is =
-      rw (is, ← getD-take (r + 1) prices r noRow (omega arith))
-      (tabulate-set mostRows (λ j. f (rowIn (take r prices) j)) (λ j. f (rowIn (take (r + 1) prices) j)) r lt
-      (λ j l ne. ap f (same-price r j ne)))
+-- a price f of each of the first r rows, and 0 for the rest
+abbrev pricesTo : (PriceRow → ℕ) → List PriceRow → ℕ → List ℕ
+pricesTo f prices r = tabulate mostRows (λ j. f (rowIn (take r prices) j))
+
+-- they are stored
+pub record Pricing (f : PriceRow → ℕ) (prices : List PriceRow) (rows : ℕ) (out : List ℕ) (r : ℕ) : Type 0 where
+  pub within : r ≤ rows
+  pub out-is : out ≡ pricesTo f prices r
+
+module _ {f : PriceRow → ℕ} {prices : List PriceRow} {rows : ℕ} where
+  pub pricing-start : f noRow ≡ 0 → Pricing f prices rows (replicate mostRows 0) 0
+  pricing-start nothing =
+      record {
+        within = omega arith;
+        out-is =
+            tabulate-const mostRows 0 (λ j. f (rowIn (take 0 prices) j)) (λ j lt. ap f (past-last prices 0 j (omega arith)) ∙ nothing);
+      }
+
+  module _ {out : List ℕ} {r : ℕ} (v : Pricing f prices rows out r) where
+    -- one more is stored, and all are
+    pub pricing-step : rows ≤ mostRows → r < rows → Pricing f prices rows (set out r (f (rowIn prices r))) (r + 1)
+    pricing-step few lt =
+        record {
+          within = omega arith;
+          out-is =
+              rw (v .out-is, ← getD-take (r + 1) prices r noRow (omega arith))
+              (tabulate-set mostRows (λ j. f (rowIn (take r prices) j)) (λ j. f (rowIn (take (r + 1) prices) j)) r (omega arith)
+              (λ j l ne. ap f (same-price prices r j ne)));
+        }
+
+    pub pricing-end : rows ≤ r → out ≡ pricesTo f prices rows
+    pricing-end le = v .out-is ∙ rw (le-antisymm (v .within) le)
 
 -- both lists have 64 prices
 pub loads-many : (rows : List PriceRow) (hs : List ℕ) → hs ≡ loadPrices rows → length hs ≡ mostRows

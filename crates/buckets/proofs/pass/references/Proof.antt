@@ -1,5 +1,4 @@
--- `pass::references` meets its contract. The loop's invariant: the buckets and the table of last touches are those after `steps` + t steps,
--- and the sums have room for the others. The measure is what is left of the references. Assumes nothing.
+-- `pass::references` meets its contract. The invariant of its loop is `Passing`, the measure the references that are left. Assumes nothing.
 use borrow.Author.Needs.{needs}
 use Prim.Native.Nat.{ℕ, _+_, _-_, _*_, _^_, _≤_, _<_}
 use mathlib.Core.List.{List, _++_}
@@ -8,7 +7,9 @@ use native.Mathlib.Omega.{arith}
 use lib.ListN.{length, getD, length-append}
 use Rattle.model.specs.Sheets.{RunWithin, runOf}
 use Rattle.model.specs.Traces.{entry}
+use Rattle.model.specs.declared.Kind.{Kind}
 use Rattle.model.specs.declared.PriceRow.{PriceRow}
+use Rattle.buckets.specs.declared.pass.Passed.{Passed}
 use Rattle.buckets.specs.inner.Pass.{Limited, Roomy, passedAfter}
 use Rattle.buckets.specs.inner.Search.{RowsOf}
 use Rattle.buckets.proofs.Filling.{roomy-touch, roomy-more}
@@ -17,13 +18,17 @@ use Rattle.buckets.proofs.Touches.{placed, placed-limited, placed-is, t
 use Rattle.buckets.proofs.pass.references.Statement.{statement}
 use Rattle.buckets.proofs.pass.references.Tie as tie
 
+-- after t of the references: what was passed from `from` on is what is passed after `steps` + t steps, and there is room for the others
+record Passing (kind : Kind) (a rows : ℕ) (hs ds sizes : List ℕ) (steps : ℕ) (refs : List ℕ) (from to : Passed) (t : ℕ) : Type 0 where
+  within : t ≤ length refs
+  roomy : Roomy (to .buckets) (2 ^ 60 + t * 2 ^ 48)
+  passed : (list : List PriceRow) → RowsOf rows hs ds list → (warm before : List ℕ) → length before ≡ steps
+      → RunWithin (runOf kind a sizes warm (before ++ refs)) → from ≡ passedAfter list (runOf kind a sizes warm (before ++ refs)) steps
+      → to ≡ passedAfter list (runOf kind a sizes warm (before ++ refs)) (steps + t)
+
 abbrev Inv-loop : tie.InvT-loop
 Inv-loop kind a rows hs ds sizes steps refs buckets₀ last₀ t₀ buckets last t =
-    (t ≤ length refs) × Roomy buckets (2 ^ 60 + t * 2 ^ 48)
-    × ((list : List PriceRow) → RowsOf rows hs ds list → (warm before : List ℕ) → length before ≡ steps
-    → RunWithin (runOf kind a sizes warm (before ++ refs))
-    → record { buckets = buckets₀; last = last₀ } ≡ passedAfter list (runOf kind a sizes warm (before ++ refs)) steps
-    → record { buckets = buckets; last = last } ≡ passedAfter list (runOf kind a sizes warm (before ++ refs)) (steps + t))
+    Passing kind a rows hs ds sizes steps refs (record { buckets = buckets₀; last = last₀ }) (record { buckets = buckets; last = last }) t
 
 abbrev μ-loop : tie.MeasureT-loop
 μ-loop kind a rows hs ds sizes steps refs buckets₀ last₀ t₀ buckets last t = length refs - t
@@ -47,11 +52,12 @@ in-table c = omega (arith, c .if1 .taken, start (loop-of c) .pre .1 .few-segs)
 loop-holds : tie.Need-loop-holds Inv-loop μ-loop
 loop-holds c =
     let s = c .before .before .before .before .before .before in
-    let same : s .args .steps + 0 ≡ s .args .steps = omega arith in (
-      omega arith,
-      roomy-more _ (2 ^ 60) (2 ^ 60 + 0 * 2 ^ 48) (omega arith) (s .pre .1 .roomy),
-      λ list of warm before at run is. rw same is,
-    )
+    let same : s .args .steps + 0 ≡ s .args .steps = omega arith in
+    record {
+      within = omega arith;
+      roomy = roomy-more _ (2 ^ 60) (2 ^ 60 + 0 * 2 ^ 48) (omega arith) (s .pre .1 .roomy);
+      passed = λ list of warm before at run is. rw same is;
+    }
 
 cast-i : tie.Need-cast-i Inv-loop μ-loop
 cast-i c = omega (arith, c .shared-slice-known5 .given (c .before .before .loop .t))
@@ -94,7 +100,7 @@ add-touch-requires : tie.Need-add-touch-requires Inv-loop μ-loop
 add-touch-requires c κs =
     let d = c .before in
     let l = loop-of (turn d) in
-    (omega (arith, l .before .loop .inv .1 .each _ (d .bucket-of .ensures .0), few l), touch-limited d)
+    (omega (arith, l .before .loop .inv .roomy .each _ (d .bucket-of .ensures .0), few l), touch-limited d)
 
 add-last : tie.Need-add-last Inv-loop μ-loop
 add-last c = omega (arith, few (loop-of (turn (c .before .before))))
@@ -118,9 +124,9 @@ here c warm before at =
     entry-on (s .args .kind) (s .args .a) (s .args .sizes .now) warm before _ _ _ at (c .loop-test .taken)
 
 -- which is one of the run's
-within : (c : tie.In-loop Inv-loop μ-loop) (before : List ℕ) → length before ≡ start c .args .steps
+in-run : (c : tie.In-loop Inv-loop μ-loop) (before : List ℕ) → length before ≡ start c .args .steps
     → start c .args .steps + c .before .loop .t < length (before ++ start c .args .refs .now)
-within c before at = omega (arith, length-append before (start c .args .refs .now), c .loop-test .taken)
+in-run c before at = omega (arith, length-append before (start c .args .refs .now), c .loop-test .taken)
 
 loop-again : tie.Need-loop-again Inv-loop μ-loop
 loop-again c =
@@ -130,17 +136,18 @@ loop-again c =
     let s = start l in
     let lim = touch-limited d in
     let t = l .before .loop .t in
-    let same : s .args .steps + (t + 1) ≡ s .args .steps + t + 1 = omega arith in (
-      omega (arith, l .loop-test .taken),
-      roomy-touch _ (2 ^ 60 + t * 2 ^ 48) (2 ^ 60 + (t + 1) * 2 ^ 48) (omega arith) (l .before .loop .inv .1) _ lim _
-          (c .add-touch .ensures),
-      λ list of warm before at run is.
+    let same : s .args .steps + (t + 1) ≡ s .args .steps + t + 1 = omega arith in
+    record {
+      within = omega (arith, l .loop-test .taken);
+      roomy = roomy-touch _ (2 ^ 60 + t * 2 ^ 48) (2 ^ 60 + (t + 1) * 2 ^ 48) (omega arith) (l .before .loop .inv .roomy) _ lim _
+          (c .add-touch .ensures);
+      passed = λ list of warm before at run is.
           rw same
-          (pass-step list _ _ _ _ (l .before .loop .inv .2 list of warm before at run is) run (within l before at) _ (here l warm before at)
+          (pass-step list _ _ _ _ (l .before .loop .inv .passed list of warm before at run is) run (in-run l before at) _ (here l warm before at)
           (e .if1 .taken) _ lim
           (placed-is _ _ list _ _ _ _ (d .before .touch-of .ensures .1) (d .bucket-of .ensures .1 list of))
-          _ (c .add-touch .ensures)),
-    )
+          _ (c .add-touch .ensures));
+    }
 
 -- a step in which nothing is touched
 loop-again-2 : tie.Need-loop-again-2 Inv-loop μ-loop
@@ -148,21 +155,22 @@ loop-again-2 c =
     let l = c .before .before in
     let s = start l in
     let t = l .before .loop .t in
-    let same : s .args .steps + (t + 1) ≡ s .args .steps + t + 1 = omega arith in (
-      omega (arith, l .loop-test .taken),
-      roomy-more _ (2 ^ 60 + t * 2 ^ 48) (2 ^ 60 + (t + 1) * 2 ^ 48) (omega arith) (l .before .loop .inv .1),
-      λ list of warm before at run is.
-          rw same (pass-idle list _ _ _ _ (l .before .loop .inv .2 list of warm before at run is)
-          (rw (here l warm before at) (c .if1 .left))),
-    )
+    let same : s .args .steps + (t + 1) ≡ s .args .steps + t + 1 = omega arith in
+    record {
+      within = omega (arith, l .loop-test .taken);
+      roomy = roomy-more _ (2 ^ 60 + t * 2 ^ 48) (2 ^ 60 + (t + 1) * 2 ^ 48) (omega arith) (l .before .loop .inv .roomy);
+      passed = λ list of warm before at run is.
+          rw same (pass-idle list _ _ _ _ (l .before .loop .inv .passed list of warm before at run is)
+          (rw (here l warm before at) (c .if1 .left)));
+    }
 
 returns : tie.Need-returns Inv-loop μ-loop
 returns c =
     let s = c .before .before .before .before .before .before .before .before in
     λ list of warm before at run is.
     let all : s .args .steps + c .before .loop .t ≡ length (before ++ s .args .refs .now) =
-    omega (arith, length-append before (s .args .refs .now), at, c .before .loop .inv .0, c .loop-test .left) in
-    rw all at (c .before .loop .inv .2 list of warm before at run is)
+    omega (arith, length-append before (s .args .refs .now), at, c .before .loop .inv .within, c .loop-test .left) in
+    rw all at (c .before .loop .inv .passed list of warm before at run is)
 
 pub references-spec : {M : Type 1} → statement M
 references-spec =
