@@ -19,9 +19,6 @@ abbrev μ-loop : tie.MeasureT-loop
 loop-holds : tie.Need-loop-holds Inv-loop μ-loop
 loop-holds c = (omega arith, c .no-masks .ensures ∙ sym masksBelow-start)
 
-array-write-masks : tie.Need-array-write-masks Inv-loop μ-loop
-array-write-masks c = omega arith
-
 loop-again : tie.Need-loop-again Inv-loop μ-loop
 loop-again c =
     let i = c .before .loop .i in
@@ -45,7 +42,7 @@ mask-table-spec =
     (λ c. search needs)
     (λ c. search needs)
     (λ c. search needs)
-    array-write-masks
+    (λ c. omega arith)
     (λ c. search needs)
     (λ c. search needs)
     loop-again

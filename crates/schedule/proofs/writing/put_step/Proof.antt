@@ -30,9 +30,6 @@ slice-write-out c =
       copied-length (now (a .next)) (now (a .out)) (a .i) (a .on) (a .at) (s .pre .2) (s .pre .3) (l .next) (l .out) (l .j) (l .inv),
     )
 
-element-write-next : tie.Need-element-write-next Inv-loop μ-loop
-element-write-next c = omega arith
-
 loop-again : tie.Need-loop-again Inv-loop μ-loop
 loop-again c =
     let s = c .before .before .before .before .before .before .before in
@@ -90,7 +87,7 @@ put-step-spec =
     (λ c. search needs)
     slice-write-out
     (λ c κs. search needs)
-    element-write-next
+    (λ c. omega arith)
     (λ c. search needs)
     (λ c. search needs)
     loop-again
