@@ -7,7 +7,7 @@ use Rattle.sheet_schedules.proofs.write_plan.Tie as tie
 write-modified-requires : tie.Need-write-modified-requires
 write-modified-requires c κs =
     let s = c .before .before .before .before .before .before .before in
-    ((s .pre .0 .0, s .pre .0 .1 (c .before .if1 .taken)), s .pre .1)
+    (record { run = s .pre .0 .0; marks-all = s .pre .0 .1 (c .before .if1 .taken) }, s .pre .1)
 
 returns : tie.Need-returns
 returns c =
