@@ -14,6 +14,7 @@ use Rattle.model.specs.declared.Kind.the-variants.{Time, Space}
 use Rattle.buckets.specs.FirstRow.{firstRow}
 use Rattle.buckets.specs.Buckets.{bucketOf, filed, bucketAfter}
 use Rattle.recorder.specs.Recorders.{recorderOf}
+use Rattle.c_lists.specs.RecorderList.{listOf}
 use Rattle.c_lists.specs.Recorders.{lists, listsOf}
 use Rattle.c_lists.specs.Tables.{sumsOf}
 
@@ -49,3 +50,16 @@ space-written : listsOf (recorderOf (recorded Space)) .head ++ listsOf (recorder
     ≡ 1 ∷ 5 ∷ 3 ∷ 2 ∷ 1 ∷ 4 ∷ 22 ∷ 22 ∷ []
 unfolding recorded listsOf recorderOf headOf refCost refVolume sum touching
 space-written = refl
+
+-- the same recorder as one list: kind, a, segs, rows, warm, steps, Q and V; the sizes; h; d; the warm segments; the last touches; the sums
+list-written : listOf (recorderOf (recorded Time))
+    ≡ (0 ∷ 5 ∷ 3 ∷ 2 ∷ 1 ∷ 4 ∷ 3 ∷ 22 ∷ [])
+    ++ ((7 ∷ 8 ∷ 9 ∷ []) ++ replicate 253 0)
+    ++ ((1 ∷ 3 ∷ []) ++ replicate 62 0)
+    ++ ((20 ∷ 4 ∷ []) ++ replicate 62 0)
+    ++ ((2 ∷ []) ++ replicate 255 0)
+    ++ ((4 ∷ 3 ∷ 0 ∷ []) ++ replicate 253 65535)
+    ++ (replicate 6 0 ++ (1 ∷ 7 ∷ 2 ∷ 36 ∷ 14 ∷ 252 ∷ []) ++ replicate 372 0 ++ (2 ∷ 15 ∷ 0 ∷ 77 ∷ 0 ∷ 580 ∷ []))
+unfolding recorded listOf sumsOf recorderOf headOf padded zeros zeroRows lastTable refCost refVolume listed sum tabulate touching later
+    unreferenced firstRow bucketOf filed bucketAfter
+list-written = refl

@@ -1,5 +1,9 @@
 pub mod BucketSums
 pub mod Examples
+pub mod InPlace
+pub mod ListCalls
+pub mod ListParts
+pub mod ListStands
 pub mod PriceRows
 pub mod RecorderLists
 pub mod RowNumbers

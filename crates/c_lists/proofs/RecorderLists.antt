@@ -48,7 +48,7 @@ rows-again [] = refl
 rows-again (q ∷ rows) = rw (rows-again rows) refl
 
 -- the kind of its number
-kind-again : (k : Kind) → kindIn (kindNumber k) ≡ k
+pub kind-again : (k : Kind) → kindIn (kindNumber k) ≡ k
 kind-again Time = refl
 kind-again Space = refl
 
@@ -59,7 +59,7 @@ unfolding sumsOf
 after-bucket b bs n k same = rw same refl
 
 -- a bucket of the sums of buckets
-bucket-again : (bs : List Bucket) (k : ℕ) → bucketIn (sumsOf bs) k ≡ getD bs k noBucket
+pub bucket-again : (bs : List Bucket) (k : ℕ) → bucketIn (sumsOf bs) k ≡ getD bs k noBucket
 unfolding sumsOf
 bucket-again [] k = refl
 bucket-again (b ∷ bs) zero = refl

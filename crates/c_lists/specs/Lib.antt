@@ -1,4 +1,5 @@
 pub mod Figures
+pub mod RecorderList
 pub mod Recorders
 pub mod Tables
 pub mod inner

@@ -17,7 +17,7 @@ ghost use Rattle.c_lists.specs.Recorders.{kindIn, kindNumber, lists, rec
 ghost use Rattle.c_lists.specs.inner.Stored.{HeadStored, TakenStored};
 
 // The kind that a number stands for.
-fn kind_of(n: u64) -> Kind
+pub(crate) fn kind_of(n: u64) -> Kind
     ensures { λ r. ⌜ r ≡ kindIn n ⌝ }
 {
     if n == 0 {
@@ -27,7 +27,7 @@ fn kind_of(n: u64) -> Kind
 }
 
 // The number of a kind.
-fn kind_number(kind: Kind) -> u64
+pub(crate) fn kind_number(kind: Kind) -> u64
     ensures { λ r. ⌜ r ≡ kindNumber kind ⌝ }
 {
     match kind {
@@ -37,7 +37,7 @@ fn kind_number(kind: Kind) -> u64
 }
 
 // A number, cut off at 255.
-fn cut(n: u64) -> u8
+pub(crate) fn cut(n: u64) -> u8
     ensures { λ r. ⌜ r ≡ min n 255 ⌝ }
 {
     if n < 255 {

@@ -44,6 +44,40 @@ impl Recorder {
     pub const MAX_SIZE: u64 = Sheet::MAX_SIZE as u64;
 }
 
+// A recorder as one list of numbers, as programs in C hold it: where each part stands, and how long the list is.
+impl Recorder {
+    // Kind (0 for time, 1 for space), a, the counts of segments, rows and warm segments, the steps taken, Q and V.
+    pub const AT_KIND: usize = 0;
+
+    pub const AT_A: usize = 1;
+
+    pub const AT_SEGS: usize = 2;
+
+    pub const AT_ROWS: usize = 3;
+
+    pub const AT_WARM: usize = 4;
+
+    pub const AT_STEPS: usize = 5;
+
+    pub const AT_COST: usize = 6;
+
+    pub const AT_VOLUME: usize = 7;
+    // The sizes, the prices h and then d of the rows, the warm segments, the table of last touches, the sums of the buckets.
+    pub const AT_SIZES: usize = 8;
+
+    pub const AT_H: usize = Recorder::AT_SIZES + Recorder::MAX_SEGS;
+
+    pub const AT_D: usize = Recorder::AT_H + Recorder::MAX_ROWS;
+
+    pub const AT_HOLDS: usize = Recorder::AT_D + Recorder::MAX_ROWS;
+
+    pub const AT_LAST: usize = Recorder::AT_HOLDS + Recorder::MAX_SEGS;
+
+    pub const AT_SUMS: usize = Recorder::AT_LAST + Recorder::MAX_SEGS;
+
+    pub const LIST: usize = Recorder::AT_SUMS + Bucket::SUMS * Tally::BUCKETS;
+}
+
 // What a touch answers, of one reference or of several, and an idle step: the recorder with them taken, or the refusal and the recorder
 // as it was.
 pub struct TouchAnswer {
