@@ -1,4 +1,4 @@
--- Converting there and back restores the bytes, and 17 comes exactly where there are fewer references than steps. Assumes nothing.
+-- Converting there and back restores the bytes, and 17 comes exactly where there are fewer references than steps.
 use Prim.Native.Nat.{ℕ, zero, suc, _+_, _≤_, _<_}
 use mathlib.Core.Path.{_≡_, refl, sym, ap, _∙_}
 use mathlib.Core.Logic.{⊎-elim}

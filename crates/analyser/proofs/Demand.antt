@@ -1,5 +1,5 @@
 -- Demand 3 holds of every run of bytes that reads as an accepted sheet of form 1, 2 or 3, and of every row of it. What holds of form 4 is
--- in Modified.antt. Assumes nothing.
+-- in Modified.antt.
 use Prim.Native.Nat.{ℕ, _*_, _≤_, _<_}
 use mathlib.Core.Path.{_≡_, refl, sym, ap, _∙_}
 use mathlib.Core.List.{List, _++_}

@@ -1,4 +1,4 @@
--- Demand 3 holds of every run of bytes that reads as an accepted sheet, whatever its form, and of each of its rows. Assumes nothing.
+-- Demand 3 holds of every run of bytes that reads as an accepted sheet, whatever its form, and of each of its rows.
 use Prim.Native.Nat.{ℕ, _*_, _≤_, _<_}
 use mathlib.Core.Path.{_≡_, refl, sym, ap, _∙_}
 use mathlib.Core.Bool.{Bool, true, false, cond}

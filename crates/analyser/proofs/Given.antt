@@ -1,4 +1,4 @@
--- A text that is given for what reading, joining or importing comes to is that of an accepted sheet. Assumes nothing.
+-- A text that is given for what reading, joining or importing comes to is that of an accepted sheet.
 use Prim.Native.Nat.{ℕ}
 use mathlib.Core.Path.{_≡_, refl, sym, ap}
 use mathlib.Core.List.{List}

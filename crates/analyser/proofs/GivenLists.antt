@@ -1,4 +1,4 @@
--- A list that is given after a verdict: the verdict accepts, and the list is that one. Assumes nothing.
+-- A list that is given after a verdict: the verdict accepts, and the list is that one.
 use Prim.Native.Nat.{ℕ}
 use mathlib.Core.Path.{_≡_, refl, sym, ap}
 use mathlib.Core.List.{List, []}

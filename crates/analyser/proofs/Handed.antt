@@ -1,4 +1,4 @@
--- The recorder's theorem, for every recorder that a start and the calls after it handed back. Assumes nothing.
+-- The recorder's theorem, for every recorder that a start and the calls after it handed back.
 use Prim.Native.Nat.{ℕ, _+_, _≤_, min, max}
 use mathlib.Core.Path.{_≡_, refl, sym, ap, subst, _∙_}
 use mathlib.Core.List.{List, [], _∷_, _++_, append-nil}

@@ -1,5 +1,4 @@
 -- The text that the call gives for a trace is the imported sheet's: one reference for each line, and segments that stand for pages.
--- Assumes nothing.
 use Prim.Native.Nat.{ℕ, _<_}
 use mathlib.Core.Path.{_≡_, sym, ap, _∙_}
 use mathlib.Core.List.{List}

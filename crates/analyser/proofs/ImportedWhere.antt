@@ -1,5 +1,4 @@
--- An import gives a text exactly where k is in its range, every line is well formed, and lines and pages are within their limits. Assumes
--- nothing.
+-- An import gives a text exactly where k is in its range, every line is well formed, and lines and pages are within their limits.
 use Prim.Native.Nat.{ℕ, suc, _≤_}
 use mathlib.Core.Path.{_≡_, refl, sym, ap, _∙_}
 use mathlib.Core.Bool.{Bool, true, false, cond, _&&_, false≢true}

@@ -1,5 +1,4 @@
 -- The text that the call gives for two sheets that join is the joint sheet's, and its figures are those of the two together.
--- Assumes nothing.
 use Prim.Native.Nat.{ℕ, _≤_, _<_}
 use mathlib.Core.Path.{_≡_, refl, sym, ap, _∙_}
 use mathlib.Core.List.{List}

@@ -1,5 +1,5 @@
 -- What the program prints, byte for byte: document 01's listing; a sheet of each later form, worked by hand; the line of a refusal; and the
--- first lines of the page of document 01's listing. Assumes nothing.
+-- first lines of the page of document 01's listing.
 use Prim.Native.Nat.{ℕ}
 use Prim.Native.String.{String}
 use mathlib.Core.Path.{_≡_, refl}

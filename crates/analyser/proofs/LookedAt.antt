@@ -1,4 +1,4 @@
--- What the call by distances answers and leaves, by what reading came to. Assumes nothing.
+-- What the call by distances answers and leaves, by what reading came to.
 use Prim.Native.Nat.{ℕ, _*_}
 use mathlib.Core.Path.{_≡_, sym, ap, _∙_}
 use mathlib.Core.List.{List}

@@ -1,4 +1,4 @@
--- What holds of the misses of least-recently-used replacement of every run of bytes, and of the entries looked at. Assumes nothing.
+-- What holds of the misses of least-recently-used replacement of every run of bytes, and of the entries looked at.
 use Prim.Native.Nat.{ℕ, suc, _-_, _*_, _≤_}
 use mathlib.Core.Path.{_≡_, refl, ap, _∙_}
 use mathlib.Core.List.{List}

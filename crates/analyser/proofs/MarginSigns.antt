@@ -1,5 +1,4 @@
 -- The sign of the margin that the margin call answers for an accepted sheet: 0 or more exactly when the reuse is kept at that row.
--- Assumes nothing.
 use Prim.Native.Nat.{ℕ, _≤_, _<_}
 use mathlib.Core.Path.{_≡_, ap, _∙_}
 use mathlib.Core.Bool.{true}

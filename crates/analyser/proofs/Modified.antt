@@ -1,5 +1,4 @@
 -- Demand 3 holds of every run of bytes that reads as an accepted sheet of form 4, and of every row of it, with modtotal as the optimum.
--- Assumes nothing.
 use Prim.Native.Nat.{ℕ, _*_, _≤_, _<_}
 use mathlib.Core.Path.{_≡_, refl, sym}
 use mathlib.Core.List.{List, _++_}

@@ -1,5 +1,4 @@
 -- Which number each call answers, what it gives, and the zeros of a refused one, on small sheets worked by hand from documents 01 and 02.
--- Assumes nothing.
 use Prim.Native.Nat.{ℕ}
 use Prim.Native.String.{String}
 use mathlib.Core.Path.{_≡_, refl}

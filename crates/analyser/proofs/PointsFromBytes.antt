@@ -1,4 +1,4 @@
--- What holds of the operating points of every run of bytes that reads as an accepted sheet. Assumes nothing.
+-- What holds of the operating points of every run of bytes that reads as an accepted sheet.
 use Prim.Native.Nat.{ℕ, suc, _-_, _≤_, _<_}
 use mathlib.Core.Path.{_≡_, refl, ap, _∙_}
 use mathlib.Core.Bool.{Bool, true, false, cond}

@@ -1,4 +1,4 @@
--- What is printed has at most 13,158 bytes, whatever the bytes are, so that a place of that length is never too short. Assumes nothing.
+-- What is printed has at most 13,158 bytes, whatever the bytes are, so that a place of that length is never too short.
 use Prim.Native.Nat.{ℕ, _≤_}
 use mathlib.Core.Path.{_≡_, refl}
 use mathlib.Core.Logic.{⊎-elim}

@@ -1,4 +1,4 @@
--- Every accepted sheet, read and written again, has its old bytes. Assumes nothing.
+-- Every accepted sheet, read and written again, has its old bytes.
 use Prim.Native.Nat.{ℕ}
 use mathlib.Core.Path.{_≡_, refl, sym, ap, _∙_}
 use mathlib.Core.List.{List}

@@ -1,4 +1,4 @@
--- What holds of the numbers of the windows call, for every run of bytes for which it gives them. Assumes nothing.
+-- What holds of the numbers of the windows call, for every run of bytes for which it gives them.
 use Prim.Native.Nat.{ℕ, zero, suc, _+_, _-_, _≤_, _<_}
 use mathlib.Core.Path.{_≡_, sym, ap, _∙_}
 use mathlib.Core.List.{List}

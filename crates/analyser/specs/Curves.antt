@@ -1,5 +1,5 @@
--- What the calls for the misses of least-recently-used replacement (requests F-9 and F-10), the windows (F-12) and the operating points (F-11)
--- have for a lent place, by what the bytes read as. The sheet's refusals are 1 to 6, 16 and 19. Assumes nothing.
+-- What the calls for the misses of least-recently-used replacement (requests F-9 and F-10), the windows (F-12) and the operating points
+-- (F-11) have for a lent place, by what the bytes read as. The sheet's refusals are 1 to 6, 16 and 19.
 use Prim.Native.Nat.{ℕ, _*_, _≤_}
 use mathlib.Core.Path.{_≡_}
 use mathlib.Core.List.{List}

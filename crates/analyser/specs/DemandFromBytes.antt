@@ -1,6 +1,5 @@
 -- Demand 3 of document 01 from bytes: what it says of row r of the sheet v that a run of bytes s reads as, and of the calls on s.
--- Assumes nothing.
-use Prim.Native.Nat.{ℕ, _*_, _≤_, _+_}
+use Prim.Native.Nat.{ℕ, _*_, _≤_}
 use mathlib.Core.Path.{_≡_}
 use mathlib.Core.List.{List, _++_}
 use lib.ListN.{length, take, drop}

@@ -1,6 +1,6 @@
 -- Demand 3 of document 01 as one statement: of every run of bytes that reads as an accepted sheet, whatever its form, and of each of its
--- rows. Two records, laws of their own, say more: `Demand3FromBytes` (DemandFromBytes.antt) memory and load as reported, for forms 1 to 3, and
--- `ModifiedFromBytes` (ModifiedFromBytes.antt) the rule for ties, for form 4. Assumes nothing.
+-- rows. Two records, laws of their own, say more: `Demand3FromBytes` (DemandFromBytes.antt) memory and load as reported, for forms 1 to
+-- 3, and `ModifiedFromBytes` (ModifiedFromBytes.antt) the rule for ties, for form 4.
 use Prim.Native.Nat.{ℕ, _<_, _*_, _≤_}
 use mathlib.Core.Path.{_≡_}
 use mathlib.Core.Bool.{cond}

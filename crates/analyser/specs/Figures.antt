@@ -1,5 +1,4 @@
 -- What the calls for figures, size, margin and bill answer, by what the bytes read as. The sheet's refusals are 1 to 6, 16 and 19.
--- Assumes nothing.
 use Prim.Native.Nat.{ℕ}
 use mathlib.Core.List.{List}
 use Rattle.model.specs.Margins.{noMargin, marginFor}

@@ -1,4 +1,4 @@
--- Which traces in the din text form are taken, and what holds of the text that is given for one (request F-8). Assumes nothing.
+-- Which traces in the din text form are taken, and what holds of the text that is given for one (request F-8).
 use Prim.Native.Nat.{ℕ, _<_, _≤_}
 use mathlib.Core.Path.{_≡_}
 use mathlib.Core.Bool.{Bool, true, false}

@@ -1,4 +1,4 @@
--- What holds of the text that is given for two sheets as one (request F-7). Assumes nothing.
+-- What holds of the text that is given for two sheets as one (request F-7).
 use Prim.Native.Nat.{ℕ, _<_, _≤_, _+_}
 use mathlib.Core.Path.{_≡_}
 use mathlib.Core.List.{List}

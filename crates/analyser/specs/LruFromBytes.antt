@@ -1,5 +1,5 @@
 -- What holds of the misses of least-recently-used replacement that are given for a run of bytes (request F-9), and of the entries looked at
--- (request F-10). Assumes nothing.
+-- (request F-10).
 use Prim.Native.Nat.{ℕ, _-_, _*_, _≤_}
 use mathlib.Core.Path.{_≡_}
 use mathlib.Core.List.{List}

@@ -1,6 +1,6 @@
--- Demand 3 of document 01 for a sheet of form 4 (request F-13), from bytes: what holds of row r of the sheet v of form 4 that a run of bytes s
--- reads as, and of the calls on s. The optimum is there modtotal. Assumes nothing.
-use Prim.Native.Nat.{ℕ, _<_, _*_, _≤_, _+_, suc}
+-- Demand 3 of document 01 for a sheet of form 4 (request F-13), from bytes: what holds of row r of the sheet v of form 4 that a run of bytes
+-- s reads as, and of the calls on s. The optimum is there modtotal.
+use Prim.Native.Nat.{ℕ, _<_, _*_, _≤_, suc}
 use mathlib.Core.Path.{_≡_}
 use mathlib.Core.Bool.{true, false}
 use mathlib.Core.List.{List, _++_}

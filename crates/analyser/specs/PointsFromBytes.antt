@@ -1,4 +1,4 @@
--- What holds of the operating points that are given for a run of bytes (request F-11). Assumes nothing.
+-- What holds of the operating points that are given for a run of bytes (request F-11).
 use Prim.Native.Nat.{ℕ, _<_, _-_, _*_, _≤_, _+_, suc}
 use mathlib.Core.Path.{_≡_}
 use mathlib.Core.List.{List}

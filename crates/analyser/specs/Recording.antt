@@ -1,5 +1,5 @@
 -- What the recorder's start answers: the sheet's refusals. What a touch, an idle step and reading the figures answer is written in crate
--- `recorder`. And every recorder that a start and the calls after it handed back, and what holds of it. Assumes nothing.
+-- `recorder`. And every recorder that a start and the calls after it handed back, and what holds of it.
 use Prim.Native.Nat.{ℕ, max}
 use mathlib.Core.Path.{_≡_}
 use mathlib.Core.List.{List, [], _∷_, _++_}

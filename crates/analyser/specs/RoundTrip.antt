@@ -1,6 +1,6 @@
 -- The round trip of demand 2 by the calls: what reading a run of bytes s answers, and what writing that sheet answers and leaves; and that
--- the converters there and back restore the bytes (request F-3). Assumes nothing.
-use Prim.Native.Nat.{ℕ, _<_, _≤_, _+_}
+-- the converters there and back restore the bytes (request F-3).
+use Prim.Native.Nat.{ℕ, _<_, _≤_}
 use mathlib.Core.Path.{_≡_}
 use mathlib.Core.List.{List, _++_}
 use lib.ListN.{length, drop}

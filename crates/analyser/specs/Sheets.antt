@@ -1,5 +1,5 @@
 -- What the calls for sheets in and out have for a lent place, by what the bytes read as: writing, the converters (request F-3), joining
--- (F-7) and the import of a trace (F-8). The sheet's refusals are 1 to 6, 16 and 19. Assumes nothing.
+-- (F-7) and the import of a trace (F-8). The sheet's refusals are 1 to 6, 16 and 19.
 use Prim.Native.Nat.{ℕ}
 use mathlib.Core.List.{List}
 use Rattle.model.specs.Places.{Result, gives, refuses}

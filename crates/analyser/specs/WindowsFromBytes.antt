@@ -1,4 +1,4 @@
--- What holds of the numbers that the windows call gives for a run of bytes (request F-12). Assumes nothing.
+-- What holds of the numbers that the windows call gives for a run of bytes (request F-12).
 use Prim.Native.Nat.{ℕ, _<_, _-_, _≤_, _+_}
 use mathlib.Core.Path.{_≡_}
 use mathlib.Core.List.{List}

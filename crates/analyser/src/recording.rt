@@ -1,5 +1,5 @@
 // The recorder's public calls: start from a sheet's bytes, take references, read the figures of a row.
-// What a recorder stands for is written in crate `recorder`; nothing is assumed.
+// What a recorder stands for is written in crate `recorder`.
 use model::FiguresAnswer;
 use model::Refusal;
 use model::Verdict;

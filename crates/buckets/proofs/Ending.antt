@@ -1,4 +1,4 @@
--- The loop over the segments for the end intervals: what holds after i segments. Assumes nothing.
+-- The loop over the segments for the end intervals: what holds after i segments.
 use Prim.Native.Nat.{ℕ, suc, _+_, _<_}
 use mathlib.Core.Path.{_≡_, sym, ap, _∙_}
 use mathlib.Core.List.{List}

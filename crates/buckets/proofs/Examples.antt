@@ -1,5 +1,5 @@
 -- The buckets of document 01's listing, kind space, a = 1, sizes 1 and 3, rows 1/2 and 1/1, references 0 1 0 1 1 0, worked by hand. The
--- swap costs are 2 and 4. Assumes nothing.
+-- swap costs are 2 and 4.
 use Prim.Native.Nat.{ℕ}
 use mathlib.Core.Path.{_≡_, refl}
 use mathlib.Core.List.{List, [], _∷_, map}

@@ -1,5 +1,5 @@
 -- What one touch does to the buckets: one of them is set. And the bounds of their sums. For any run of touches, of which those that
--- count are added. Assumes nothing.
+-- count are added.
 use Prim.Native.Nat.{ℕ, zero, suc, _+_, _*_, _^_, _≤_, _<_}
 use mathlib.Core.Path.{_≡_, refl, sym, _∙_}
 use mathlib.Core.Bool.{Bool, true, false, cond}

@@ -1,5 +1,5 @@
 -- The loop over the references: what one step makes of what the pass has. And a run that takes more references: what the pass has after
--- its steps, it has after the same steps of the longer run. Assumes nothing.
+-- its steps, it has after the same steps of the longer run.
 use Prim.Native.Nat.{ℕ, suc, _+_, _≤_, _<_}
 use mathlib.Core.Path.{_≡_, refl, sym, ap, _∙_}
 use mathlib.Core.List.{List, _++_}

@@ -1,5 +1,5 @@
 -- The prices of the rows in two lists: they are filled row by row, and tell which rows keep a reuse; where the rows that do begin is the
--- first row. Assumes nothing.
+-- first row.
 use Prim.Native.Nat.{ℕ, _+_, _*_, _≤_, _<_}
 use mathlib.Core.Path.{_≡_, refl, sym, ap, _∙_}
 use mathlib.Core.Logic.{_⊎_, inl, inr, ⊎-elim}

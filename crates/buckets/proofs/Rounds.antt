@@ -1,4 +1,4 @@
--- Rounds of the search: of rows a distance s apart, as many do not keep the reuse as lead to the next ones to look at. Assumes nothing.
+-- Rounds of the search: of rows a distance s apart, as many do not keep the reuse as lead to the next ones to look at.
 use Prim.Native.Nat.{ℕ, _+_, _-_, _*_, _≤_, _<_}
 use mathlib.Core.Path.{_≡_, refl, sym, _∙_}
 use mathlib.Core.Logic.{_⊎_, inl, inr, ⊎-elim}

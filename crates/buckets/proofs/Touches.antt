@@ -1,5 +1,4 @@
 -- One touch: its limits, what the mark of its segment tells, and the buckets of the definitions as those of touches.
--- Assumes nothing.
 use Prim.Native.Nat.{ℕ, _-_, _≤_, _<_}
 use mathlib.Core.Path.{_≡_, refl}
 use mathlib.Core.Bool.{Bool, true, false}

@@ -1,6 +1,6 @@
 -- The 65 buckets: one per row and the last, which the single pass fills. Each reuse, the first touch of a warm segment among them, goes to
 -- the first row that keeps it; a reuse that no row keeps, and each other first touch (with retention 0), goes to the last bucket. End
--- intervals are counted apart. Assumes nothing.
+-- intervals are counted apart.
 use Prim.Native.Nat.{ℕ, suc, _*_}
 use mathlib.Core.Bool.{cond}
 use mathlib.Core.List.{List}

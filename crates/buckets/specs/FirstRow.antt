@@ -1,4 +1,4 @@
--- The first row that keeps a reuse. Assumes nothing.
+-- The first row that keeps a reuse.
 use Prim.Native.Nat.{ℕ, suc, _*_}
 use mathlib.Core.Bool.{cond}
 use mathlib.Core.List.{List, [], _∷_}

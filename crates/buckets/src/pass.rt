@@ -1,5 +1,5 @@
 // The single pass over the references of a sheet, which fills the 65 buckets, and one over its segments for the end intervals.
-// What each function gives is written in specs/; nothing is assumed.
+// What each function gives is written in specs/.
 use crate::Bucket;
 use crate::Tally;
 use crate::search::Reuse;

@@ -1,5 +1,5 @@
 // The first row that keeps a reuse, by priced comparisons in three rounds: for the loops over references and segments and for one touch.
-// What each function gives is written in specs/; nothing is assumed.
+// What each function gives is written in specs/.
 use crate::Tally;
 use model::LoadUnits;
 use model::MemoryUnits;

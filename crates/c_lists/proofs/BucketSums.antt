@@ -1,4 +1,4 @@
--- A list that a loop fills entry by entry, and six sums stored for each bucket. Assumes nothing.
+-- A list that a loop fills entry by entry, and six sums stored for each bucket.
 use Prim.Native.Nat.{ℕ, zero, suc, _+_, _*_, _≤_, _<_}
 use mathlib.Core.Path.{_≡_, refl, sym, _∙_}
 use mathlib.Core.Logic.{⊎-elim}

@@ -1,5 +1,5 @@
 -- The lists of one recorder written out: kind time, a = 5, sizes 7, 8 and 9, rows 1/20 and 3/4, segment 2 warm, after the steps 0, idle,
--- 1 and 0. Assumes nothing.
+-- 1 and 0.
 use mathlib.Core.Path.{_≡_, refl}
 use mathlib.Core.List.{[], _∷_, _++_}
 use lib.ListN.{replicate}

@@ -1,5 +1,4 @@
 -- What the functions that change a recorder's list in place give: a price, a touch, a touch put into its bucket, and a reference taken.
--- Assumes nothing.
 use Prim.Native.Nat.{ℕ, _+_, _*_, _<_, min}
 use mathlib.Core.Path.{_≡_, refl, sym, ap, _∙_}
 use mathlib.Core.List.{List}

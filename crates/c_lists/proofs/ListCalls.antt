@@ -1,4 +1,4 @@
--- The calls that change a recorder's list in place: what each leaves, refused and accepted. Assumes nothing.
+-- The calls that change a recorder's list in place: what each leaves, refused and accepted.
 use Prim.Native.Nat.{ℕ, _+_, _<_, _≤_, min}
 use mathlib.Core.Path.{_≡_, refl, sym, ap, _∙_}
 use mathlib.Core.Bool.{false≢true}

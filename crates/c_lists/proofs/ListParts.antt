@@ -1,4 +1,4 @@
--- The list of a recorder, part by part: what stands at each place, and the list after a number changed. Assumes nothing.
+-- The list of a recorder, part by part: what stands at each place, and the list after a number changed.
 use Prim.Native.Nat.{ℕ, zero, suc, _+_, _*_, _<_}
 use mathlib.Core.Path.{_≡_, refl, sym, ap, _∙_}
 use mathlib.Core.List.{List, [], _∷_, _++_, map}

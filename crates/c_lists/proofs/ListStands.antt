@@ -1,5 +1,5 @@
 -- The list of a recorder that stands for a sheet: what it tells, and that after a reference taken it is the list of the recorder that
--- stands for the sheet with it. Assumes nothing.
+-- stands for the sheet with it.
 use Prim.Native.Nat.{ℕ, zero, suc, _+_, _-_, _%_, _<_, _≤_, min}
 use mathlib.Core.Path.{_≡_, refl, sym, ap, _∙_}
 use mathlib.Core.Bool.{Bool, true, false}

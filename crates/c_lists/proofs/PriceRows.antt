@@ -1,4 +1,4 @@
--- Rows and their prices apart: the rows of such prices, and the prices stored row by row. Assumes nothing.
+-- Rows and their prices apart: the rows of such prices, and the prices stored row by row.
 use Prim.Native.Nat.{ℕ, zero, suc, _+_, _≤_, _<_}
 use mathlib.Core.Path.{_≡_, refl, sym, ap, _∙_}
 use mathlib.Core.List.{List, [], _∷_, map}

@@ -1,4 +1,4 @@
--- The lists of a recorder: what a call stores makes them, and they hold the recorder. Assumes nothing.
+-- The lists of a recorder: what a call stores makes them, and they hold the recorder.
 use Prim.Native.Nat.{ℕ, zero, suc, _+_, _*_, min}
 use mathlib.Core.Path.{_≡_, refl, sym, _∙_}
 use mathlib.Core.List.{List, [], _∷_, map}

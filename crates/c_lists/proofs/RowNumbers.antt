@@ -1,4 +1,4 @@
--- The numbers of rows one after the other: how many they are. Assumes nothing.
+-- The numbers of rows one after the other: how many they are.
 use Prim.Native.Nat.{ℕ, _*_, _≤_}
 use mathlib.Core.Path.{_≡_, refl}
 use mathlib.Core.List.{List, [], _∷_}

@@ -1,4 +1,4 @@
--- The figures of rows as numbers. Assumes nothing.
+-- The figures of rows as numbers.
 use Prim.Native.Nat.{ℕ}
 use mathlib.Core.List.{List, [], _∷_, _++_}
 use Rattle.model.specs.declared.RowFigures.{RowFigures}

@@ -1,5 +1,5 @@
 -- A recorder as one list of numbers, as include/segtrace.h has it: where each part stands, the list of a recorder, and the recorder that a
--- list holds, whatever its numbers are. Assumes nothing.
+-- list holds, whatever its numbers are.
 use Prim.Native.Nat.{ℕ, _+_, _*_, _%_, min}
 use mathlib.Core.Path.{_≡_}
 use mathlib.Core.List.{List, [], _∷_, _++_, map}

@@ -1,4 +1,4 @@
--- A recorder in lists of numbers, as include/segtrace.h has it. Assumes nothing.
+-- A recorder in lists of numbers, as include/segtrace.h has it.
 use Prim.Native.Nat.{ℕ, _+_, min}
 use mathlib.Core.Bool.{cond}
 use mathlib.Core.List.{List, [], _∷_, map}

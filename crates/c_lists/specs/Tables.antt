@@ -1,4 +1,4 @@
--- Rows of prices and buckets in lists of numbers, as include/segtrace.h has them. Assumes nothing.
+-- Rows of prices and buckets in lists of numbers, as include/segtrace.h has them.
 use Prim.Native.Nat.{ℕ, _+_, _*_}
 use mathlib.Core.List.{List, [], _∷_}
 use lib.ListN.{getD}

@@ -1,5 +1,5 @@
 // A recorder in lists of numbers, and the recorder that such lists hold, whatever the numbers are.
-// The lists are written in specs/Recorders.antt; nothing is assumed.
+// The lists are written in specs/Recorders.antt.
 use crate::tables;
 use buckets::Bucket;
 use buckets::Tally;

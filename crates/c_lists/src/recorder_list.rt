@@ -1,5 +1,5 @@
 // A recorder in one list of numbers, which the calls change in place. Whatever numbers stand there, each function returns.
-// The list is written in specs/RecorderList.antt; nothing is assumed.
+// The list is written in specs/RecorderList.antt.
 use crate::record_numbers::cut;
 use crate::record_numbers::kind_of;
 use buckets::Bucket;

@@ -1,5 +1,5 @@
 // Rows of prices and buckets in lists of numbers, and those that such lists hold.
-// The lists are written in specs/Tables.antt; nothing is assumed.
+// The lists are written in specs/Tables.antt.
 use buckets::Bucket;
 use buckets::Tally;
 use model::LoadUnits;

@@ -1,4 +1,4 @@
--- What a conversion does to a sheet: it stays valid, its run and its rows stay, and there and back restores the bytes. Assumes nothing.
+-- What a conversion does to a sheet: it stays valid, its run and its rows stay, and there and back restores the bytes.
 use Prim.Native.Nat.{ℕ, _<_}
 use mathlib.Core.Path.{_≡_, refl, sym, ap, _∙_}
 use mathlib.Core.Logic.{⊎-elim}

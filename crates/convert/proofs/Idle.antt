@@ -1,4 +1,4 @@
--- Laws of idle entries: one entry after another, each entry of a list without an idle one, and how many touches there are. Assumes nothing.
+-- Laws of idle entries: one entry after another, each entry of a list without an idle one, and how many touches there are.
 use Prim.Native.Nat.{ℕ, zero, suc, _+_, _≤_, _<_}
 use mathlib.Core.Path.{_≡_, refl, sym, ap, _∙_}
 use mathlib.Core.Bool.{Bool, true, false, cond, false≢true}

@@ -1,4 +1,4 @@
--- What the converters have for a lent place, by the sheet in the other form. Assumes nothing.
+-- What the converters have for a lent place, by the sheet in the other form.
 use mathlib.Core.Path.{_≡_, sym, ap, _∙_}
 use mathlib.Core.Bool.{true, false, cond}
 use mathlib.Core.List.{List}

@@ -1,5 +1,5 @@
 // The converters between form 1 and form 2 of a sheet (request F-3), on a sheet by value: its text in the other form, into a lent place.
-// What they leave there is written in specs/. Nothing is assumed.
+// What they leave there is written in crate `sheet`. Nothing is assumed.
 use model::PlaceAnswer;
 use model::Refusal;
 use model::Sheet;

@@ -1,5 +1,4 @@
 -- Laws of lists of digits: what stands in one, and the value of one that goes on.
--- Assumes nothing.
 use mathlib.Core.Path.{_≡_, refl}
 use mathlib.Core.Bool.{Bool, true, false, not, _&&_}
 use mathlib.Core.List.{List, [], _∷_, _++_}

@@ -1,5 +1,4 @@
 -- What is known of a list of bytes while a reader goes along the digits at its front: those passed are a number with no leading zero.
--- Assumes nothing.
 use mathlib.Core.Path.{_≡_, refl, sym, _∙_}
 use mathlib.Core.Bool.{true}
 use mathlib.Core.List.{List, [], _∷_}

@@ -1,5 +1,4 @@
 -- Laws of reading a number within bounds: when each answer is given, and that reading undoes writing.
--- Assumes nothing.
 use mathlib.Core.Path.{_≡_, refl, sym, ap, _∙_}
 use mathlib.Core.Bool.{Bool, true, false, cond, _&&_}
 use mathlib.Core.List.{List}

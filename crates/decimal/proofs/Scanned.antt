@@ -1,5 +1,4 @@
 -- What is known of a list of bytes while a reader goes along it with the value of the digits passed, cut off above a bound hi.
--- Assumes nothing.
 use mathlib.Core.Path.{_≡_, refl, ap, _∙_}
 use mathlib.Core.Bool.{true, false, _&&_}
 use mathlib.Core.List.{List}

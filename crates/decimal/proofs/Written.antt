@@ -1,5 +1,4 @@
 -- Laws of the digits of a number: they are a number, have its value, and are the only number that has it; and how many they are.
--- Assumes nothing.
 use mathlib.Core.Path.{_≡_, sym, ap, _∙_}
 use mathlib.Core.Bool.{true, false≢true, not}
 use mathlib.Core.List.{List, [], _∷_, _++_, append-assoc, append-nil}

@@ -1,5 +1,4 @@
 -- Decimal numbers as lists of bytes: which lists are numbers, the value of one, and the digits of a number.
--- Assumes nothing.
 use Prim.Native.Nat.{ℕ, zero, suc, _+_, _*_, _-_, _/_, _%_}
 use mathlib.Core.Bool.{Bool, true, false, cond, not, _&&_}
 use mathlib.Core.List.{List, [], _∷_, _++_}

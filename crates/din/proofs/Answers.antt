@@ -1,4 +1,4 @@
--- The sheet of an import by what its lines come to. Assumes nothing.
+-- The sheet of an import by what its lines come to.
 use Prim.Native.Nat.{ℕ, _≤_}
 use mathlib.Core.Path.{_≡_, refl, sym, ap, _∙_}
 use mathlib.Core.Bool.{Bool, true, false, false≢true}

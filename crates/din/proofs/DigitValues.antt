@@ -1,4 +1,4 @@
--- The table of the values of all bytes as digits, entered one by one. Assumes nothing.
+-- The table of the values of all bytes as digits, entered one by one.
 use Prim.Native.Nat.{ℕ, _+_, _≤_, _<_}
 use mathlib.Core.Path.{_≡_, _∙_}
 use mathlib.Core.List.{List}

@@ -1,4 +1,4 @@
--- The value of a hexadecimal digit by the range in which the byte lies. Assumes nothing.
+-- The value of a hexadecimal digit by the range in which the byte lies.
 use Prim.Native.Nat.{ℕ, _-_, _≤_, _<_}
 use mathlib.Core.Path.{_≡_, refl}
 use mathlib.Core.Bool.{Bool, true, false, _&&_}

@@ -1,4 +1,4 @@
--- Traces worked by hand, each with what its import comes to, in one table. Assumes nothing.
+-- Traces worked by hand, each with what its import comes to, in one table.
 use Prim.Native.Nat.{ℕ, zero, suc}
 use Prim.Native.String.{String}
 use mathlib.Core.Path.{_≡_, refl}

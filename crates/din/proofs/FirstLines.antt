@@ -1,4 +1,4 @@
--- The first of the lines of a run of bytes, read byte by byte: its label, its blank, its digits, its line feed. Assumes nothing.
+-- The first of the lines of a run of bytes, read byte by byte: its label, its blank, its digits, its line feed.
 use Prim.Native.Nat.{ℕ, suc, _+_, _*_, _-_, _^_, _≤_, _<_}
 use mathlib.Core.Path.{_≡_, refl, sym, ap, _∙_}
 use mathlib.Core.Bool.{Bool, true, false, cond, _&&_, false≢true}

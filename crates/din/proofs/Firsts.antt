@@ -1,4 +1,4 @@
--- Laws of pages numbered by first appearance. Assumes nothing.
+-- Laws of pages numbered by first appearance.
 use Prim.Native.Nat.{ℕ, zero, suc, _≤_, _<_, max}
 use mathlib.Core.Path.{_≡_, refl, sym, ap, _∙_}
 use mathlib.Core.Bool.{Bool, true, false, cond}

@@ -1,4 +1,4 @@
--- Going along the lines of a trace: what the table, the counts and the array of touches hold after the lines passed. Assumes nothing.
+-- Going along the lines of a trace: what the table, the counts and the array of touches hold after the lines passed.
 use Prim.Native.Nat.{ℕ, suc, _+_, _≤_, _<_, max}
 use mathlib.Core.Path.{_≡_, refl, sym, ap, _∙_}
 use mathlib.Core.Bool.{Bool, true, false, _||_}

@@ -1,4 +1,4 @@
--- Sizes 1 put one by one at the front of zeros. Assumes nothing.
+-- Sizes 1 put one by one at the front of zeros.
 use Prim.Native.Nat.{ℕ, _+_, _<_}
 use mathlib.Core.Path.{_≡_, sym, ap, _∙_}
 use mathlib.Core.List.{List}

@@ -1,4 +1,4 @@
--- The range of k, asked before all lines. Assumes nothing.
+-- The range of k, asked before all lines.
 use Prim.Native.Nat.{ℕ, _≤_, _<_}
 use mathlib.Core.Path.{_≡_, refl}
 use mathlib.Core.List.{List}

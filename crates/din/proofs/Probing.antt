@@ -1,4 +1,4 @@
--- Looking for a page in the table: place after place from its home on, up to its own or an empty one. Assumes nothing.
+-- Looking for a page in the table: place after place from its home on, up to its own or an empty one.
 use Prim.Native.Nat.{ℕ, suc, _+_, _-_, _%_, _≤_, _<_}
 use mathlib.Core.Path.{_≡_, refl}
 use mathlib.Core.List.{List, [], _∷_}

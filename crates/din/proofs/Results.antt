@@ -1,5 +1,5 @@
 -- What an import that is accepted gives: a sheet within the limits, one reference for each line, and segments that stand for pages
--- in the order of first appearance. Assumes nothing.
+-- in the order of first appearance.
 use Prim.Native.Nat.{ℕ, suc, _≤_, _<_}
 use mathlib.Core.Path.{_≡_, refl, sym, ap, _∙_}
 use mathlib.Core.Bool.{Bool, true, false, cond, _&&_, _||_, false≢true}

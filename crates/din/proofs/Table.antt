@@ -1,5 +1,4 @@
 -- The table of the pages seen: what it holds, that a page is found in it by its number, and that it holds one page more after a store.
--- Assumes nothing.
 use Prim.Native.Nat.{ℕ, zero, suc, _+_, _-_, _≤_, _<_}
 use mathlib.Core.Path.{_≡_, refl, sym, ap, _∙_}
 use mathlib.Core.Bool.{Bool, true, false, cond}

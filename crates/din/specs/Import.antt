@@ -1,4 +1,4 @@
--- The sheet that stands for a din trace, or the refusal. Assumes nothing.
+-- The sheet that stands for a din trace, or the refusal.
 use Prim.Native.Nat.{ℕ}
 use mathlib.Core.List.{List, []}
 use lib.ListN.{replicate}

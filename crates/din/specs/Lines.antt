@@ -1,4 +1,4 @@
--- The lines of a din trace: a label 0, 1 or 2, one blank, a hexadecimal address of 1 to 8 digits, a line feed. Assumes nothing.
+-- The lines of a din trace: a label 0, 1 or 2, one blank, a hexadecimal address of 1 to 8 digits, a line feed.
 use Prim.Native.Nat.{ℕ, _+_, _*_, _-_}
 use mathlib.Core.Bool.{Bool, true, cond, _&&_}
 use mathlib.Core.List.{List, [], _∷_}

@@ -1,4 +1,4 @@
--- The pages that the lines of a trace touch, numbered by first appearance, or the refusal. Assumes nothing.
+-- The pages that the lines of a trace touch, numbered by first appearance, or the refusal.
 use Prim.Native.Nat.{ℕ, suc, _/_, _^_, max}
 use mathlib.Core.Bool.{Bool, true, false, cond, _&&_, _||_}
 use mathlib.Core.List.{List, [], _∷_, _++_, map}

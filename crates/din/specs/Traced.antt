@@ -1,4 +1,4 @@
--- The lines of a trace that is taken: the address and the page of each, and how many there are. Assumes nothing.
+-- The lines of a trace that is taken: the address and the page of each, and how many there are.
 use Prim.Native.Nat.{ℕ, suc}
 use mathlib.Core.List.{List, [], _∷_, map}
 use mathlib.Core.Option.{Option, none, some}

@@ -1,5 +1,5 @@
 // Reading one line of a din trace at the head of bytes: the label, the blank, the digits of the address, the line feed.
-// What the lines are is written in specs/; nothing is assumed.
+// What the lines are is written in specs/.
 ghost use mathlib.Core.Path.{_≡_};
 ghost use Prim.Native.Nat.{_≤_};
 ghost use lib.ListN.{length};

@@ -1,5 +1,5 @@
 // The pages that the lines of a din trace touch, numbered by first appearance: one pass over the lines with a table of pages.
-// What they are is written in specs/; nothing is assumed.
+// What they are is written in specs/.
 use crate::lines::LineAt;
 use model::Refusal;
 use model::Sheet;

@@ -1,5 +1,4 @@
 -- The records that are found for a place of numbers, eleven a row: they are those of the rows' result, and refused where it is refused.
--- Assumes nothing.
 use Prim.Native.Nat.{ℕ, _*_, _/_, _≤_}
 use mathlib.Core.Path.{_≡_, refl, ap, _∙_}
 use mathlib.Core.Bool.{Bool, true, false}

@@ -1,4 +1,4 @@
--- The calls of the recorder in lists meet what their contracts say, accepted and refused. Assumes nothing.
+-- The calls of the recorder in lists meet what their contracts say, accepted and refused.
 use Prim.Native.Nat.{ℕ}
 use mathlib.Core.Path.{_≡_, refl, ap, _∙_}
 use mathlib.Core.List.{List}

@@ -1,4 +1,4 @@
--- A sheet that was read and is written again: its text is the bytes that were read, and so as long. Assumes nothing.
+-- A sheet that was read and is written again: its text is the bytes that were read, and so as long.
 use Prim.Native.Nat.{ℕ, _≤_}
 use mathlib.Core.Path.{_≡_, refl, ap, _∙_}
 use mathlib.Core.List.{List}

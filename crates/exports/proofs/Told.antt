@@ -1,4 +1,4 @@
--- What an exported call returns and leaves in a lent value, from the answer that it had. Assumes nothing.
+-- What an exported call returns and leaves in a lent value, from the answer that it had.
 use Prim.Native.Nat.{ℕ}
 use mathlib.Core.Path.{_≡_, refl, ap, _∙_}
 use mathlib.Core.List.{List}

@@ -1,4 +1,4 @@
--- What the exported call for the misses by stack distances returns and leaves in what it is lent. Assumes nothing.
+-- What the exported call for the misses by stack distances returns and leaves in what it is lent.
 use Prim.Native.Nat.{ℕ}
 use mathlib.Core.Path.{_≡_}
 use mathlib.Core.List.{List}

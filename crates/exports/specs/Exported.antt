@@ -1,4 +1,4 @@
--- What the exported calls return and leave in what they are lent. Assumes nothing.
+-- What the exported calls return and leave in what they are lent.
 use Prim.Native.Nat.{ℕ}
 use mathlib.Core.Path.{_≡_}
 use mathlib.Core.List.{List, [], _∷_}

@@ -1,4 +1,4 @@
--- What the exported calls on a recorder in lists of numbers return and leave. Assumes nothing.
+-- What the exported calls on a recorder in lists of numbers return and leave.
 use Prim.Native.Nat.{ℕ}
 use mathlib.Core.Path.{_≡_}
 use mathlib.Core.List.{List}

@@ -1,5 +1,5 @@
 // The misses of least-recently-used replacement for other languages.
-// What is returned and left is written in specs/; nothing is assumed.
+// What is returned and left is written in specs/.
 use crate::lent_calls::tell;
 ghost use Rattle.analyser.specs.Curves.{lruPlainResult};
 ghost use Rattle.exports.specs.Curving.{LruCall};

@@ -1,5 +1,5 @@
 // The call on a trace in the din text form: the trace as a sheet.
-// What it returns and leaves is written in specs/ and in crate `analyser`; nothing is assumed.
+// What it returns and leaves is written in specs/ and in crate `analyser`.
 use crate::lent_calls::tell;
 ghost use Rattle.analyser.specs.Sheets.{importResult};
 ghost use Rattle.exports.specs.Exported.{PlaceCall};

@@ -1,6 +1,6 @@
 // Calls on what they are lent, as plain functions that the root hands on. Each returns 0 or the number of the refusal; refused, it
 // leaves all that it was lent as it was.
-// What each returns and leaves is written in specs/; nothing is assumed.
+// What each returns and leaves is written in specs/.
 use model::PlaceAnswer;
 use model::RowFigures;
 use model::Verdict;

@@ -1,6 +1,6 @@
 // The recorder's calls on a recorder that the caller holds as lists of numbers, as plain functions that the root hands on. Whatever
 // numbers stand there, each call returns.
-// What each returns and leaves is written in specs/Recording.antt; nothing is assumed.
+// What each returns and leaves is written in specs/Recording.antt.
 use buckets::Bucket;
 use buckets::Tally;
 use c_lists::record_numbers::recorder_of;

@@ -1,5 +1,5 @@
 // The call on two sheets: the two as one.
-// What it returns and leaves is written in specs/ and in crate `analyser`; nothing is assumed.
+// What it returns and leaves is written in specs/ and in crate `analyser`.
 use crate::lent_calls::tell;
 ghost use Rattle.analyser.specs.Sheets.{joinResult};
 ghost use Rattle.exports.specs.Exported.{PlaceCall};

@@ -1,5 +1,5 @@
 // The recorder's calls, on a recorder that the caller holds as lists of numbers. Whatever numbers stand there, each call returns.
-// What each returns and leaves is written in specs/; nothing is assumed.
+// What each returns and leaves is written in specs/.
 use buckets::Bucket;
 use buckets::Tally;
 use model::RowFigures;

@@ -1,4 +1,4 @@
--- A touch goes to a bucket up to row r exactly when row r keeps it, and every touch to one of the 65 buckets. Assumes nothing.
+-- A touch goes to a bucket up to row r exactly when row r keeps it, and every touch to one of the 65 buckets.
 use Prim.Native.Nat.{ℕ, zero, suc, _+_, _*_, _≤_, _<_}
 use mathlib.Core.Path.{_≡_, refl, sym, _∙_}
 use mathlib.Core.Bool.{Bool, true, false, cond}

@@ -1,4 +1,4 @@
--- A number chosen by the kind. Assumes nothing.
+-- A number chosen by the kind.
 use Prim.Native.Nat.{ℕ, _≤_}
 use Rattle.model.specs.declared.Kind.{Kind}
 use Rattle.model.specs.declared.Kind.the-variants.{Time, Space}

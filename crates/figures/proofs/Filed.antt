@@ -1,5 +1,5 @@
 -- Sums over buckets: what is filed up to row r is what the row keeps, and what is filed in all buckets is the whole. So the counts of
--- the buckets add up to the references. Each law holds of every sum g that a bucket can hold. Assumes nothing.
+-- the buckets add up to the references. Each law holds of every sum g that a bucket can hold.
 use Prim.Native.Nat.{ℕ, zero, suc, _+_, _*_, _<_}
 use mathlib.Core.Path.{_≡_, refl, _∙_}
 use mathlib.Core.Bool.{Bool, true, false, cond}

@@ -1,4 +1,4 @@
--- How large the sums of a sheet within the limits can be, so that no figure exceeds 64 bits. Assumes nothing.
+-- How large the sums of a sheet within the limits can be, so that no figure exceeds 64 bits.
 use Prim.Native.Nat.{ℕ, _+_, _*_, _^_, _≤_, _<_, min}
 use mathlib.Core.Path.{_≡_, refl, ap}
 use mathlib.Core.Bool.{Bool, true, false, cond}

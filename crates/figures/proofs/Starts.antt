@@ -1,4 +1,4 @@
--- The swap costs of the warm segments, as the code adds them up by the table before step 1. Assumes nothing.
+-- The swap costs of the warm segments, as the code adds them up by the table before step 1.
 use Prim.Native.Nat.{ℕ, _+_, _*_, _<_}
 use mathlib.Core.Path.{_≡_, refl, ap, _∙_}
 use mathlib.Core.Bool.{Bool, true, false, cond}

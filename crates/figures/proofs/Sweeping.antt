@@ -1,5 +1,4 @@
 -- The sweep over the rows: each row's figures from the sums up to it, within 64 bits, and the figures written so far.
--- Assumes nothing.
 use Prim.Native.Nat.{ℕ, suc, _≤_, _<_}
 use mathlib.Core.Path.{_≡_, refl, ap, _∙_}
 use mathlib.Core.Bool.{Bool, true, false, cond}

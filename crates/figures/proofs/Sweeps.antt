@@ -1,4 +1,4 @@
--- The sums that the sweep over the rows keeps: one bucket more, and what they are for the buckets of a sheet. Assumes nothing.
+-- The sums that the sweep over the rows keeps: one bucket more, and what they are for the buckets of a sheet.
 use Prim.Native.Nat.{ℕ, suc, _*_, _≤_, _<_}
 use mathlib.Core.Path.{_≡_, refl, sym, _∙_}
 use mathlib.Core.Bool.{cond}

@@ -1,5 +1,5 @@
 -- The figures of a row from the sums over all touches, over what the row keeps, and over the end intervals that it keeps, are its
--- figures as they are defined. Assumes nothing.
+-- figures as they are defined.
 use Prim.Native.Nat.{ℕ, _+_, _-_, _*_, _≤_}
 use mathlib.Core.Path.{_≡_, refl, ap, _∙_}
 use mathlib.Core.Bool.{Bool, cond}

@@ -1,6 +1,6 @@
 -- The smaller of d × R and h × w, added over all reuses and end intervals, from sums of R and of w alone: d × R of what is kept, and
 -- h × w of all touches and of the start set but what is kept. For this the start set and the first touches of other segments stand for
--- the end intervals: each segment that counts as touched has one of them and one end interval. Assumes nothing.
+-- the end intervals: each segment that counts as touched has one of them and one end interval.
 use Prim.Native.Nat.{ℕ, _+_, _*_, _≤_, min}
 use mathlib.Core.Path.{_≡_, refl, ap}
 use mathlib.Core.Bool.{Bool, true, false, cond}

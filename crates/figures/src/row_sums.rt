@@ -1,5 +1,5 @@
 // The figures of one row from the sums over the buckets: over all, over those that the row keeps, and over the end intervals that it keeps.
-// What those sums must satisfy is written in specs/OneRow.antt; nothing is assumed.
+// What those sums must satisfy is written in specs/OneRow.antt.
 use buckets::Bucket;
 use model::Kind;
 use model::LoadUnits;

@@ -1,5 +1,4 @@
 // The figures of every row from the buckets of the pass: one sweep over the rows with running sums.
-// Nothing is assumed.
 use buckets::Bucket;
 use buckets::Tally;
 use model::Kind;

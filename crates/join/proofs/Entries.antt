@@ -1,4 +1,4 @@
--- What the code of the entries rests on: steps in which both touch, the entries of the joint sheet. Assumes nothing.
+-- What the code of the entries rests on: steps in which both touch, the entries of the joint sheet.
 use Prim.Native.Nat.{ℕ, zero, suc, _+_, _-_, _≤_, _<_, min}
 use mathlib.Core.Path.{_≡_, refl, sym, ap, _∙_}
 use mathlib.Core.Logic.{⊎-elim}

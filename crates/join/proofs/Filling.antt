@@ -1,4 +1,4 @@
--- A list put entry by entry at the front of blank ones, as the loops that fill an array do. Assumes nothing.
+-- A list put entry by entry at the front of blank ones, as the loops that fill an array do.
 use Prim.Native.Nat.{ℕ, _+_, _≤_, _<_}
 use mathlib.Core.Path.{_≡_}
 use mathlib.Core.List.{List}

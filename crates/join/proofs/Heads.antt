@@ -1,4 +1,4 @@
--- What the code of the heads rests on: rows compared one by one, then heads. Assumes nothing.
+-- What the code of the heads rests on: rows compared one by one, then heads.
 use Prim.Native.Nat.{ℕ, suc, _+_, _≤_, _<_}
 use mathlib.Core.Path.{_≡_, refl, ap, _∙_}
 use mathlib.Core.Bool.{Bool, true, false, _&&_}

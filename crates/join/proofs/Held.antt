@@ -1,4 +1,4 @@
--- The joint sheet as it is held: the parts that were worked out are those of the definition. Assumes nothing.
+-- The joint sheet as it is held: the parts that were worked out are those of the definition.
 use Prim.Native.Nat.{ℕ, _+_, _≤_, max}
 use mathlib.Core.Path.{_≡_, refl, sym, ap, _∙_}
 use mathlib.Core.Logic.{inl, inr, ⊎-elim}

@@ -1,4 +1,4 @@
--- The head of the joint sheet as it is held: the parts that were worked out are those of the definition. Assumes nothing.
+-- The head of the joint sheet as it is held: the parts that were worked out are those of the definition.
 use Prim.Native.Nat.{ℕ, _+_, _≤_}
 use mathlib.Core.Path.{_≡_, refl, sym, ap, _∙_}
 use mathlib.Core.List.{List, [], _∷_, _++_}

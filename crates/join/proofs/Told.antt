@@ -1,4 +1,4 @@
--- Each refusal, and that two sheets join, by what was told of the two sheets by value. Assumes nothing.
+-- Each refusal, and that two sheets join, by what was told of the two sheets by value.
 use Prim.Native.Nat.{ℕ, _+_, _≤_, _<_, max}
 use mathlib.Core.Path.{_≡_, sym, ap, _∙_}
 use mathlib.Core.Bool.{Bool, true, false}

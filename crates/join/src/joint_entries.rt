@@ -1,5 +1,5 @@
 // The entries of two sheets on the same clock: whether both touch in one step, and the entries of the joint sheet.
-// What these are is written in specs/ of crate `joint` and in specs/inner; nothing is assumed.
+// What these are is written in specs/ of crate `joint` and in specs/inner.
 use model::Sheet;
 ghost use mathlib.Core.Path.{_≡_};
 ghost use Prim.Native.Nat.{ℕ, _≤_, min};

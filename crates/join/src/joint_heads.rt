@@ -1,5 +1,5 @@
 // The heads of two sheets: whether kind, a and row lines are the same, and the head of the joint sheet.
-// What these are is written in specs/ of crate `joint` and in specs/inner; nothing is assumed.
+// What these are is written in specs/ of crate `joint` and in specs/inner.
 use model::Head;
 use model::Kind;
 use model::PriceRow;

@@ -1,5 +1,4 @@
--- A run beyond its last step: nothing is touched, sums over touches and the optimal schedule stay, and end intervals only grow. Assumes
--- nothing.
+-- A run beyond its last step: nothing is touched, sums over touches and the optimal schedule stay, and end intervals only grow.
 use Prim.Native.Nat.{ℕ, zero, suc, _+_, _*_, _≤_, min}
 use mathlib.Core.Path.{_≡_, refl}
 use mathlib.Core.Bool.{false, cond}

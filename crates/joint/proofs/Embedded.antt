@@ -1,4 +1,4 @@
--- A run H that stands in a run U, its segments numbered from k on: of these segments U says what H says. Assumes nothing.
+-- A run H that stands in a run U, its segments numbered from k on: of these segments U says what H says.
 use Prim.Native.Nat.{ℕ, zero, suc, _+_, _-_, _≤_, _<_}
 use mathlib.Core.Path.{_≡_, refl, sym, ap, _∙_}
 use mathlib.Core.Bool.{false, cond, _||_}

@@ -1,4 +1,4 @@
--- The entries of a joint sheet: each is the touch of one of the two sheets, or idle. Assumes nothing.
+-- The entries of a joint sheet: each is the touch of one of the two sheets, or idle.
 use Prim.Native.Nat.{ℕ, zero, suc, _+_, _≤_, _<_}
 use mathlib.Core.Path.{_≡_, refl, sym, ap, _∙_}
 use mathlib.Core.Logic.{_⊎_, inl, inr, ⊎-elim}

@@ -1,5 +1,4 @@
--- Two sheets joined by hand, the figures of a row beside those of the two, and pairs of sheets that are refused, in one table. Assumes
--- nothing.
+-- Two sheets joined by hand, the figures of a row beside those of the two, and pairs of sheets that are refused, in one table.
 use Prim.Native.Nat.{ℕ}
 use mathlib.Core.Path.{_≡_, refl}
 use mathlib.Core.Bool.{Bool, true, _&&_}

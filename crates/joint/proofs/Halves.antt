@@ -1,5 +1,4 @@
--- A run U in which two runs T and S stand, the segments of S after those of T: sums over touches and end intervals split in two. Assumes
--- nothing.
+-- A run U in which two runs T and S stand, the segments of S after those of T: sums over touches and end intervals split in two.
 use Prim.Native.Nat.{ℕ, zero, suc, _+_, _-_, _*_, _≤_, max, min}
 use mathlib.Core.Path.{_≡_, refl, sym, ap, _∙_}
 use mathlib.Core.Bool.{Bool, false, cond}

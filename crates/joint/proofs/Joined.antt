@@ -1,5 +1,5 @@
 -- The joint sheet of two valid sheets that join: it is valid, its figures are those of the two together, and its optimal schedule is the
--- two side by side. Assumes nothing.
+-- two side by side.
 use Prim.Native.Nat.{ℕ, _+_, _-_, _≤_, _<_, max}
 use mathlib.Core.Path.{_≡_, refl, sym, ap, _∙_}
 use mathlib.Core.Logic.{_⊎_, ⊎-elim}

@@ -1,4 +1,4 @@
--- What joining comes to: each refusal, and that an accepted joint sheet is that of two sheets that join, and valid. Assumes nothing.
+-- What joining comes to: each refusal, and that an accepted joint sheet is that of two sheets that join, and valid.
 use Prim.Native.Nat.{ℕ, _+_, _≤_}
 use mathlib.Core.Path.{_≡_, refl, ap, subst}
 use mathlib.Core.Bool.{Bool, true, false, cond}

@@ -1,4 +1,4 @@
--- Sizes and warm segments of two sheets one after the other, the second's numbers moved by the first's n segments. Assumes nothing.
+-- Sizes and warm segments of two sheets one after the other, the second's numbers moved by the first's n segments.
 use Prim.Native.Nat.{ℕ, zero, suc, _+_, _-_, _≤_, _<_}
 use mathlib.Core.Path.{_≡_, refl, ap, _∙_}
 use mathlib.Core.Logic.{⊎-elim}

@@ -1,4 +1,4 @@
--- What the figures and the optimal schedule of a joint sheet are by those of the two sheets (request F-7). Assumes nothing.
+-- What the figures and the optimal schedule of a joint sheet are by those of the two sheets (request F-7).
 use Prim.Native.Nat.{ℕ, _+_, _≤_, _<_}
 use mathlib.Core.Path.{_≡_}
 use mathlib.Core.Bool.{false}

@@ -1,4 +1,4 @@
--- What joining two sheets comes to: the joint sheet, or refusal 20, 21 or 22, in this order. Assumes nothing.
+-- What joining two sheets comes to: the joint sheet, or refusal 20, 21 or 22, in this order.
 use Prim.Native.Nat.{_+_}
 use mathlib.Core.Bool.{cond}
 use lib.ListN.{length}

@@ -1,4 +1,4 @@
--- Two aligners in one memory (request F-7): which sheets join, and the value of the joint sheet. Assumes nothing.
+-- Two aligners in one memory (request F-7): which sheets join, and the value of the joint sheet.
 use Prim.Native.Nat.{ℕ, zero, suc, _+_, max}
 use mathlib.Core.Path.{_≡_}
 use mathlib.Core.Bool.{Bool, true, false, cond, not, _&&_, _||_}

@@ -1,4 +1,4 @@
--- Counting the references of a standing sheet: the entries that are segments, one step after another. Assumes nothing.
+-- Counting the references of a standing sheet: the entries that are segments, one step after another.
 use Prim.Native.Nat.{ℕ, _+_, _≤_, _<_}
 use mathlib.Core.Path.{_≡_, sym, ap, _∙_}
 use mathlib.Core.Logic.{_⊎_, ⊎-elim}

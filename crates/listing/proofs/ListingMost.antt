@@ -1,5 +1,4 @@
 -- The listing of an accepted sheet has at most 11,558 bytes, and with modtotal= 13,158: how many digits each figure can have.
--- Assumes nothing.
 use Prim.Native.Nat.{ℕ, zero, suc, _+_, _*_, _^_, _≤_, _<_}
 use mathlib.Core.Path.{_≡_}
 use mathlib.Core.Bool.{Bool, true, false, cond}

@@ -1,4 +1,4 @@
--- The listing in the parts in which it is written, and the lengths of the parts. Assumes nothing.
+-- The listing in the parts in which it is written, and the lengths of the parts.
 use Prim.Native.Nat.{ℕ, _+_, _≤_, _<_}
 use mathlib.Core.Path.{_≡_, ap, _∙_}
 use mathlib.Core.Bool.{true, false}

@@ -1,5 +1,5 @@
 -- The rows of a listing as lines one after another, the figures of each beside its modtotal: one row more, how long they are, and that
--- below form 4 they do not depend on the modtotals. Assumes nothing.
+-- below form 4 they do not depend on the modtotals.
 use Prim.Native.Nat.{ℕ, zero, suc, _+_, _*_, _≤_, _<_}
 use mathlib.Core.Path.{_≡_, refl, ap, _∙_}
 use mathlib.Core.Bool.{Bool, true, false}

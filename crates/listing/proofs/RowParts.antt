@@ -1,4 +1,4 @@
--- The rows of a listing in the parts in which they are written, and the lengths of the parts. Assumes nothing.
+-- The rows of a listing in the parts in which they are written, and the lengths of the parts.
 use Prim.Native.Nat.{ℕ, _+_}
 use mathlib.Core.Path.{_≡_, sym}
 use mathlib.Core.Bool.{true, false}

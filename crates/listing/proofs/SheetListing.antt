@@ -1,4 +1,4 @@
--- The listing of a sheet, from the figures of all its rows. Assumes nothing.
+-- The listing of a sheet, from the figures of all its rows.
 use Prim.Native.Nat.{ℕ, _≤_, _<_}
 use mathlib.Core.Path.{_≡_, sym, ap, _∙_}
 use mathlib.Core.Logic.{_⊎_, ⊎-elim}

@@ -1,5 +1,5 @@
 -- The listing as text: one item a line, key=number and a line feed, in document 01's order, with steps= of request F-3 and modtotal= of
--- request F-13. Assumes nothing.
+-- request F-13.
 use Prim.Native.Nat.{ℕ}
 use mathlib.Core.Bool.{cond}
 use mathlib.Core.List.{List, [], _∷_, _++_}

@@ -1,5 +1,5 @@
 -- The rows of the listing as text: one item a line, key=number and a line feed, in document 01's order, with modtotal= of request F-13;
--- and the parts in which they are written. Assumes nothing.
+-- and the parts in which they are written.
 use Prim.Native.Nat.{ℕ}
 use mathlib.Core.Bool.{Bool, cond}
 use mathlib.Core.List.{List, [], _∷_, _++_}

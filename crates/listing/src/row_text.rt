@@ -1,5 +1,5 @@
 // The lines of the rows of a listing, one after the other from an index of the lent place on.
-// What they are stands in specs/RowListing.antt. Nothing is assumed.
+// What they are stands in specs/RowListing.antt.
 use model::RowFigures;
 use model::Sheet;
 use text::put_number;

@@ -1,4 +1,4 @@
--- The misses by stack distances are those of the memory simulated, for every run and every number of frames. Assumes nothing.
+-- The misses by stack distances are those of the memory simulated, for every run and every number of frames.
 use Prim.Native.Nat.{ℕ, suc}
 use mathlib.Core.Path.{_≡_, sym, _∙_}
 use mathlib.Core.Bool.{cond}

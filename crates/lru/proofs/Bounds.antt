@@ -1,5 +1,5 @@
 -- The recency list has each segment touched so far, once; the entries looked at are within refs × the distinct segments; the misses never
--- rise with the number of frames, and end at the number of distinct segments. Assumes nothing.
+-- rise with the number of frames, and end at the number of distinct segments.
 use Prim.Native.Nat.{ℕ, zero, suc, _*_, _≤_, _<_}
 use mathlib.Core.Path.{_≡_, refl, sym, _∙_}
 use mathlib.Core.Bool.{Bool, true, false, cond, _||_}

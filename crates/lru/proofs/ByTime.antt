@@ -1,5 +1,5 @@
 -- The stack distance is the one by time, and the memory of k frames has the k most recently touched segments, in every run in which none
--- counts as touched before step 1. Assumes nothing.
+-- counts as touched before step 1.
 use Prim.Native.Nat.{ℕ, zero, suc, pred, _+_, _≤_, _<_}
 use mathlib.Core.Path.{_≡_, refl, sym, ap, _∙_}
 use mathlib.Core.Bool.{Bool, true, false, cond, _&&_, false≢true}

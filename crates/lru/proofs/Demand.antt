@@ -1,4 +1,4 @@
--- Requests F-9 and F-10 hold of the definitions, for every run in which no segment counts as touched before step 1. Assumes nothing.
+-- Requests F-9 and F-10 hold of the definitions, for every run in which no segment counts as touched before step 1.
 use Prim.Native.Nat.{ℕ}
 use mathlib.Core.Path.{_≡_, _∙_}
 use mathlib.Core.Bool.{false}

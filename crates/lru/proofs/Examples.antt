@@ -1,5 +1,5 @@
 -- Runs with their misses, entries looked at, distinct segments and touches, in one table; a single proof goes over it, computed from the
--- definitions. Assumes nothing.
+-- definitions.
 use Prim.Native.Nat.{ℕ}
 use mathlib.Core.Path.{_≡_, refl}
 use mathlib.Core.Bool.{Bool, true, false, _&&_}

@@ -1,5 +1,4 @@
 -- The memory with no order among its frames has the segments of the one that is kept in the order of last touches, and as many.
--- Assumes nothing.
 use Prim.Native.Nat.{ℕ, zero, suc, min, _≤_, _<_}
 use mathlib.Core.Path.{_≡_, refl, sym, ap, _∙_}
 use mathlib.Core.Logic.{_⊎_, inl, inr, ⊎-elim}

@@ -1,4 +1,4 @@
--- The recency list has each segment once: what stands at a place stands at no place before it. Assumes nothing.
+-- The recency list has each segment once: what stands at a place stands at no place before it.
 use Prim.Native.Nat.{ℕ, zero, suc, _<_}
 use mathlib.Core.Path.{_≡_, refl, sym, _∙_}
 use mathlib.Core.Bool.{Bool, true, false, cond, _||_, false≢true}

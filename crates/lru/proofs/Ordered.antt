@@ -1,5 +1,4 @@
 -- The memory of k frames kept in the order of last touches, as crate lru_curve keeps it: it has the first k of the recency list.
--- Assumes nothing.
 use Prim.Native.Nat.{ℕ, zero, suc}
 use mathlib.Core.Path.{_≡_, refl}
 use mathlib.Core.Bool.{Bool, true, false, cond}

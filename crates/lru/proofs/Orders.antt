@@ -1,5 +1,5 @@
 -- Laws of lists of segments in an order: places, removal, what comes to the front, and the first k of them. No entry needs to stand in
--- them once only. Assumes nothing.
+-- them once only.
 use Prim.Native.Nat.{ℕ, zero, suc, _+_, _≤_}
 use mathlib.Core.Path.{_≡_, refl, sym, _∙_}
 use mathlib.Core.Bool.{Bool, true, false, cond, _||_, false≢true}

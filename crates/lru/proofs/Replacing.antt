@@ -1,4 +1,4 @@
--- The least recently used goes, in every run in which no segment counts as touched before step 1. Assumes nothing.
+-- The least recently used goes, in every run in which no segment counts as touched before step 1.
 use Prim.Native.Nat.{ℕ, zero, suc, _+_, _≤_, _<_}
 use mathlib.Core.Path.{_≡_, refl, sym, ap, _∙_}
 use mathlib.Core.Bool.{Bool, true, false, cond, _&&_, false≢true}

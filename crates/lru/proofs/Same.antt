@@ -1,4 +1,4 @@
--- Only the number of segments and the entries of the steps count: kind, weight and sizes do not. Assumes nothing.
+-- Only the number of segments and the entries of the steps count: kind, weight and sizes do not.
 use Prim.Native.Nat.{ℕ, zero, suc}
 use mathlib.Core.Path.{_≡_, refl, sym, ap, _∙_}
 use mathlib.Core.List.{List}

@@ -1,5 +1,5 @@
 -- Laws of sums and touches: what a step that touches a segment adds and touches, what an idle step does, and sums over touches within a
--- bound. Assumes nothing.
+-- bound.
 use Prim.Native.Nat.{ℕ, zero, suc, _+_, _*_, _≤_, _<_}
 use mathlib.Core.Path.{_≡_, refl, _∙_}
 use mathlib.Core.Bool.{Bool, true, false, cond, _&&_}

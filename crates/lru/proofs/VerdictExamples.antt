@@ -1,4 +1,4 @@
--- Which number the sizes and the warm segments of a sheet get: 26, then 27. Assumes nothing.
+-- Which number the sizes and the warm segments of a sheet get: 26, then 27.
 use Prim.Native.Nat.{ℕ}
 use mathlib.Core.Path.{_≡_, refl}
 use mathlib.Core.List.{List, [], _∷_}

@@ -1,5 +1,4 @@
 -- What is answered for the misses of a sheet with 1, 2, .., segs frames: 26, then 27, then 11 by the place; and the entries looked at.
--- Assumes nothing.
 use Prim.Native.Nat.{ℕ}
 use mathlib.Core.Bool.{Bool, true, cond, _&&_}
 use mathlib.Core.List.{List, [], _∷_}

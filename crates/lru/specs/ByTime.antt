@@ -1,6 +1,5 @@
 -- Least recently used, by the times since the last touches alone: no list, and nothing of a memory. The times of the model start from the
 -- warm segments; the lists of Recency.antt and Memory.antt start empty, so the two are compared in runs with no warm segment.
--- Assumes nothing.
 use Prim.Native.Nat.{ℕ, suc}
 use mathlib.Core.Bool.{Bool, true, false, cond, _&&_}
 use mathlib.Core.Option.{Option, none, some}

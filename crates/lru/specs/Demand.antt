@@ -1,4 +1,4 @@
--- What requests F-9 and F-10 ask of the definitions, as one statement on a run. Assumes nothing.
+-- What requests F-9 and F-10 ask of the definitions, as one statement on a run.
 use Prim.Native.Nat.{ℕ, _*_, _≤_}
 use mathlib.Core.Path.{_≡_}
 use Rattle.model.specs.Traces.{Trace, steps, refsOf}

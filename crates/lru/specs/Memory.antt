@@ -1,5 +1,5 @@
 -- Least-recently-used replacement in one memory of k frames, simulated touch by touch, with no order among its frames: a hit changes
--- nothing, and a miss takes a free frame or that of the segment with the greatest unreferenced time. Assumes nothing.
+-- nothing, and a miss takes a free frame or that of the segment with the greatest unreferenced time.
 use Prim.Native.Nat.{ℕ, zero, suc}
 use mathlib.Core.Bool.{Bool, false, cond, _||_}
 use mathlib.Core.List.{List, [], _∷_}

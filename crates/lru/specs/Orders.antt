@@ -1,4 +1,4 @@
--- Lists of segments in an order: where one stands in it, the list without it, and what a step makes of it. Assumes nothing.
+-- Lists of segments in an order: where one stands in it, the list without it, and what a step makes of it.
 use Prim.Native.Nat.{ℕ}
 use mathlib.Core.Bool.{cond}
 use mathlib.Core.List.{List, [], _∷_}

@@ -1,5 +1,5 @@
 -- The recency list and the stack distances, the misses of least-recently-used replacement by them, and the entries of the list that one
--- pass looks at. Assumes nothing.
+-- pass looks at.
 use Prim.Native.Nat.{ℕ, zero, suc}
 use mathlib.Core.Bool.{cond}
 use mathlib.Core.List.{List, []}

@@ -1,5 +1,5 @@
 -- Least-recently-used replacement: which segment goes from a memory of k frames, and when; m t are the segments that
--- it has after t steps. Assumes nothing.
+-- it has after t steps.
 use Prim.Native.Nat.{ℕ, suc, _≤_, _<_}
 use mathlib.Core.Path.{_≡_}
 use mathlib.Core.Bool.{true, false}

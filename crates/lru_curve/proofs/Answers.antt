@@ -1,4 +1,4 @@
--- What the calls for the misses of a sheet answer, by their tests. Assumes nothing.
+-- What the calls for the misses of a sheet answer, by their tests.
 use Prim.Native.Nat.{ℕ, suc, _≤_, _<_}
 use mathlib.Core.Path.{_≡_, refl, _∙_}
 use mathlib.Core.List.{List}

@@ -1,4 +1,4 @@
--- The two engines leave the same numbers in the same place, for every run. Assumes nothing.
+-- The two engines leave the same numbers in the same place, for every run.
 use Prim.Native.Nat.{ℕ}
 use mathlib.Core.Path.{_≡_, sym, ap, _∙_}
 use mathlib.Core.List.{List, _++_}

@@ -1,4 +1,4 @@
--- The misses simulated for each number of frames in turn: the start of the list, one number more, and its end. Assumes nothing.
+-- The misses simulated for each number of frames in turn: the start of the list, one number more, and its end.
 use Prim.Native.Nat.{ℕ, suc, _+_, _≤_, _<_}
 use mathlib.Core.Path.{_≡_, refl, ap, _∙_}
 use mathlib.Core.List.{List, [], _++_}

@@ -1,5 +1,4 @@
 -- A list of segments at the front of an array, after a segment was moved to its front: one that was in it, and one that was not.
--- Assumes nothing.
 use Prim.Native.Nat.{ℕ, zero, suc, _≤_, _<_}
 use mathlib.Core.Path.{_≡_, refl, sym, ap, _∙_}
 use mathlib.Core.List.{List, [], _∷_, _++_, append-nil}

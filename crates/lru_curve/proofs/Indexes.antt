@@ -1,4 +1,4 @@
--- The place of a segment in a list: found by looking at one entry after the other, and what it says of the list. Assumes nothing.
+-- The place of a segment in a list: found by looking at one entry after the other, and what it says of the list.
 use Prim.Native.Nat.{ℕ, suc, _+_, _-_, _≤_, _<_}
 use mathlib.Core.Path.{_≡_, refl, sym, ap, _∙_}
 use mathlib.Core.Bool.{Bool, true, false, cond, _||_}

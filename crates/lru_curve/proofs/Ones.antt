@@ -1,5 +1,4 @@
 -- Whether every size is 1, one after the other: one more, one that is not, and the end; and what an accepted sheet then is known to be.
--- Assumes nothing.
 use Prim.Native.Nat.{ℕ, _+_, _≤_, _<_}
 use mathlib.Core.Path.{_≡_, refl, sym, ap, _∙_}
 use mathlib.Core.Bool.{Bool, true, false, cond}

@@ -1,4 +1,4 @@
--- The pass by stack distances: its start, a touch that is a reuse, a first touch, an idle step, and its end. Assumes nothing.
+-- The pass by stack distances: its start, a touch that is a reuse, a first touch, an idle step, and its end.
 use Prim.Native.Nat.{ℕ, suc, _+_, _*_, _≤_, _<_}
 use mathlib.Core.Path.{_≡_, refl, sym, ap, _∙_}
 use mathlib.Core.Bool.{Bool, true, false, cond}

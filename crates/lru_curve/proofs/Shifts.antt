@@ -1,4 +1,4 @@
--- An entry moved to the front by moving those before it one further, from the last to the first: one move, and the end. Assumes nothing.
+-- An entry moved to the front by moving those before it one further, from the last to the first: one move, and the end.
 use Prim.Native.Nat.{ℕ, zero, suc, _-_, _≤_, _<_}
 use mathlib.Core.Path.{_≡_, sym, ap, _∙_}
 use mathlib.Core.List.{List, _∷_, _++_}

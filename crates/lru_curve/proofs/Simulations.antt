@@ -1,4 +1,4 @@
--- The simulation of one memory of k frames: its start, a hit, a miss, an idle step, and its end. Assumes nothing.
+-- The simulation of one memory of k frames: its start, a hit, a miss, an idle step, and its end.
 use Prim.Native.Nat.{ℕ, zero, suc, _+_, _-_, _≤_, _<_}
 use mathlib.Core.Path.{_≡_, refl, sym, ap, _∙_}
 use mathlib.Core.Bool.{Bool, true, false, cond}

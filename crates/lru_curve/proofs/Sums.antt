@@ -1,4 +1,4 @@
--- The misses by a running sum from the most frames down: its start, one frame less, and its end. Assumes nothing.
+-- The misses by a running sum from the most frames down: its start, one frame less, and its end.
 use Prim.Native.Nat.{ℕ, zero, suc, _+_, _-_, _*_, _≤_, _<_}
 use mathlib.Core.Path.{_≡_, refl, sym, _∙_}
 use mathlib.Core.Bool.{Bool, true, false, cond}

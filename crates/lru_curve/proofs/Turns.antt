@@ -1,4 +1,4 @@
--- A list walked in parts: x found in a part, a part passed, and the last part. Assumes nothing.
+-- A list walked in parts: x found in a part, a part passed, and the last part.
 use Prim.Native.Nat.{ℕ, zero, suc, _+_, _-_, _≤_, _<_}
 use mathlib.Core.Path.{_≡_, refl, ap}
 use mathlib.Core.Bool.{Bool, true, false, cond}

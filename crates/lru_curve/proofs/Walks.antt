@@ -1,4 +1,4 @@
--- The walk that puts a segment first and moves what it passes one further: its start, one entry more, and its end. Assumes nothing.
+-- The walk that puts a segment first and moves what it passes one further: its start, one entry more, and its end.
 use Prim.Native.Nat.{ℕ, suc, _+_, _<_}
 use mathlib.Core.Path.{_≡_, refl, sym, ap, _∙_}
 use mathlib.Core.List.{List, _∷_, _++_}

@@ -1,4 +1,4 @@
--- A list of numbers written to a place, from the last to the first and from the first to the last. Assumes nothing.
+-- A list of numbers written to a place, from the last to the first and from the first to the last.
 use Prim.Native.Nat.{ℕ, suc, _≤_, _<_}
 use mathlib.Core.Path.{_≡_, sym, ap, _∙_}
 use mathlib.Core.List.{List, [], _∷_, _++_}

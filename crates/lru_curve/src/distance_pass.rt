@@ -1,5 +1,5 @@
 // The misses with every number of frames in one pass: a recency list, and how many touches there are at each stack distance.
-// What they are is written in crate `lru`; nothing is assumed.
+// What they are is written in crate `lru`.
 use crate::recency_list::Walk;
 use model::Sheet;
 ghost use mathlib.Core.Path.{_≡_};

@@ -1,5 +1,5 @@
 // Whether a sheet has misses with 1, 2, .., segs frames: every size is 1, and no segment is warm. What the engines that count them leave is
-// written in specs/; nothing is assumed.
+// written in specs/.
 use model::Refusal;
 use model::Verdict;
 ghost use mathlib.Core.Path.{_≡_};

@@ -1,5 +1,5 @@
 // The misses with every number of frames, each number in turn: one memory of k frames, touch by touch.
-// What they are is written in crate `lru`; nothing is assumed.
+// What they are is written in crate `lru`.
 use model::Sheet;
 ghost use mathlib.Core.Path.{_≡_};
 ghost use Prim.Native.Nat.{_≤_, _<_};

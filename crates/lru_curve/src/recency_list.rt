@@ -1,5 +1,5 @@
 // A recency list, the segments touched so far with the most recent first: the walk up to a segment, and a segment put first.
-// What the list is, is written in crate `lru`; nothing is assumed.
+// What the list is, is written in crate `lru`.
 ghost use mathlib.Core.Path.{_≡_};
 ghost use Prim.Native.Nat.{_≤_, _<_};
 ghost use lib.ListN.{length, take};

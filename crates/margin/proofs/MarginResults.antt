@@ -1,4 +1,4 @@
--- What the margin call answers, by its tests. Assumes nothing.
+-- What the margin call answers, by its tests.
 use Prim.Native.Nat.{ℕ, _≤_, _<_}
 use mathlib.Core.Path.{_≡_}
 use lib.ListN.{length}

@@ -1,4 +1,4 @@
--- Looking for the n-th reference, step by step, in every run with the entries and the number of segments at hand. Assumes nothing.
+-- Looking for the n-th reference, step by step, in every run with the entries and the number of segments at hand.
 use Prim.Native.Nat.{ℕ, suc, pred, _+_, _-_, _≤_, _<_}
 use mathlib.Core.Path.{_≡_, refl, sym, _∙_}
 use mathlib.Core.Bool.{Bool, true, false, _&&_, false≢true}

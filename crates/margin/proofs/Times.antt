@@ -1,4 +1,4 @@
--- Unreferenced times by value: of a warm segment, and after steps that do not touch the segment. Assumes nothing.
+-- Unreferenced times by value: of a warm segment, and after steps that do not touch the segment.
 use Prim.Native.Nat.{ℕ, suc, _+_, _-_, _≤_, _<_}
 use mathlib.Core.Path.{_≡_, refl, sym, ap, _∙_}
 use mathlib.Core.Bool.{Bool, true, false, cond, not}

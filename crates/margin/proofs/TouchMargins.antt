@@ -1,5 +1,4 @@
 -- The margin of the touch at place t, from the touched segment's unreferenced time by value; and how large its priced costs can be.
--- Assumes nothing.
 use Prim.Native.Nat.{ℕ, _*_, _^_, _<_}
 use mathlib.Core.Path.{_≡_, refl, sym, ap, _∙_}
 use mathlib.Core.Bool.{true, false, cond}

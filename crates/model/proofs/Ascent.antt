@@ -1,5 +1,5 @@
 -- Along ascending thresholds a kept reuse stays kept, so optmem never falls and misses, volume and load never rise: for any two
--- prices compared by cross products, and for the rows of a sheet. Assumes nothing.
+-- prices compared by cross products, and for the rows of a sheet.
 use Prim.Native.Nat.{ℕ, zero, suc, _*_, _≤_, _<_}
 use mathlib.Core.Path.{_≡_, refl}
 use mathlib.Core.Logic.{⊎-elim}

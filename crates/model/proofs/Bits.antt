@@ -1,5 +1,5 @@
 -- Bits of a number: adding 2 ^ k where bit k is clear sets that bit and changes no lower one; a sum of distinct powers of two has the
--- bits that it is the sum of. Assumes nothing.
+-- bits that it is the sum of.
 use Prim.Native.Nat.{ℕ, zero, suc, _+_, _-_, _*_, _/_, _%_, _^_, _≤_, _<_}
 use mathlib.Core.Path.{_≡_, _∙_}
 use mathlib.Core.Logic.{⊎-elim}

@@ -1,4 +1,4 @@
--- Bounds of products and costs: what every multiplication in the code needs. Assumes nothing.
+-- Bounds of products and costs: what every multiplication in the code needs.
 use Prim.Native.Nat.{ℕ, _-_, _*_, _^_, _≤_, _<_}
 use mathlib.Core.Bool.{Bool, true, false, cond}
 use native.Mathlib.Nat.{mul-le-mul}

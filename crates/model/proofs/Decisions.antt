@@ -1,5 +1,5 @@
 -- Schedules by decisions, from any start and with steps that touch nothing: what their bytes hold, where they are permitted, their memory
--- and their load. The memory is proved by a potential, R so far of each segment that is held for a kept touch. Assumes nothing.
+-- and their load. The memory is proved by a potential, R so far of each segment that is held for a kept touch.
 use Prim.Native.Nat.{ℕ, zero, suc, _+_, _-_, _*_, _/_, _%_, _^_, _≤_, _<_}
 use mathlib.Core.Path.{_≡_, refl, sym, ap, _∙_}
 use mathlib.Core.Bool.{Bool, true, false, cond, not, _&&_, _||_, false≢true}

@@ -1,4 +1,4 @@
--- Demand 3 holds of every row of every sheet's value with at most 256 segments. Assumes nothing.
+-- Demand 3 holds of every row of every sheet's value with at most 256 segments.
 use Prim.Native.Nat.{ℕ, _≤_, _<_}
 use native.Mathlib.Omega.{arith}
 use lib.ListN.{length}

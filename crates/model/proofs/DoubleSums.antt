@@ -1,5 +1,4 @@
 -- Double sums, over steps and segments: their laws, sums over touches as such, and their comparison by a potential.
--- Assumes nothing.
 use Prim.Native.Nat.{ℕ, zero, suc, _+_, _≤_, _<_}
 use mathlib.Core.Path.{_≡_, refl, _∙_}
 use mathlib.Core.Bool.{cond}

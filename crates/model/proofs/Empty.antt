@@ -1,5 +1,5 @@
 -- P10 for every run: with no references, in any number of idle steps, and no warm segment, every figure from misses to mean is 0, at all
--- prices. Assumes nothing.
+-- prices.
 use Prim.Native.Nat.{ℕ, zero, suc, _*_, _/_, _≤_, _<_}
 use mathlib.Core.Path.{_≡_, refl, sym, _∙_}
 use mathlib.Core.Bool.{Bool, true, false, cond, false≢true}

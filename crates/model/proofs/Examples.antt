@@ -1,5 +1,5 @@
 -- The examples P1 to P10 of document 01, and further ones worked by hand, in one table; a single proof goes over it, computed from
--- the definitions. Assumes nothing.
+-- the definitions.
 use Prim.Native.Nat.{ℕ, suc, _/_, _%_}
 use mathlib.Core.Path.{_≡_, refl}
 use mathlib.Core.Bool.{Bool, true, _&&_, false≢true}

@@ -1,4 +1,4 @@
--- How large the figures of a run within the limits can be. The most that can be held is every segment in every step. Assumes nothing.
+-- How large the figures of a run within the limits can be. The most that can be held is every segment in every step.
 use Prim.Native.Nat.{ℕ, suc, _+_, _*_, _/_, _≤_, _<_, min}
 use mathlib.Core.Path.{_≡_, refl}
 use mathlib.Core.Bool.{Bool, true, false, cond}

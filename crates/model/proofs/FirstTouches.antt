@@ -1,4 +1,4 @@
--- Each touched segment has one first touch: a sum over the touched segments is the same sum over the first touches. Assumes nothing.
+-- Each touched segment has one first touch: a sum over the touched segments is the same sum over the first touches.
 use Prim.Native.Nat.{ℕ, zero, suc, _+_}
 use mathlib.Core.Path.{_≡_, refl}
 use mathlib.Core.Bool.{Bool, true, false, cond}

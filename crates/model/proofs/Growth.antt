@@ -1,5 +1,4 @@
 -- Runs that differ only in their references: what they have in common up to a place, and so what one more reference adds to Q and V.
--- Assumes nothing.
 use Prim.Native.Nat.{ℕ, zero, suc, _+_, _≤_, _<_}
 use mathlib.Core.Path.{_≡_, refl}
 use mathlib.Core.Bool.{cond}

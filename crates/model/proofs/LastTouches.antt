@@ -1,4 +1,4 @@
--- The table of last touches, which the code keeps instead of unreferenced times: how a step changes it, and what it tells. Assumes nothing.
+-- The table of last touches, which the code keeps instead of unreferenced times: how a step changes it, and what it tells.
 use Prim.Native.Nat.{ℕ, zero, suc, _-_, _≤_, _<_}
 use mathlib.Core.Path.{_≡_, refl, sym, ap, _∙_}
 use mathlib.Core.Bool.{Bool, true, false, cond}

@@ -1,5 +1,5 @@
 -- No permitted schedule with the total opttotal has a load below load: the lower bound at the prices M × h + 1 and M × d, by which the
--- same reuses are kept where M exceeds every w. Assumes nothing.
+-- same reuses are kept where M exceeds every w.
 use Prim.Native.Nat.{ℕ, suc, _+_, _*_, _≤_, _<_}
 use mathlib.Core.Path.{_≡_, refl, sym, ap, _∙_}
 use mathlib.Core.Bool.{Bool, true, false, cond}

@@ -1,4 +1,4 @@
--- Laws of lists that the standard ones lack. Assumes nothing.
+-- Laws of lists that the standard ones lack.
 use Prim.Native.Nat.{ℕ, zero, suc, _<_}
 use mathlib.Core.Path.{_≡_, refl}
 use mathlib.Core.List.{List, [], _∷_}

@@ -1,5 +1,4 @@
 -- Sums over touches: equal and ordered as the terms are, sums of totals, and the load as the sum of w over the misses.
--- Assumes nothing.
 use Prim.Native.Nat.{ℕ, zero, suc, _+_, _*_, _≤_, _<_}
 use mathlib.Core.Path.{_≡_, refl, _∙_}
 use mathlib.Core.Bool.{Bool, true, false, cond}

@@ -1,5 +1,5 @@
 -- No permitted schedule has a total below opttotal, at any prices. Proved step by step for each segment, with the potential: of a held
--- segment, the least cost of a touch in the next step. Assumes nothing.
+-- segment, the least cost of a touch in the next step.
 use Prim.Native.Nat.{ℕ, suc, _+_, _*_, _≤_, _<_, min}
 use mathlib.Core.Path.{_≡_, refl, _∙_}
 use mathlib.Core.Bool.{Bool, true, false, cond, not, _&&_}

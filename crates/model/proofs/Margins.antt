@@ -1,5 +1,4 @@
 -- The margin of a reuse: its value on either side of 0, its range, and that it is 0 or more exactly when the reuse is kept.
--- Assumes nothing.
 use Prim.Native.Nat.{ℕ, zero, suc, _-_, _*_, _≤_, _<_, _^_}
 use mathlib.Core.Path.{_≡_, refl, ap}
 use mathlib.Core.Bool.{Bool, true, false}

@@ -1,5 +1,5 @@
 -- The optimal schedule is the one by the decision `kept`: so it is permitted, and its memory, load and total are optmem, load and
--- opttotal. Assumes nothing.
+-- opttotal.
 use Prim.Native.Nat.{ℕ, zero, suc, _-_, _*_, _≤_, _<_}
 use mathlib.Core.Path.{_≡_, refl, sym, ap, _∙_}
 use mathlib.Core.Bool.{Bool, true, false, cond, _||_}

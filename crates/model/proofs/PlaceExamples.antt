@@ -1,5 +1,4 @@
 -- A result of two numbers in lent places of several lengths, and a refusal: what is answered, and what the place is afterwards.
--- Assumes nothing.
 use Prim.Native.Nat.{ℕ}
 use mathlib.Core.Path.{_≡_, refl}
 use mathlib.Core.List.{List, [], _∷_, _++_}

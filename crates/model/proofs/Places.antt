@@ -1,4 +1,4 @@
--- What a call that has a text, or a refusal, for a lent place answers and leaves there. Assumes nothing.
+-- What a call that has a text, or a refusal, for a lent place answers and leaves there.
 use Prim.Native.Nat.{ℕ, _≤_, _<_}
 use mathlib.Core.Path.{_≡_, refl, ap}
 use mathlib.Core.Bool.{Bool, true, false, cond}

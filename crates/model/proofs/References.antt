@@ -1,4 +1,4 @@
--- Where the n-th reference stands: in a step with a touch, with n - 1 references before it. Assumes nothing.
+-- Where the n-th reference stands: in a step with a touch, with n - 1 references before it.
 use Prim.Native.Nat.{ℕ, zero, suc, pred, _+_, _≤_, _<_}
 use mathlib.Core.Path.{_≡_, refl, ap}
 use mathlib.Core.Bool.{Bool, true, false, cond}

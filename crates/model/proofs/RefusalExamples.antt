@@ -1,4 +1,4 @@
--- The number of each refusal, in the order of the lists of documents 01 and 02. Assumes nothing.
+-- The number of each refusal, in the order of the lists of documents 01 and 02.
 use mathlib.Core.Path.{_≡_, refl}
 use mathlib.Core.List.{[], _∷_, map}
 use Rattle.model.specs.Refusals.{numberOf, verdictNumber}

@@ -1,5 +1,5 @@
 -- The relation between GWS and GOPT of document 002, exactly and in bounds: wsmem is d × optmem + h × (load − W) and the cost of the
--- end intervals, which is at most h × W; W is the swap costs of the touched segments, added. Assumes nothing.
+-- end intervals, which is at most h × W; W is the swap costs of the touched segments, added.
 use Prim.Native.Nat.{ℕ, _+_, _-_, _*_, _≤_, min}
 use mathlib.Core.Path.{_≡_, refl, ap}
 use mathlib.Core.Bool.{Bool, true, false, cond}

@@ -1,4 +1,4 @@
--- The figures of a row among those of all rows of a sheet. Assumes nothing.
+-- The figures of a row among those of all rows of a sheet.
 use Prim.Native.Nat.{ℕ, _≤_, _<_}
 use mathlib.Core.Path.{_≡_, _∙_}
 use native.Mathlib.Omega.{arith}

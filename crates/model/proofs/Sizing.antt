@@ -1,6 +1,5 @@
 -- What the definition of sizing says: the row is within the ceiling, of the least load among such rows and the lowest of that load, and
 -- there is no other such row; there is none exactly where every row's optmem exceeds the ceiling. Of any rows, in any order.
--- Assumes nothing.
 use Prim.Native.Nat.{ℕ, zero, suc}
 use mathlib.Core.Path.{_≡_, refl, ap}
 use mathlib.Core.Logic.{⊎-elim}

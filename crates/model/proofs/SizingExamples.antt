@@ -1,4 +1,4 @@
--- Sizing on sheets with rows of equal load, in one table; a single proof goes over it, computed from the definitions. Assumes nothing.
+-- Sizing on sheets with rows of equal load, in one table; a single proof goes over it, computed from the definitions.
 use Prim.Native.Nat.{ℕ, _-_, _^_}
 use mathlib.Core.Path.{_≡_, refl}
 use mathlib.Core.Bool.{Bool, true, false, _&&_}

@@ -1,4 +1,4 @@
--- What the counts and arrays of a standing sheet hold: its value's lists, rows, references and sizes. Assumes nothing.
+-- What the counts and arrays of a standing sheet hold: its value's lists, rows, references and sizes.
 use Prim.Native.Nat.{ℕ, _≤_, _<_}
 use mathlib.Core.Path.{_≡_, refl, sym, ap, _∙_}
 use native.Mathlib.Omega.{arith}

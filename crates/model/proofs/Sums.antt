@@ -1,5 +1,4 @@
 -- Laws of `sum` and `tabulate`: pointwise order and equality, sums of sums, and the sum with one nonzero term.
--- Assumes nothing.
 use Prim.Native.Nat.{ℕ, zero, suc, _+_, _*_, _≤_, _<_}
 use mathlib.Core.Path.{_≡_, refl}
 use mathlib.Core.Logic.{_⊎_, inl, inr, ⊎-elim}

@@ -1,4 +1,4 @@
--- Laws of `tabulate`: its length and entries, one entry set, and a list of one value as a table. Assumes nothing.
+-- Laws of `tabulate`: its length and entries, one entry set, and a list of one value as a table.
 use Prim.Native.Nat.{ℕ, zero, suc, _<_}
 use mathlib.Core.Path.{_≡_, refl, sym, _∙_}
 use mathlib.Core.Logic.{⊎-elim}

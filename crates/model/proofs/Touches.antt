@@ -1,4 +1,4 @@
--- What one step adds, as a sum over the segments: each segment by itself. Laws of `touched` and `unreferenced`. Assumes nothing.
+-- What one step adds, as a sum over the segments: each segment by itself. Laws of `touched` and `unreferenced`.
 use Prim.Native.Nat.{ℕ, suc, _≤_, _<_}
 use mathlib.Core.Path.{_≡_, refl, sym, _∙_}
 use mathlib.Core.Bool.{Bool, true, false, cond, _&&_}

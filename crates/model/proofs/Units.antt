@@ -1,4 +1,4 @@
--- An amount in units is its number. Assumes nothing.
+-- An amount in units is its number.
 use Prim.Native.Nat.{ℕ}
 use mathlib.Core.Path.{_≡_, ap}
 use Rattle.model.specs.declared.LoadUnits.{LoadUnits}

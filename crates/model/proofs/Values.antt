@@ -1,4 +1,4 @@
--- How long the lists are that a sheet holds by value, and how one grows at the front of blanks. Assumes nothing.
+-- How long the lists are that a sheet holds by value, and how one grows at the front of blanks.
 use Prim.Native.Nat.{ℕ, suc, _≤_, _<_}
 use mathlib.Core.Path.{_≡_, refl, sym}
 use mathlib.Core.Bool.{false}

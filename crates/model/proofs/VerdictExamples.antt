@@ -1,4 +1,4 @@
--- The numbers of schedules of a run with a warm segment and of one without, computed from the definitions. Assumes nothing.
+-- The numbers of schedules of a run with a warm segment and of one without, computed from the definitions.
 use Prim.Native.Nat.{ℕ}
 use mathlib.Core.Path.{_≡_, refl}
 use mathlib.Core.List.{List, [], _∷_, _++_, map}

@@ -1,4 +1,4 @@
--- Warm segments whose numbers ascend: how many they are, and that each is a segment. Assumes nothing.
+-- Warm segments whose numbers ascend: how many they are, and that each is a segment.
 use Prim.Native.Nat.{ℕ, zero, suc, _≤_, _<_}
 use mathlib.Core.Path.{_≡_, refl}
 use mathlib.Core.Bool.{Bool, true, false, cond}

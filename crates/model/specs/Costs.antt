@@ -1,4 +1,4 @@
--- The costs of one segment and one reuse, and what they come to at prices. Assumes nothing.
+-- The costs of one segment and one reuse, and what they come to at prices.
 use Prim.Native.Nat.{ℕ, _+_, _*_}
 use mathlib.Core.Bool.{Bool}
 use lib.Dec.{leb}

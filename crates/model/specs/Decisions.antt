@@ -1,5 +1,5 @@
 -- Schedules by decisions, one of each touch: whether the segment stays for it. Only what writes schedules is proved against this file;
--- the optimal schedule is defined in Schedules, and is the one by the decision `kept`. Assumes nothing.
+-- the optimal schedule is defined in Schedules, and is the one by the decision `kept`.
 use Prim.Native.Nat.{ℕ, zero, suc, _+_, _-_, _*_, _/_, _%_, _^_}
 use mathlib.Core.Bool.{Bool, false, cond, _||_}
 use mathlib.Core.List.{List}

@@ -1,5 +1,5 @@
 -- Demand 3 of document 01 as one statement on a sheet's value: the optimum that is reported of a row is the least total of a permitted
--- schedule, the row's load the least load among those of that total, and the schedule that is written has both. Assumes nothing.
+-- schedule, the row's load the least load among those of that total, and the schedule that is written has both.
 use Prim.Native.Nat.{ℕ, _≤_}
 use mathlib.Core.Path.{_≡_}
 use mathlib.Core.List.{List}

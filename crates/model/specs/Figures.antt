@@ -1,5 +1,5 @@
 -- The figures of a run at the prices h (of one load unit) and d (of one memory unit), as document 01 and Denning and Slutz (1978)
--- define them. Assumes nothing.
+-- define them.
 use Prim.Native.Nat.{ℕ, _+_, _*_, _/_, min}
 use mathlib.Core.Bool.{Bool, true, false, cond}
 use mathlib.Core.Option.{Option, none, some}

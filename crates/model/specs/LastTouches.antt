@@ -1,4 +1,4 @@
--- The table of last touches: for each of 256 segments the number of the step of its last touch, or the mark "untouched". Assumes nothing.
+-- The table of last touches: for each of 256 segments the number of the step of its last touch, or the mark "untouched".
 use Prim.Native.Nat.{ℕ, _-_}
 use mathlib.Core.Bool.{cond}
 use mathlib.Core.List.{List}

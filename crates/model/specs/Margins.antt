@@ -1,4 +1,4 @@
--- What is answered for the margin of a reference of a sheet: 7, 14, 15. Assumes nothing.
+-- What is answered for the margin of a reference of a sheet: 7, 14, 15.
 use Prim.Native.Nat.{ℕ}
 use mathlib.Core.Bool.{cond, _&&_}
 use lib.ListN.{length}

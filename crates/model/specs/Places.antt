@@ -1,5 +1,4 @@
 -- What a call leaves in a lent place, and what it answers: the result and then the old contents, or a refusal and no change.
--- Assumes nothing.
 use Prim.Native.Nat.{ℕ}
 use mathlib.Core.Path.{_≡_}
 use mathlib.Core.Bool.{cond}

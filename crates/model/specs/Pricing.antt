@@ -1,5 +1,4 @@
 -- Which refusal a schedule handed in gets, 8 for its length, then 9 or 10 of the earliest faulty step, and what a refused price answers.
--- Assumes nothing.
 use Prim.Native.Nat.{ℕ, zero, suc, _*_}
 use mathlib.Core.Bool.{Bool, false, cond, not, _&&_, _||_}
 use mathlib.Core.List.{List}

@@ -1,4 +1,4 @@
--- The numbers for a refusal, as documents 01 and 02 list them, and for what a call answers. Assumes nothing.
+-- The numbers for a refusal, as documents 01 and 02 list them, and for what a call answers.
 use Prim.Native.Nat.{ℕ}
 use Rattle.model.specs.declared.Refusal.{Refusal}
 use Rattle.model.specs.declared.Verdict.{Verdict}

@@ -1,4 +1,4 @@
--- What is answered for the figures of a row of a sheet, 7 where there is no such row, and the figures of all its rows. Assumes nothing.
+-- What is answered for the figures of a row of a sheet, 7 where there is no such row, and the figures of all its rows.
 use Prim.Native.Nat.{ℕ}
 use mathlib.Core.Bool.{cond}
 use mathlib.Core.List.{List}

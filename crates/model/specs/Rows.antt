@@ -1,4 +1,4 @@
--- The eleven items of a row, as the listing prints them. Assumes nothing.
+-- The eleven items of a row, as the listing prints them.
 use Prim.Native.Nat.{ℕ}
 use Rattle.model.specs.Traces.{Trace}
 use Rattle.model.specs.Figures.{misses, volume, load, optmem, opttotal, optocc, wsmem, wsocc, mean}

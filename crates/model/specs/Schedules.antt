@@ -1,4 +1,4 @@
--- Schedules: which segments are held in each step, what that costs, and the optimal one. Assumes nothing.
+-- Schedules: which segments are held in each step, what that costs, and the optimal one.
 use Prim.Native.Nat.{ℕ, zero, suc, _+_, _-_, _*_, _/_, _%_, _^_, _<_}
 use mathlib.Core.Path.{_≡_}
 use mathlib.Core.Bool.{Bool, true, false, cond, not, _&&_, _||_}

@@ -1,4 +1,4 @@
--- What a sheet says, and its limits. Assumes nothing.
+-- What a sheet says, and its limits.
 use Prim.Native.Nat.{ℕ, suc, _*_, _≤_, _<_}
 use mathlib.Core.Path.{_≡_}
 use mathlib.Core.Logic.{_⊎_}

@@ -1,5 +1,5 @@
 -- Which row sizing gives where memory has a ceiling (request F-1, in place of document 01's "of several, any one"), and what it answers: 12
--- where there is none. Assumes nothing.
+-- where there is none.
 use Prim.Native.Nat.{ℕ, zero, suc, _≤_, _<_}
 use mathlib.Core.Bool.{cond, _&&_}
 use mathlib.Core.Option.{Option, none, some}

@@ -1,4 +1,4 @@
--- What a sheet by value that was accepted is known to be. Assumes nothing.
+-- What a sheet by value that was accepted is known to be.
 use Prim.Native.Nat.{_≤_}
 use mathlib.Core.Path.{_≡_}
 use lib.ListN.{length}

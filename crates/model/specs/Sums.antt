@@ -1,4 +1,4 @@
--- Sums and lists over 0, 1, .., n - 1, by which every figure and the bytes of a schedule are defined. Assumes nothing.
+-- Sums and lists over 0, 1, .., n - 1, by which every figure and the bytes of a schedule are defined.
 use Prim.Native.Nat.{ℕ, zero, suc, _+_}
 use mathlib.Core.List.{List, [], _∷_, _++_}
 

@@ -1,5 +1,5 @@
 -- What a run is: its segments, and the segment touched in each step. Step t + 1 of document 01, which counts from 1,
--- is the step at place t here; after t steps is the moment just before it. Assumes nothing.
+-- is the step at place t here; after t steps is the moment just before it.
 use Prim.Native.Nat.{ℕ, zero, suc, pred}
 use mathlib.Core.Bool.{Bool, cond, _&&_}
 use mathlib.Core.List.{List}

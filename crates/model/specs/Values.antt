@@ -1,4 +1,4 @@
--- How a sheet's value is held by value, and its limits. Assumes nothing.
+-- How a sheet's value is held by value, and its limits.
 use Prim.Native.Nat.{ℕ}
 use mathlib.Core.Bool.{Bool, false}
 use mathlib.Core.List.{List, _++_}

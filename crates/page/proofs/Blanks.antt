@@ -1,4 +1,4 @@
--- Laws of blanks, fields and lines: how long they are, and one blank or one line more. Assumes nothing.
+-- Laws of blanks, fields and lines: how long they are, and one blank or one line more.
 use Prim.Native.Nat.{ℕ, _+_, _-_, _≤_, _<_}
 use mathlib.Core.Path.{_≡_, refl, _∙_}
 use mathlib.Core.List.{List, [], _∷_, _++_, append-assoc, append-nil}

@@ -1,5 +1,5 @@
 -- Lines of pages, computed from the definitions: that of the largest figures, a page of one row, and where the rows of more than one
--- page stand. Assumes nothing.
+-- page stand.
 use Prim.Native.Nat.{ℕ, _*_, _-_}
 use mathlib.Core.Path.{_≡_, refl}
 use mathlib.Core.List.{List, [], _∷_, _++_, map}

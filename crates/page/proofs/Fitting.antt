@@ -1,5 +1,5 @@
 -- Every field of the page fits its column: how large the figures of an accepted sheet can be, for each of its rows, and that the largest
--- fit. Assumes nothing.
+-- fit.
 use Prim.Native.Nat.{ℕ, _*_, _<_}
 use native.Mathlib.Omega.{arith}
 use lib.ListN.{length}

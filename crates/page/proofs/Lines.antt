@@ -1,5 +1,4 @@
 -- The lines of the page: every one has 72 characters and a line feed, a page has 60, and which row stands on which line.
--- Assumes nothing.
 use Prim.Native.Nat.{ℕ, zero, suc, _+_, _*_, _-_, _≤_, _<_}
 use mathlib.Core.Path.{_≡_, refl, sym, ap, _∙_}
 use mathlib.Core.Bool.{Bool, true, false, cond}

@@ -1,4 +1,4 @@
--- The page in the parts in which it is written. Assumes nothing.
+-- The page in the parts in which it is written.
 use Prim.Native.Nat.{ℕ, _+_, _*_, _-_, _≤_, _<_}
 use mathlib.Core.Path.{_≡_, refl, sym, ap, _∙_}
 use mathlib.Core.List.{List, [], _∷_, _++_, map, append-assoc, append-nil}

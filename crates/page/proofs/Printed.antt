@@ -1,4 +1,4 @@
--- The figures on the page are those of the listing. Assumes nothing.
+-- The figures on the page are those of the listing.
 use Prim.Native.Nat.{ℕ, _<_}
 use mathlib.Core.Path.{_≡_, ap, _∙_}
 use mathlib.Core.List.{[]}

@@ -1,4 +1,4 @@
--- The pages of a sheet, from the figures of all its rows. Assumes nothing.
+-- The pages of a sheet, from the figures of all its rows.
 use Prim.Native.Nat.{ℕ, _≤_, _<_}
 use mathlib.Core.Path.{_≡_}
 use mathlib.Core.List.{List}

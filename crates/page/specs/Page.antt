@@ -1,4 +1,4 @@
--- The page for the binder: request F-2. 60 lines of exactly 72 characters and a line feed. Assumes nothing.
+-- The page for the binder: request F-2. 60 lines of exactly 72 characters and a line feed.
 use Prim.Native.Nat.{ℕ, _+_, _-_, _≤_}
 use mathlib.Core.List.{List, [], _∷_, _++_, map}
 use mathlib.Core.Bool.{cond}

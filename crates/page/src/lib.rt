@@ -1,5 +1,6 @@
 // The page for the binder as text: its lines one after the other into the lent place.
-// What the text is stands in specs/Page.antt. That every field fits its column is asked of the figures, and proved of every accepted sheet.
+// What the text is stands in specs/Page.antt. That every field fits its column is asked of the figures, and proved of every accepted sheet;
+// nothing is assumed.
 use model::Kind;
 use model::PlaceAnswer;
 use model::Refusal;

@@ -1,4 +1,4 @@
--- The walk along sorted keys makes the thresholds, one after another, and memory and load at each. Assumes nothing.
+-- The walk along sorted keys makes the thresholds, one after another, and memory and load at each.
 use Prim.Native.Nat.{ℕ, zero, suc, _*_, _≤_, _<_}
 use mathlib.Core.Path.{_≡_, refl, ap, sym, _∙_}
 use mathlib.Core.Bool.{Bool, true, false, cond, _&&_}

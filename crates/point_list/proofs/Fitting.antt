@@ -1,4 +1,4 @@
--- A place for 2,048 entries, four numbers each, suffices for the operating points of every valid sheet. Assumes nothing.
+-- A place for 2,048 entries, four numbers each, suffices for the operating points of every valid sheet.
 use Prim.Native.Nat.{ℕ, _*_, _≤_}
 use mathlib.Core.Path.{_≡_}
 use mathlib.Core.List.{List}

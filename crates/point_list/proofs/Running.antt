@@ -1,4 +1,4 @@
--- Running sums along sorted keys are memory and load of the points, and the points are those of the run. Assumes nothing.
+-- Running sums along sorted keys are memory and load of the points, and the points are those of the run.
 use Prim.Native.Nat.{ℕ, zero, suc, _+_, _*_, _%_, _^_, _≤_, _<_}
 use mathlib.Core.Path.{_≡_, refl, ap, sym, _∙_}
 use mathlib.Core.Bool.{Bool, true, false, cond}

@@ -1,5 +1,4 @@
 -- The list of reuses in their order: each is of one step, each step has its place, and a sum over them is one over the steps.
--- Assumes nothing.
 use Prim.Native.Nat.{ℕ, zero, suc, _+_, _<_}
 use mathlib.Core.Path.{_≡_, refl, ap, sym, _∙_}
 use mathlib.Core.Bool.{Bool, true, false, cond, _&&_, false≢true}

@@ -1,4 +1,4 @@
--- The loop that writes the points: its start, one key more, and its end. Assumes nothing.
+-- The loop that writes the points: its start, one key more, and its end.
 use Prim.Native.Nat.{ℕ, zero, suc, _+_, _-_, _*_, _^_, _≤_, _<_}
 use mathlib.Core.Path.{_≡_, refl, ap, sym, _∙_}
 use mathlib.Core.Bool.{cond}

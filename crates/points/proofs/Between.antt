@@ -1,5 +1,5 @@
 -- Between neighbouring thresholds the keep decisions do not change: at prices from one threshold on and below the next, the same reuses are
--- kept, so optmem and load are those of the point. Assumes nothing.
+-- kept, so optmem and load are those of the point.
 use Prim.Native.Nat.{ℕ, zero, suc, pred, _+_, _*_, _≤_, _<_}
 use mathlib.Core.Path.{_≡_, refl, ap, sym, _∙_}
 use mathlib.Core.Bool.{Bool, true, false, cond}

@@ -1,4 +1,4 @@
--- What request F-11 says holds of every run with at most 256 segments, idle steps and any start set among them. Assumes nothing.
+-- What request F-11 says holds of every run with at most 256 segments, idle steps and any start set among them.
 use Prim.Native.Nat.{suc, _≤_}
 use native.Mathlib.Omega.{arith}
 use Rattle.model.specs.Traces.{Trace, segs}

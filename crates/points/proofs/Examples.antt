@@ -1,5 +1,5 @@
 -- Operating points of eleven runs, worked out apart from the definitions, in one table; a single proof goes over it, computed from the
--- definitions. Assumes nothing.
+-- definitions.
 use Prim.Native.Nat.{ℕ}
 use mathlib.Core.Path.{_≡_, refl}
 use mathlib.Core.Bool.{Bool, true, false, _&&_}

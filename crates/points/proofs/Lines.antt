@@ -1,5 +1,5 @@
 -- Neighbouring points: the later has more memory and less load, and every permitted schedule lies on or above the line through both. At the
--- prices of the later threshold both have the same total, which is the least. Assumes nothing.
+-- prices of the later threshold both have the same total, which is the least.
 use Prim.Native.Nat.{ℕ, zero, suc, _+_, _-_, _*_, _≤_, _<_}
 use mathlib.Core.Path.{_≡_, refl, ap, sym, _∙_}
 use mathlib.Core.Bool.{Bool, true, false, cond, _&&_}

@@ -1,5 +1,4 @@
 -- What request F-11 says of a valid sheet: its list has at most 2,048 entries, and each row's optmem and load are those of one point.
--- Assumes nothing.
 use Prim.Native.Nat.{ℕ, _≤_, _<_}
 use mathlib.Core.Path.{_≡_}
 use native.Mathlib.Omega.{arith}

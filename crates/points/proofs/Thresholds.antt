@@ -1,5 +1,5 @@
 -- The list of thresholds of a run: ascending, every reuse's ratio in it, every entry that of the earliest reuse having it or 0 and 1 in
--- front, and no longer than the run. Assumes nothing.
+-- front, and no longer than the run.
 use Prim.Native.Nat.{ℕ, zero, suc, _≤_, _<_}
 use mathlib.Core.Path.{_≡_, refl, ap, sym, _∙_}
 use mathlib.Core.Bool.{Bool, true, false, cond, false≢true}

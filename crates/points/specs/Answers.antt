@@ -1,4 +1,4 @@
--- What is answered for every operating point of a sheet: 11 by the place alone. Assumes nothing.
+-- What is answered for every operating point of a sheet: 11 by the place alone.
 use Rattle.model.specs.Places.{Result, gives}
 use Rattle.model.specs.Sheets.{SheetValue, traceOf}
 use Rattle.points.specs.Points.{operatingPoints}

@@ -1,4 +1,4 @@
--- What request F-11 says of the operating points of a run, as one statement. Assumes nothing.
+-- What request F-11 says of the operating points of a run, as one statement.
 use Prim.Native.Nat.{ℕ, suc, _+_, _-_, _*_, _≤_, _<_}
 use mathlib.Core.Path.{_≡_}
 use mathlib.Core.Bool.{true}

@@ -1,5 +1,4 @@
 -- Every operating point of a run (request F-11): the distinct ratios R/w of its reuses, ascending, and optmem and load at each.
--- Assumes nothing.
 use Prim.Native.Nat.{ℕ, zero, suc, _*_, _<_}
 use mathlib.Core.Path.{_≡_}
 use mathlib.Core.Bool.{Bool, true, cond, _&&_}

@@ -1,4 +1,4 @@
--- Bits of a number made of bytes: laws of `bit`. Assumes nothing.
+-- Bits of a number made of bytes: laws of `bit`.
 use Prim.Native.Nat.{ℕ, zero, suc, _+_, _-_, _*_, _/_, _%_, _^_, _<_}
 use mathlib.Core.Path.{_≡_, refl, ap, sym, _∙_}
 use mathlib.Core.Bool.{Bool, true, false}

@@ -1,4 +1,4 @@
--- One step against the step before: what passing one segment more, or a run of segments whose bits did not change, adds. Assumes nothing.
+-- One step against the step before: what passing one segment more, or a run of segments whose bits did not change, adds.
 use Prim.Native.Nat.{ℕ, zero, suc, _+_, _<_}
 use mathlib.Core.Path.{_≡_, refl, sym, _∙_}
 use mathlib.Core.Bool.{Bool, true, false, cond, not, _&&_, _||_}

@@ -1,4 +1,4 @@
--- The costs before the first step, and that the costs of all steps are the schedule's. Assumes nothing.
+-- The costs before the first step, and that the costs of all steps are the schedule's.
 use Prim.Native.Nat.{ℕ, suc, _+_, _*_, _<_, _^_}
 use mathlib.Core.Path.{_≡_, refl, sym, _∙_}
 use mathlib.Core.Bool.{Bool, true, false, cond, not, _&&_, false≢true}

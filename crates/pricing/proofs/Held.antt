@@ -1,4 +1,4 @@
--- What is held by the start set and by the bytes of a step, and 64 segments of it as one number. Assumes nothing.
+-- What is held by the start set and by the bytes of a step, and 64 segments of it as one number.
 use Prim.Native.Nat.{ℕ, zero, suc, _+_, _-_, _*_, _/_, _%_, _≤_, _<_}
 use mathlib.Core.Path.{_≡_, refl, _∙_}
 use mathlib.Core.List.{List}

@@ -1,5 +1,4 @@
 -- Passing the segments of a word: a run of bits that did not change, then one that did, and so on to the end of the word.
--- Assumes nothing.
 use Prim.Native.Nat.{ℕ, suc, _+_, _-_, _/_, _^_, _≤_, _<_}
 use mathlib.Core.Path.{_≡_, ap, sym, _∙_}
 use mathlib.Core.Bool.{not}

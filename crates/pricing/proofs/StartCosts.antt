@@ -1,4 +1,4 @@
--- The cost for one step of what is held before step 1: the loop that adds it up by the start table. Assumes nothing.
+-- The cost for one step of what is held before step 1: the loop that adds it up by the start table.
 use Prim.Native.Nat.{ℕ, _+_, _*_, _≤_, _<_}
 use mathlib.Core.Path.{_≡_, refl, sym, _∙_}
 use mathlib.Core.Bool.{Bool, true, false, cond}

@@ -1,4 +1,4 @@
--- The costs step by step: what one step adds, and why nothing overflows. Assumes nothing.
+-- The costs step by step: what one step adds, and why nothing overflows.
 use Prim.Native.Nat.{ℕ, zero, suc, _+_, _-_, _≤_, _<_, _^_}
 use mathlib.Core.Path.{_≡_, refl, ap, sym, _∙_}
 use mathlib.Core.Bool.{Bool, true, false, cond, not, _&&_, false≢true}

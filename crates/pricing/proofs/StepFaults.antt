@@ -1,4 +1,4 @@
--- The faults of one step: where it has none, each segment that it holds was held before or is touched, and it is accepted. Assumes nothing.
+-- The faults of one step: where it has none, each segment that it holds was held before or is touched, and it is accepted.
 use Prim.Native.Nat.{ℕ, zero, suc, _<_}
 use mathlib.Core.Path.{_≡_, refl}
 use mathlib.Core.Logic.{⊎-elim}

@@ -1,5 +1,5 @@
 -- The verdict on a schedule is Accepted exactly where the schedule is permitted; the earliest faulty step decides a refusal; and pricing
--- the optimal schedule gives optmem, load and opttotal. Assumes nothing.
+-- the optimal schedule gives optmem, load and opttotal.
 use Prim.Native.Nat.{ℕ, zero, suc, _*_, _≤_, _<_}
 use mathlib.Core.Path.{_≡_, refl, _∙_}
 use mathlib.Core.Logic.{⊎-elim}

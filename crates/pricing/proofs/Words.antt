@@ -1,4 +1,4 @@
--- How many lowest bits of two numbers are the same: laws of `bit`. Assumes nothing.
+-- How many lowest bits of two numbers are the same: laws of `bit`.
 use Prim.Native.Nat.{ℕ, zero, suc, _+_, _/_, _%_, _^_, _≤_, _<_}
 use mathlib.Core.Path.{_≡_, refl, sym, _∙_}
 use mathlib.Core.Bool.{not}

@@ -1,4 +1,4 @@
-// Eight bytes as one number of 64 bits, so that the bits of many segments are compared at once. Nothing is assumed.
+// Eight bytes as one number of 64 bits, so that the bits of many segments are compared at once.
 ghost use mathlib.Core.Path.{_≡_};
 ghost use Prim.Native.Nat.{ℕ, _+_, _/_, _%_, _≤_, _<_};
 ghost use lib.ListN.{length, getD};

@@ -1,5 +1,5 @@
 // Which segments the steps of a schedule hold, segment by segment and 64 of them as one number; before step 1 the warm ones are held.
-// What is held is written in specs/; nothing is assumed.
+// What is held is written in specs/.
 use schedule::Schedule;
 ghost use mathlib.Core.Path.{_≡_};
 ghost use Prim.Native.Nat.{ℕ, _+_, _*_, _/_, _%_, _≤_, _<_};

@@ -1,5 +1,5 @@
 // Checking and pricing a schedule handed in: one pass over its steps that keeps the costs of those priced so far. What a price is is
-// written in specs/; nothing is assumed.
+// written in crate `model`; nothing is assumed.
 mod byte_words;
 mod held_bits;
 mod step_price;

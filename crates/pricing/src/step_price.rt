@@ -1,5 +1,5 @@
 // Checking and pricing one step of a schedule handed in, by the costs of the steps before it: only the segments whose bits changed against
-// the step before are looked at. What a fault is, and what a step adds, is written in specs/; nothing is assumed.
+// the step before are looked at. What a fault is, and what a step adds, is written in specs/.
 use crate::held_bits::StartWords;
 use model::Kind;
 use model::LoadUnits;

@@ -1,4 +1,4 @@
--- Laws of the answer to what was read of a sheet whose lists stand in slices that were lent. Assumes nothing.
+-- Laws of the answer to what was read of a sheet whose lists stand in slices that were lent.
 use Prim.Native.Nat.{ℕ, _≤_, _<_}
 use mathlib.Core.Path.{_≡_, refl, sym, ap, _∙_}
 use mathlib.Core.Bool.{Bool}

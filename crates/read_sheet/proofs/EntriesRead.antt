@@ -1,4 +1,4 @@
--- Laws of the entries of a sheet as they are read after its head. Assumes nothing.
+-- Laws of the entries of a sheet as they are read after its head.
 use Prim.Native.Nat.{ℕ, _-_, _<_, _≤_}
 use mathlib.Core.Path.{_≡_, refl, sym, ap, _∙_}
 use mathlib.Core.Bool.{Bool}

@@ -1,4 +1,4 @@
--- Laws of the limits of the forms, and of the form line as the code reads it. Assumes nothing.
+-- Laws of the limits of the forms, and of the form line as the code reads it.
 use Prim.Native.Nat.{ℕ, _≤_, max}
 use mathlib.Core.Path.{_≡_, sym, ap, _∙_}
 use mathlib.Core.Bool.{Bool, true, false, cond}

@@ -1,4 +1,4 @@
--- Laws of the parts of a head as they are read: what was read so far, then the next part. Assumes nothing.
+-- Laws of the parts of a head as they are read: what was read so far, then the next part.
 use Prim.Native.Nat.{ℕ, _+_, _≤_}
 use mathlib.Core.Path.{_≡_, refl, ap, _∙_}
 use mathlib.Core.Bool.{Bool, false}

@@ -1,4 +1,4 @@
--- Laws of a head whose sizes and warm segments stand in lists that were lent: what a stage of reading leaves there. Assumes nothing.
+-- Laws of a head whose sizes and warm segments stand in lists that were lent: what a stage of reading leaves there.
 use Prim.Native.Nat.{ℕ, _+_, _≤_}
 use mathlib.Core.Path.{_≡_, refl, sym, ap, _∙_}
 use mathlib.Core.Bool.{Bool, true, false}

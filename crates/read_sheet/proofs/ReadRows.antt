@@ -1,4 +1,4 @@
--- Laws of a row's two readings. Assumes nothing.
+-- Laws of a row's two readings.
 use Prim.Native.Nat.{ℕ, suc, _+_, _≤_, _<_}
 use mathlib.Core.Path.{_≡_, refl, sym, subst}
 use mathlib.Core.Bool.{Bool, true, false, cond, _&&_}

@@ -1,4 +1,4 @@
--- Laws of the end of a sheet, and of the answer with it. Assumes nothing.
+-- Laws of the end of a sheet, and of the answer with it.
 use Prim.Native.Nat.{ℕ, _≤_, _<_, max}
 use mathlib.Core.Path.{_≡_, refl, sym, ap, _∙_}
 use mathlib.Core.Bool.{Bool, true, false, cond}

@@ -1,5 +1,4 @@
 -- Laws of reading the warm segments: a line hold= by its number and the first that may stand there, and n such lines.
--- Assumes nothing.
 use Prim.Native.Nat.{ℕ, zero, suc, _+_, _-_, _≤_, _<_}
 use mathlib.Core.Path.{_≡_, refl}
 use mathlib.Core.Bool.{true, false}

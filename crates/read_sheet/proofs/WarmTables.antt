@@ -1,4 +1,4 @@
--- The tables of a later form: the sizes and the rows, and then the warm segments. Assumes nothing.
+-- The tables of a later form: the sizes and the rows, and then the warm segments.
 use Prim.Native.Nat.{ℕ}
 use mathlib.Core.Path.{_≡_, refl, sym, ap, _∙_}
 use mathlib.Core.Bool.{Bool, true, false}

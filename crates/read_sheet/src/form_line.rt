@@ -1,5 +1,5 @@
 // The form line of a sheet, and whether the bytes are more than a sheet of the form that it names may have, for the root. Each function
-// reads from the head of the bytes that it is lent. Nothing is assumed.
+// reads from the head of the bytes that it is lent.
 use model::Sheet;
 use scan::bytes;
 use scan::numbers;

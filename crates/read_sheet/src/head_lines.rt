@@ -1,5 +1,5 @@
 // The head of a sheet: its kind, a, the sizes, the rows and the warm segments. Each function reads from the head of the bytes that it is
-// lent, and gives the place of what follows. Nothing is assumed.
+// lent, and gives the place of what follows.
 use model::Kind;
 use model::PriceRow;
 use model::Refusal;

@@ -1,5 +1,5 @@
 // Lines with a row of prices, and the count with so many of them. Each function reads from the head of the bytes that it is lent, and
-// gives the place of what follows. Nothing is assumed.
+// gives the place of what follows.
 use decimal::Reading;
 use model::PriceRow;
 use model::Refusal;

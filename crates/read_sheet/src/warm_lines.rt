@@ -1,5 +1,5 @@
 // The lines of the warm segments: hold= with a segment, and the count warm= with so many of them. Each function reads from the head of the
-// bytes that it is lent, and gives the place of what follows. Nothing is assumed.
+// bytes that it is lent, and gives the place of what follows.
 use model::Refusal;
 use scan::numbers;
 use scan::numbers::CountedAt;

@@ -1,5 +1,5 @@
 -- Laws of reading the lines of touches: the bounds of a touch, and what is known while the lines are read one after another into the
--- entries and the marks. `letters` says that the form has the letter w. Assumes nothing.
+-- entries and the marks. `letters` says that the form has the letter w.
 use Prim.Native.Nat.{ℕ, zero, suc, _+_, _-_, _≤_, _<_}
 use mathlib.Core.Path.{_≡_, refl, sym, ap, _∙_}
 use mathlib.Core.Bool.{Bool, true, false}

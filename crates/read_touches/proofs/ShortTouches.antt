@@ -1,4 +1,4 @@
--- Laws of a touch's line whose numbers are read up to the bytes after their digits. Assumes nothing.
+-- Laws of a touch's line whose numbers are read up to the bytes after their digits.
 use Prim.Native.Nat.{ℕ, suc, _+_, _≤_, _<_}
 use mathlib.Core.Path.{_≡_, refl, sym, ap, _∙_}
 use mathlib.Core.Bool.{Bool, true, false, cond}

@@ -1,5 +1,5 @@
 -- Laws of reading one line of a touch: the step and the letter after it, and the touch by its two readings. `letters` says that the form
--- has the letter w. Assumes nothing.
+-- has the letter w.
 use Prim.Native.Nat.{ℕ, suc, _+_, _-_, _≤_, _<_}
 use mathlib.Core.Path.{_≡_, refl, sym, ap, _∙_}
 use mathlib.Core.Bool.{Bool, true, false, cond, _&&_}

@@ -1,5 +1,5 @@
 // Reading one line ref= of a sheet of form 2 on whose numbers have at most 4 digits: segment and step, and in form 4 perhaps the letter w,
-// for the root; `letters` says that the form has the letter. Nothing is assumed.
+// for the root; `letters` says that the form has the letter.
 use decimal::Run;
 use scan::bytes;
 ghost use mathlib.Core.Path.{_≡_};

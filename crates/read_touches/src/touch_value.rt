@@ -1,5 +1,5 @@
 // Reading one line ref= of a sheet of form 2 on, whatever its digits: segment and step, and in form 4 perhaps the letter w, for
-// the root; `letters` says that the form has the letter. Nothing is assumed.
+// the root; `letters` says that the form has the letter.
 use decimal::Reading;
 use model::Refusal;
 use scan::bytes;

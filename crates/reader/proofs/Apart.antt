@@ -1,6 +1,5 @@
 -- Functions that take a `Reader` apart and call a covered function of its slice and its place: what such a function owns is what the
 -- callee asks, and where it hands on the callee's result, one walk of its MIR, for a result of any type and any fact of it.
--- Assumes nothing.
 use mathlib.Core.Path.{_≡_, refl}
 use Prim.Native.Nat.{ℕ, _<_, _^_}
 use mathlib.Core.List.{List, [], _∷_}

@@ -1,4 +1,4 @@
--- What the definitions show of some lines, and where a reader stands after them. Assumes nothing.
+-- What the definitions show of some lines, and where a reader stands after them.
 use Prim.Native.Nat.{ℕ}
 use mathlib.Core.Path.{_≡_, refl}
 use mathlib.Core.List.{List, [], _∷_, map}

@@ -1,4 +1,4 @@
--- Laws of the parts before and after a byte, where its place is known, and of the place past a line. Assumes nothing.
+-- Laws of the parts before and after a byte, where its place is known, and of the place past a line.
 use Prim.Native.Nat.{ℕ, zero, suc, _+_, _-_, _≤_, _<_}
 use mathlib.Core.Path.{_≡_, refl, sym, ap, _∙_}
 use mathlib.Core.List.{List, [], _∷_, _++_}

@@ -1,4 +1,4 @@
--- What `next` and `value` say of a reader's slice and place and of their result, as their callers cite it. Assumes nothing.
+-- What `next` and `value` say of a reader's slice and place and of their result, as their callers cite it.
 use mathlib.Core.Path.{_≡_}
 use Prim.Native.Nat.{ℕ}
 use mathlib.Core.List.{List}

@@ -1,5 +1,4 @@
 -- A reader that goes along an accepted sheet shows the key and the value of each of its lines in order, and ends at its end.
--- Assumes nothing.
 use Prim.Native.Nat.{ℕ, suc, _+_, _<_}
 use mathlib.Core.Path.{_≡_, refl, sym, ap, _∙_}
 use mathlib.Core.Bool.{Bool, true, false, cond}

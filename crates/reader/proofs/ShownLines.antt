@@ -1,4 +1,4 @@
--- What a reader shows of a line that the definition of reading accepts, and of lines one after another. Assumes nothing.
+-- What a reader shows of a line that the definition of reading accepts, and of lines one after another.
 use Prim.Native.Nat.{ℕ, zero, suc, _<_}
 use mathlib.Core.Path.{_≡_, refl, ap, _∙_}
 use mathlib.Core.Bool.{true}

@@ -1,4 +1,4 @@
--- What a reader shows as it goes along a run of bytes, and the lines of a sheet as a reader is to show them. Assumes nothing.
+-- What a reader shows as it goes along a run of bytes, and the lines of a sheet as a reader is to show them.
 use Prim.Native.Nat.{ℕ, zero, suc}
 use mathlib.Core.List.{List, [], _∷_, map}
 use Rattle.model.specs.Sheets.{SheetValue}

@@ -1,5 +1,5 @@
 -- What a reader shows of the line at the head of a run of bytes, its key and its value, and what it goes on to. Where there is no such
--- part it shows nothing. Assumes nothing.
+-- part it shows nothing.
 use Prim.Native.Nat.{ℕ, _-_}
 use mathlib.Core.List.{List, []}
 use lib.ListN.{length, drop}

@@ -1,4 +1,4 @@
--- What the calls of a recorder answer: each answer meets its contract. Assumes nothing.
+-- What the calls of a recorder answer: each answer meets its contract.
 use Prim.Native.Nat.{ℕ, _≤_, _<_, min}
 use mathlib.Core.Path.{_≡_, refl, sym, ap}
 use mathlib.Core.Bool.{Bool, true, false, cond}

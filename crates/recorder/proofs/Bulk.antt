@@ -1,5 +1,4 @@
 -- Taking several references at once: the verdict of the first that would be refused, and that it is the same as touching one by one.
--- Assumes nothing.
 use Prim.Native.Nat.{ℕ, zero, suc, _+_, _≤_, _<_, min}
 use mathlib.Core.Path.{_≡_, refl, sym, ap, _∙_}
 use mathlib.Core.Bool.{Bool, true, false, cond}

@@ -1,4 +1,4 @@
--- Recorders computed from the definitions: which number a touch and an idle step get, and what a recorder holds. Assumes nothing.
+-- Recorders computed from the definitions: which number a touch and an idle step get, and what a recorder holds.
 use Prim.Native.Nat.{ℕ}
 use mathlib.Core.Path.{_≡_, refl}
 use mathlib.Core.List.{List, [], _∷_, _++_, map}

@@ -1,4 +1,4 @@
--- Sums from which the figures of a row can be made. Assumes nothing.
+-- Sums from which the figures of a row can be made.
 use Prim.Native.Nat.{ℕ}
 use Rattle.model.specs.declared.Kind.{Kind}
 use Rattle.model.specs.declared.PriceRow.{PriceRow}

@@ -1,4 +1,4 @@
--- What the guarded sums of a recorder tell: sums that hold at most 2,048 items leave room for one more. Assumes nothing.
+-- What the guarded sums of a recorder tell: sums that hold at most 2,048 items leave room for one more.
 use Prim.Native.Nat.{ℕ, suc, _^_}
 use mathlib.Core.Path.{_≡_}
 use mathlib.Core.List.{List}

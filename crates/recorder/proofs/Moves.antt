@@ -1,5 +1,5 @@
 -- Touches and idle steps in any order: a recorder that stands for a sheet then stands for the sheet with those steps; and from a sheet's
--- head on the moves that it records are all accepted and lead to the sheet. Assumes nothing.
+-- head on the moves that it records are all accepted and lead to the sheet.
 use Prim.Native.Nat.{ℕ, suc, _+_, _≤_, _<_, min}
 use mathlib.Core.Path.{_≡_, refl, sym, ap, _∙_}
 use mathlib.Core.Bool.{Bool, true, false, cond}

@@ -1,5 +1,5 @@
 -- Of the recorder that stands for a sheet: the counts of its buckets add up to its references; and from the sheet's head on it takes the
--- sheet's references where every step has one. Assumes nothing.
+-- sheet's references where every step has one.
 use Prim.Native.Nat.{ℕ, _<_}
 use mathlib.Core.Path.{_≡_, refl, _∙_}
 use native.Mathlib.Omega.{arith}

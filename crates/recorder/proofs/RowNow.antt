@@ -1,4 +1,4 @@
--- The figures of a row, as the code reads them off a recorder that stands for a sheet, are the sheet's. Assumes nothing.
+-- The figures of a row, as the code reads them off a recorder that stands for a sheet, are the sheet's.
 use Prim.Native.Nat.{ℕ, _+_, _≤_, _<_, min}
 use mathlib.Core.Path.{_≡_, refl, ap, _∙_}
 use mathlib.Core.List.{List}

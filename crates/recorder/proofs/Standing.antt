@@ -1,5 +1,5 @@
 -- What a recorder that stands for a sheet holds is what the pass has after the sheet's steps, and there is room in it; a sheet with
--- more steps is within the limits. Assumes nothing.
+-- more steps is within the limits.
 use Prim.Native.Nat.{ℕ, _+_, _-_, _^_, _≤_, _<_, min, max}
 use mathlib.Core.Path.{_≡_, refl, sym, ap, _∙_}
 use mathlib.Core.Bool.{Bool, true, false, cond, false≢true}
@@ -79,7 +79,14 @@ stands-roomy R v valid e = rw e (standing-roomy v valid)
 pub recorder-passed : (v : SheetValue) (n : ℕ) → n ≡ length (v .entries) → (buckets : List Bucket) (last : List ℕ) (cost volume : ℕ)
     → record { buckets = buckets; last = last } ≡ passedOf (v .head .rows) (traceOf v) → cost ≡ refCost (traceOf v)
     → volume ≡ refVolume (traceOf v)
-    → record { head = headOf (v .head); steps = n; last = last; buckets = buckets; cost = record { 0 = cost }; volume = volume } ≡ recorderOf v
+    → record {
+      head = headOf (v .head);
+      steps = n;
+      last = last;
+      buckets = buckets;
+      cost = record { 0 = cost };
+      volume = volume;
+    } ≡ recorderOf v
 unfolding recorderOf passedAfter
 recorder-passed v n all buckets last cost volume passed cost-is volume-is =
     rw (ap (λ (p : Passed). p .buckets) passed, ap (λ (p : Passed). p .last) passed, cost-is, volume-is, all) refl

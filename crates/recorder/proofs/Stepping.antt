@@ -1,6 +1,5 @@
 -- More steps, as the code takes them: a recorder that stands for a sheet then stands for the sheet with those references, or with one
 -- idle step.
--- Assumes nothing.
 use Prim.Native.Nat.{ℕ, _-_, _+_, _^_, _≤_, _<_, min}
 use mathlib.Core.Path.{_≡_, refl, sym, ap, _∙_}
 use mathlib.Core.List.{List, [], _∷_, _++_}

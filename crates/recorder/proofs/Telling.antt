@@ -1,4 +1,4 @@
--- Tests that are true exactly where a fact holds. Assumes nothing.
+-- Tests that are true exactly where a fact holds.
 use Prim.Native.Nat.{ℕ}
 use mathlib.Core.Path.{_≡_, refl, sym, _∙_}
 use mathlib.Core.Bool.{Bool, true, false, not}

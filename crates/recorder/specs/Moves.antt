@@ -1,4 +1,4 @@
--- Any sequence of touches and idle steps on a recorder, and the sheet's value that it leads to. Assumes nothing.
+-- Any sequence of touches and idle steps on a recorder, and the sheet's value that it leads to.
 use Prim.Native.Nat.{ℕ}
 use mathlib.Core.Path.{_≡_}
 use mathlib.Core.Bool.{cond}

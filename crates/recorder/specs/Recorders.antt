@@ -1,6 +1,6 @@
 -- What a recorder stands for: the head of a sheet and its steps so far, each with a touch or idle. A recorder that a start and the
 -- calls after it handed back stands for such a value; of any other, put together by hand, only the refusals are said, and that an idle step
--- is one step more. Assumes nothing.
+-- is one step more.
 use Prim.Native.Nat.{ℕ, suc, _+_, min, max}
 use mathlib.Core.Path.{_≡_}
 use mathlib.Core.Bool.{cond}

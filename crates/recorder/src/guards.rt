@@ -1,5 +1,5 @@
 // Sums and tests with which a recorder put together by hand, with any numbers in it, makes no sum exceed 64 bits. A recorder that stands
-// for a sheet passes every test. Nothing is assumed.
+// for a sheet passes every test.
 use crate::Recorder;
 use buckets::Bucket;
 use buckets::Tally;

@@ -1,6 +1,5 @@
 // The figures of a row at this moment: the end intervals from the table of last touches, the sums of the buckets up to the row, and the
 // swap costs of the warm segments.
-// Nothing is assumed.
 use crate::Recorder;
 use buckets::Bucket;
 use buckets::Tally;

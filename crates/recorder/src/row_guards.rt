@@ -1,5 +1,5 @@
 // The figures of a row from the sums of a recorder that may be put together by hand, zeros where one would exceed 64 bits; and the swap
-// costs of the warm segments of its head. Nothing is assumed.
+// costs of the warm segments of its head.
 use crate::Recorder;
 use buckets::Bucket;
 use figures::rows::StartSwaps;

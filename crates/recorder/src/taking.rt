@@ -1,5 +1,4 @@
 // Taking references: one, or several in one loop over local arrays; and the verdict on an idle step.
-// Nothing is assumed.
 use crate::Recorder;
 use buckets::Tally;
 use buckets::pass::Passed;

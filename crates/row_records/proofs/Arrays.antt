@@ -1,4 +1,4 @@
--- An array in memory, written whole, is its elements side by side, which a slice reference borrows; and back. Assumes nothing.
+-- An array in memory, written whole, is its elements side by side, which a slice reference borrows; and back.
 use mathlib.Core.Path.{refl}
 use Prim.Native.Nat.{ℕ}
 use mathlib.Core.List.{List, [], _∷_}

@@ -1,4 +1,4 @@
--- What a lent list of row records holds after the call, for document 01's sheet, and what the call answers. Assumes nothing.
+-- What a lent list of row records holds after the call, for document 01's sheet, and what the call answers.
 use Prim.Native.Nat.{ℕ}
 use mathlib.Core.Path.{_≡_, refl}
 use mathlib.Core.List.{List, [], _∷_, _++_}

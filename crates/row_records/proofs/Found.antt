@@ -1,5 +1,4 @@
 -- The records held by value are those that the call is to write: how many they are, what is answered, and the list with them at its front.
--- Assumes nothing.
 use Prim.Native.Nat.{ℕ, _≤_}
 use mathlib.Core.Path.{_≡_, refl, sym, ap}
 use mathlib.Core.Bool.{Bool, true, false}

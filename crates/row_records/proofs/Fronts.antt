@@ -1,5 +1,4 @@
 -- A list whose first entries are those of a table and whose other entries are as they were: its length, and one more entry set.
--- Assumes nothing.
 use Prim.Native.Nat.{ℕ, suc, _≤_, _<_}
 use mathlib.Core.Path.{_≡_, refl, ap, _∙_}
 use mathlib.Core.List.{List, [], _∷_, _++_, append-assoc}

@@ -1,4 +1,4 @@
--- What `all_records` answers: the records to be written, by value; and the list that `filled_list` begins with. Assumes nothing.
+-- What `all_records` answers: the records to be written, by value; and the list that `filled_list` begins with.
 use Prim.Native.Nat.{ℕ}
 use mathlib.Core.Bool.{cond}
 use mathlib.Core.List.{List}

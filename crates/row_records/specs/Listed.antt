@@ -1,4 +1,4 @@
--- What a call that writes row records into a lent list answers, and what it leaves in the list. Assumes nothing.
+-- What a call that writes row records into a lent list answers, and what it leaves in the list.
 use Prim.Native.Nat.{ℕ}
 use mathlib.Core.Bool.{cond}
 use mathlib.Core.List.{List, _++_}

@@ -1,4 +1,4 @@
--- The figures of a row do not depend on the other rows: they are those of the sheet with this row alone. Assumes nothing.
+-- The figures of a row do not depend on the other rows: they are those of the sheet with this row alone.
 use Prim.Native.Nat.{ℕ, zero, suc, _≤_, _<_}
 use mathlib.Core.Path.{_≡_}
 use mathlib.Core.List.{List, [], _∷_}

@@ -1,4 +1,4 @@
--- What the billing call answers, by its tests, and that what it bills is within what the tariff takes. Assumes nothing.
+-- What the billing call answers, by its tests, and that what it bills is within what the tariff takes.
 use Prim.Native.Nat.{ℕ, _^_, _≤_, _<_}
 use mathlib.Core.Path.{_≡_, ap}
 use mathlib.Core.Bool.{true, false}

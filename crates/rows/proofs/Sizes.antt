@@ -1,5 +1,4 @@
 -- Sizing by one pass over the rows: optmem never falls from a row to the next, so the rows within the ceiling come first.
--- Assumes nothing.
 use Prim.Native.Nat.{ℕ, _+_, _≤_, _<_}
 use mathlib.Core.Path.{_≡_, refl, ap, _∙_}
 use mathlib.Core.Logic.{_⊎_, ⊎-elim}

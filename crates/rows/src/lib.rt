@@ -1,5 +1,5 @@
 // What is asked of the rows of an accepted sheet: the figures of every row or of one, the row for a ceiling, and the bill of a row.
-// What is answered is written in specs/ and in crates `figures`, `model` and `tariff`; nothing is assumed.
+// What is answered is written in crates `model` and `tariff`; nothing is assumed.
 pub mod billing;
 pub mod sizing;
 

@@ -1,4 +1,4 @@
--- Laws of lists at the front of blank elements, as a sheet holds them. Assumes nothing.
+-- Laws of lists at the front of blank elements, as a sheet holds them.
 use Prim.Native.Nat.{ℕ, _≤_, _<_}
 use mathlib.Core.Path.{_≡_, ap, _∙_}
 use mathlib.Core.List.{List, _++_, append-nil}

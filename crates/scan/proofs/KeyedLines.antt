@@ -1,4 +1,4 @@
--- Laws of a line with its key: the key is compared first and the line feed looked for behind it. Assumes nothing.
+-- Laws of a line with its key: the key is compared first and the line feed looked for behind it.
 use Prim.Native.Nat.{ℕ, suc, _+_, _-_, _≤_, _<_}
 use mathlib.Core.Path.{_≡_, refl, sym, ap, subst, _∙_}
 use mathlib.Core.Bool.{Bool, true, false, cond, false≢true}

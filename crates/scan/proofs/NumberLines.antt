@@ -1,4 +1,4 @@
--- Laws of a number's line. Assumes nothing.
+-- Laws of a number's line.
 use Prim.Native.Nat.{ℕ, _≤_}
 use mathlib.Core.Path.{_≡_, refl}
 use mathlib.Core.List.{List}

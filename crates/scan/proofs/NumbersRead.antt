@@ -1,4 +1,4 @@
--- Laws of what was read, by the cases of a result. Assumes nothing.
+-- Laws of what was read, by the cases of a result.
 use Prim.Native.Nat.{ℕ, _≤_}
 use mathlib.Core.Path.{_≡_, sym, ap, _∙_}
 use mathlib.Core.List.{List}

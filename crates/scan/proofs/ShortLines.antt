@@ -1,5 +1,5 @@
 -- Laws of comparing four bytes at once, of a line whose number is read up to the byte after its digits, and of lines that are read
--- behind others. Assumes nothing.
+-- behind others.
 use Prim.Native.Nat.{ℕ, _+_, _*_, _-_, _≤_, _<_}
 use mathlib.Core.Path.{_≡_, refl, sym, ap, _∙_}
 use mathlib.Core.Bool.{true, false}

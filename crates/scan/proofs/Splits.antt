@@ -1,4 +1,4 @@
--- Laws of splitting bytes at the first byte c, and of comparing two runs of bytes. Assumes nothing.
+-- Laws of splitting bytes at the first byte c, and of comparing two runs of bytes.
 use Prim.Native.Nat.{ℕ, zero, suc, _+_, _≤_, _<_}
 use mathlib.Core.Path.{_≡_, refl, sym, ap, _∙_}
 use mathlib.Core.Bool.{true, false, cond}

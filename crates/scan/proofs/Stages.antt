@@ -1,4 +1,4 @@
--- Laws of parts that are read one after another: what was read so far, then the next part. Assumes nothing.
+-- Laws of parts that are read one after another: what was read so far, then the next part.
 use Prim.Native.Nat.{ℕ, _+_, _≤_}
 use mathlib.Core.Path.{_≡_, refl, sym, ap, _∙_}
 use mathlib.Core.List.{List, _++_}

@@ -1,4 +1,4 @@
--- What is left of a list from a place on, as a part of a slice has it. Assumes nothing.
+-- What is left of a list from a place on, as a part of a slice has it.
 use Prim.Native.Nat.{ℕ, _+_, _-_, _≤_}
 use mathlib.Core.Path.{_≡_, sym, ap, _∙_}
 use mathlib.Core.List.{List}

@@ -1,4 +1,4 @@
-// Runs of bytes: the place of a byte, and whether two runs are the same. Nothing is assumed.
+// Runs of bytes: the place of a byte, and whether two runs are the same.
 ghost use mathlib.Core.Path.{_≡_};
 ghost use Prim.Native.Nat.{_+_, _*_, _≤_};
 ghost use lib.ListN.{length, getD, take};

@@ -1,5 +1,5 @@
 // Lines with a key and a value, lines with a number, and a count with so many of them. Each function reads from the head of the bytes
-// that it is lent, and gives the place of what follows. Nothing is assumed.
+// that it is lent, and gives the place of what follows.
 use crate::bytes;
 use decimal::Reading;
 use model::Refusal;

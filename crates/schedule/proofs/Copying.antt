@@ -1,5 +1,5 @@
 -- The loop that writes a step: it copies the step with one segment held into the place, and the step with that segment held or not
--- over the step itself, byte by byte. Assumes nothing.
+-- over the step itself, byte by byte.
 use Prim.Native.Nat.{ℕ, _+_, _*_, _≤_, _<_}
 use mathlib.Core.Path.{_≡_, sym, ap, subst, _∙_}
 use mathlib.Core.List.{List, append-nil}

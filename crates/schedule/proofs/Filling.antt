@@ -1,5 +1,5 @@
 -- The loop that writes a schedule by decisions from the last step to the first: what is held next in each step, and the place, which is
--- filled from the end of the schedule backwards. Assumes nothing.
+-- filled from the end of the schedule backwards.
 use Prim.Native.Nat.{ℕ, suc, _+_, _-_, _*_, _/_, _%_, _≤_, _<_}
 use mathlib.Core.Path.{_≡_, refl, sym, ap, _∙_}
 use mathlib.Core.Bool.{Bool, true, false, cond, _||_}

@@ -1,4 +1,4 @@
--- Which touches are kept, told by the table of last touches, and the loop that marks them. Assumes nothing.
+-- Which touches are kept, told by the table of last touches, and the loop that marks them.
 use Prim.Native.Nat.{ℕ, _+_, _-_, _*_, _≤_, _<_}
 use mathlib.Core.Path.{_≡_, refl, sym, _∙_}
 use mathlib.Core.Bool.{Bool, true, false, cond}

@@ -1,5 +1,4 @@
 -- The table of masks, which has for each segment the bytes of a step that holds this one alone, and the loop that fills it.
--- Assumes nothing.
 use Prim.Native.Nat.{ℕ, suc, _+_, _*_, _/_, _%_, _^_, _≤_, _<_}
 use mathlib.Core.Path.{_≡_, refl, sym, _∙_}
 use mathlib.Core.Bool.{Bool, true, false, cond}

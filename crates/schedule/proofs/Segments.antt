@@ -1,4 +1,4 @@
--- The segment of an entry: its bounds, and what a step touches, told by it. Assumes nothing.
+-- The segment of an entry: its bounds, and what a step touches, told by it.
 use Prim.Native.Nat.{ℕ, _≤_, _<_}
 use mathlib.Core.Path.{_≡_, refl, sym, _∙_}
 use mathlib.Core.Bool.{Bool, true, false, cond, _&&_}

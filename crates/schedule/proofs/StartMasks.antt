@@ -1,4 +1,4 @@
--- The bytes of the segments that are held before step 1: their bits, and the loop that sets them. Assumes nothing.
+-- The bytes of the segments that are held before step 1: their bits, and the loop that sets them.
 use Prim.Native.Nat.{ℕ, suc, _+_, _*_, _/_, _%_, _^_, _≤_, _<_}
 use mathlib.Core.Path.{_≡_, refl, sym, ap, _∙_}
 use mathlib.Core.Bool.{Bool, true, cond}

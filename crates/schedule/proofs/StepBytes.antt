@@ -1,4 +1,4 @@
--- The bytes of a step as the bits of 256 segments, and what changing one segment makes of them. Assumes nothing.
+-- The bytes of a step as the bits of 256 segments, and what changing one segment makes of them.
 use Prim.Native.Nat.{ℕ, zero, suc, _+_, _-_, _*_, _/_, _%_, _^_, _<_}
 use mathlib.Core.Path.{_≡_, refl, sym, _∙_}
 use mathlib.Core.Logic.{⊎-elim}

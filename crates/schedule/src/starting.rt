@@ -1,5 +1,4 @@
 // The segments held before step 1 as the bytes of a step: those of the warm segments.
-// Nothing is assumed.
 use crate::Schedule;
 use crate::writing::masked;
 use crate::writing::no_segments;

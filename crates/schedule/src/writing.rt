@@ -1,5 +1,5 @@
 // Writing schedules: a pass over the references decides which touches are kept, and the steps are then written by the decisions from the
-// last to the first, with a running set of the segments whose next touch is kept. Nothing is assumed.
+// last to the first, with a running set of the segments whose next touch is kept.
 use crate::Schedule;
 use model::Kind;
 use model::PriceRow;

@@ -1,6 +1,6 @@
 // The program: a sheet on standard input, its listing on standard output, or `refused=` and the number of the refusal. It only reads and
-// writes; what it prints is that of `analyser::texts::printed`. Where the input cannot be read or the output not written it says so on standard
-// error, and prints nothing where the input cannot be read. The contracts of the C library's functions are assumed.
+// writes; what it prints is that of `analyser::texts::printed`. Where the input cannot be read or the output not written it says so on
+// standard error, and prints nothing where the input cannot be read. The contracts of the C library's functions are assumed.
 use libc::STDIN_FILENO;
 use libc::STDOUT_FILENO;
 use model::Sheet;

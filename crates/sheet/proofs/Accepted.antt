@@ -1,4 +1,4 @@
--- What is accepted is valid: the lines of a sheet ask of its value what the limits ask, and no more. Assumes nothing.
+-- What is accepted is valid: the lines of a sheet ask of its value what the limits ask, and no more.
 use Prim.Native.Nat.{ℕ, zero, suc, _-_, _≤_, _<_}
 use mathlib.Core.Path.{_≡_, refl, sym, ap, subst}
 use mathlib.Core.Logic.{_⊎_, inl}

@@ -1,4 +1,4 @@
--- A sheet that was read stands for a valid value, and a call goes on from that value. Assumes nothing.
+-- A sheet that was read stands for a valid value, and a call goes on from that value.
 use Prim.Native.Nat.{ℕ, _≤_}
 use mathlib.Core.Path.{_≡_, refl, sym, ap, _∙_}
 use mathlib.Core.Bool.{Bool, true, false}

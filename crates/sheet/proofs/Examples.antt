@@ -1,6 +1,6 @@
 -- The sheet of document 01's listing, read and written by the definitions; the limits of a sheet, each reached by a text that is
 -- accepted and left by one that is refused; which refusal comes first; the warm segments of form 3 and the letter w of form 4, each case
--- decided by hand. Assumes nothing.
+-- decided by hand.
 use Prim.Native.Nat.{ℕ}
 use mathlib.Core.Path.{_≡_, refl}
 use mathlib.Core.Bool.{Bool, true, false, _&&_}

@@ -1,4 +1,4 @@
--- The sheet that holds a value has that value; so what is written of a sheet that was read is what was read. Assumes nothing.
+-- The sheet that holds a value has that value; so what is written of a sheet that was read is what was read.
 use Prim.Native.Nat.{ℕ}
 use mathlib.Core.Path.{_≡_, ap, _∙_}
 use mathlib.Core.List.{List}

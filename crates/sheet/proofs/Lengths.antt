@@ -1,5 +1,5 @@
 -- The text of a valid value has at most 20,012 bytes, in form 2 at most 29,163, in form 3 at most 31,366 and in form 4 at most 33,414, and
--- that of one valid value of each form has as many. Assumes nothing.
+-- that of one valid value of each form has as many.
 use Prim.Native.Nat.{ℕ, zero, suc, _+_, _-_, _*_, _^_, _≤_, _<_}
 use mathlib.Core.Path.{_≡_, refl, ap, subst, _∙_}
 use mathlib.Core.Logic.{inl}

@@ -1,5 +1,5 @@
 -- One sheet of each form with every kind of line that the form has: its text is the lines in the documents' order, and reading this text
--- gives the sheet. Assumes nothing.
+-- gives the sheet.
 use Prim.Native.Nat.{ℕ}
 use mathlib.Core.Path.{_≡_, refl}
 use mathlib.Core.Bool.{true, false}

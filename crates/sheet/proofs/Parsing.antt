@@ -1,5 +1,4 @@
 -- Laws of reading from the head of a run of bytes: of two steps one after the other, of the split at a byte, and of a line by its value.
--- Assumes nothing.
 use Prim.Native.Nat.{ℕ}
 use mathlib.Core.Path.{_≡_, refl, sym, ap, _∙_}
 use mathlib.Core.Bool.{Bool, true, false, cond, not, _&&_, false≢true}

@@ -1,4 +1,4 @@
--- The text of a sheet part after part. Assumes nothing.
+-- The text of a sheet part after part.
 use Prim.Native.Nat.{ℕ}
 use mathlib.Core.Path.{_≡_, ap, _∙_}
 use mathlib.Core.Bool.{Bool, true}

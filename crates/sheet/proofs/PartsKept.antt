@@ -1,4 +1,4 @@
--- Laws of parts that follow one another: what is read of them is what their lines say. Assumes nothing.
+-- Laws of parts that follow one another: what is read of them is what their lines say.
 use Prim.Native.Nat.{ℕ}
 use mathlib.Core.Path.{_≡_, sym, ap}
 use mathlib.Core.List.{List, [], _∷_, _++_, append-assoc, append-nil, map}

@@ -1,5 +1,4 @@
 -- Which refusals reading gives: 1 exactly where the sheet is too long, 2 to 5, 16 or 19 for a line, 6 after the lines, and no other.
--- Assumes nothing.
 use Prim.Native.Nat.{ℕ, zero, suc, _-_, _≤_, _<_, max}
 use mathlib.Core.Path.{_≡_, refl, ap}
 use mathlib.Core.Bool.{Bool, true, false, cond, _&&_}

@@ -1,5 +1,4 @@
 -- Reading and writing undo each other: what is read is written as it was, and every valid value is read back from its text.
--- Assumes nothing.
 use Prim.Native.Nat.{ℕ, _≤_, _<_}
 use mathlib.Core.Path.{_≡_, refl, sym, ap, _∙_}
 use mathlib.Core.Bool.{Bool, true, false}

@@ -1,5 +1,5 @@
 -- Lines one after another, one for each element of a list: reading them back. The lines of numbers, of rows and of warm segments
--- are such runs. Assumes nothing.
+-- are such runs.
 use Prim.Native.Nat.{ℕ, zero, suc}
 use mathlib.Core.Path.{_≡_, refl, ap, _∙_}
 use mathlib.Core.List.{List, [], _∷_, _++_, append-assoc}

@@ -1,5 +1,5 @@
 -- How long lines are whose numbers ascend, those of touches and of warm segments: the numbers below n have as many digits together as
--- `digitsBelow n` says, where n is at most 10,000. Assumes nothing.
+-- `digitsBelow n` says, where n is at most 10,000.
 use Prim.Native.Nat.{ℕ, suc, _+_, _-_, _*_, _≤_, _<_}
 use mathlib.Core.Path.{_≡_, refl}
 use mathlib.Core.Logic.{_⊎_, inl, inr, ⊎-elim}

@@ -1,5 +1,5 @@
 -- The touches of a sheet of form 2 on: how their lines are read and written, and that touches, and entries with their marks, say the same.
--- `letters` says that the form has the letter w. Assumes nothing.
+-- `letters` says that the form has the letter w.
 use Prim.Native.Nat.{ℕ, zero, suc, _+_, _-_, _≤_, _<_}
 use mathlib.Core.Path.{_≡_, refl, sym, ap, _∙_}
 use mathlib.Core.Logic.{_⊎_, inl, inr, ⊎-elim}

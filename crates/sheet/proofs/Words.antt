@@ -1,4 +1,4 @@
--- How the value of each line is read and written: a number, a kind, a row, and a warm segment. Assumes nothing.
+-- How the value of each line is read and written: a number, a kind, a row, and a warm segment.
 use Prim.Native.Nat.{ℕ, _-_, _≤_}
 use mathlib.Core.Path.{_≡_, refl, sym, _∙_}
 use mathlib.Core.Bool.{true, false, _&&_}

@@ -1,4 +1,4 @@
--- What a call answers by what reading comes to. Assumes nothing.
+-- What a call answers by what reading comes to.
 use Rattle.model.specs.Sheets.{SheetValue}
 use Rattle.model.specs.declared.Refusal.{Refusal}
 use Rattle.sheet.specs.Reading.{Outcome, accepted, rejected}

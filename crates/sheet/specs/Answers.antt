@@ -1,4 +1,4 @@
--- What reading a sheet answers. Assumes nothing.
+-- What reading a sheet answers.
 use Rattle.model.specs.Values.{sheetOf, emptySheet}
 use Rattle.model.specs.declared.Verdict.the-variants.{Accepted, Refused}
 use Rattle.sheet.specs.Reading.{Outcome, accepted, rejected}

@@ -1,4 +1,4 @@
--- A sheet in another form, and what the converters have for a lent place (request F-3). Assumes nothing.
+-- A sheet in another form, and what the converters have for a lent place (request F-3).
 use Prim.Native.Nat.{ℕ}
 use mathlib.Core.Bool.{Bool, true, false, cond}
 use mathlib.Core.List.{List, [], _∷_}

@@ -1,5 +1,5 @@
 -- Reading one line after another from the head of a run of bytes. A line is what stands before a line feed; its value is what stands
--- after its key and "=". Assumes nothing.
+-- after its key and "=".
 use Prim.Native.Nat.{ℕ, zero, suc}
 use mathlib.Core.Bool.{Bool, true, false, cond}
 use mathlib.Core.List.{List, [], _∷_}

@@ -17,8 +17,6 @@
 --   ref=i           refs        below segs                                                2, 3, 4       1
 --   ref=i@t         refs        i below segs, t above the one before, at most steps       2, 3, 4, 16   2 to 4
 --   ref=i@tw        refs        the same; the touch modifies                              2, 3, 4, 16   4
---
--- Assumes nothing.
 use Prim.Native.Nat.{ℕ, _-_, max}
 use mathlib.Core.Bool.{Bool, cond}
 use mathlib.Core.List.{List, [], _∷_, _++_, map}

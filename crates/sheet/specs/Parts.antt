@@ -1,5 +1,5 @@
 -- Parts of a text: which lines a value has, and which value is read from the head of a run of bytes. Parts follow one another, each
--- read after the values of those before it. Assumes nothing.
+-- read after the values of those before it.
 use Prim.Native.Nat.{ℕ}
 use mathlib.Core.List.{List, [], _++_}
 use lib.ListN.{length}

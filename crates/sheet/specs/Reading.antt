@@ -1,5 +1,5 @@
 -- Which value a run of bytes has, and which refusal it gets: the first faulty line decides, top down; 1 comes before all lines and 6
--- after them. Assumes nothing.
+-- after them.
 use Prim.Native.Nat.{ℕ}
 use mathlib.Core.Bool.{cond}
 use mathlib.Core.List.{List, [], _∷_}

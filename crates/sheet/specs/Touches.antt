@@ -1,5 +1,5 @@
 -- The touches of a sheet of form 2 on as their lines ref= say them, segment and step (request F-3) and in form 4 whether they modify
--- (request F-13), and the entry and the mark of each step that they come to. Assumes nothing.
+-- (request F-13), and the entry and the mark of each step that they come to.
 use Prim.Native.Nat.{ℕ, zero, suc, _-_}
 use mathlib.Core.Bool.{Bool, true, false, cond, _&&_}
 use mathlib.Core.List.{List, [], _∷_, _++_}

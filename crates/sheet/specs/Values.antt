@@ -1,4 +1,4 @@
--- What the lines of a sheet say: a kind, and rows of prices. Within a line the refusals 2, 3, 4, 5 apply in order. Assumes nothing.
+-- What the lines of a sheet say: a kind, and rows of prices. Within a line the refusals 2, 3, 4, 5 apply in order.
 use Prim.Native.Nat.{ℕ, zero, suc, _*_}
 use mathlib.Core.Bool.{Bool, true, cond, _&&_}
 use mathlib.Core.List.{List, [], _∷_, _++_}

@@ -1,4 +1,4 @@
--- The warm segments of a sheet of form 3 as their lines hold= say them, ascending (request F-6). Assumes nothing.
+-- The warm segments of a sheet of form 3 as their lines hold= say them, ascending (request F-6).
 use Prim.Native.Nat.{ℕ, zero, suc, _-_}
 use mathlib.Core.Bool.{Bool, true, cond}
 use mathlib.Core.List.{List, [], _∷_}

@@ -1,4 +1,4 @@
--- The text of a sheet: its lines, each key=value and a line feed, in document 01's order. Assumes nothing.
+-- The text of a sheet: its lines, each key=value and a line feed, in document 01's order.
 use Prim.Native.Nat.{ℕ}
 use mathlib.Core.List.{List}
 use Rattle.model.specs.Sheets.{SheetValue}

@@ -1,4 +1,4 @@
--- What is answered for the schedules of a row, by the tests. Assumes nothing.
+-- What is answered for the schedules of a row, by the tests.
 use Prim.Native.Nat.{ℕ, _*_, _/_, _≤_, _<_}
 use mathlib.Core.Path.{_≡_, sym, _∙_}
 use mathlib.Core.Bool.{cond}

@@ -1,5 +1,5 @@
 -- The price of a schedule with stores counted, from its price without them: the same where there are no marks or the schedule is refused,
--- and else with the load of the stores added. Assumes nothing.
+-- and else with the load of the stores added.
 use Prim.Native.Nat.{ℕ, _+_, _*_, _^_, _≤_, _<_}
 use mathlib.Core.Path.{_≡_, refl, sym, ap, _∙_}
 use mathlib.Core.Bool.{Bool, true, false}

@@ -1,4 +1,4 @@
--- How large the excesses of a run can be. Assumes nothing.
+-- How large the excesses of a run can be.
 use Prim.Native.Nat.{ℕ, zero, suc, _+_, _-_, _*_, _^_, _≤_, _<_}
 use mathlib.Core.Path.{_≡_, refl}
 use mathlib.Core.Bool.{Bool, true, false, cond}

@@ -1,5 +1,5 @@
 -- The loop that finds the kept reuses and the modifying touches that belong to the stay of the one before, and adds up what these add to
--- opttotal: its start, a step more and its end. Assumes nothing.
+-- opttotal: its start, a step more and its end.
 use Prim.Native.Nat.{ℕ, suc, _+_, _^_, _≤_, _<_}
 use mathlib.Core.Path.{_≡_, sym, _∙_}
 use mathlib.Core.Bool.{Bool, false, cond}

@@ -1,5 +1,5 @@
 -- The loop from the last step to the first that makes one decision of each touch: its start, a turn and its end; and that the decisions are
--- those of the schedule of the least total. Assumes nothing.
+-- those of the schedule of the least total.
 use Prim.Native.Nat.{ℕ, suc, _-_, _≤_, _<_}
 use mathlib.Core.Path.{_≡_, refl, sym, ap, _∙_}
 use mathlib.Core.Bool.{Bool, true, false, cond, _&&_, _||_}
@@ -160,8 +160,8 @@ folded-decides T marks row found on told folded t lt touch =
     folded t (omega arith) lt touch
     ∙ rw (
       told .touches .kept-are t lt touch,
-      nextMarked-eq T marks (decisionsOf (found .joined)) (joinsBefore T marks (row .h) (row .d)) (told .touches .joined-are) (steps T - t) t
-          (entry T t)
+      nextMarked-eq T marks (decisionsOf (found .joined)) (joinsBefore T marks (row .h) (row .d)) (told .touches .joined-are) (steps T - t)
+          t (entry T t)
           (omega arith),
     )
 

@@ -1,4 +1,4 @@
--- The modtotals of the rows of a run, one row after another, and the search for a touch that modifies. Assumes nothing.
+-- The modtotals of the rows of a run, one row after another, and the search for a touch that modifies.
 use Prim.Native.Nat.{ℕ, zero, suc, _+_, _≤_, _<_, _^_}
 use mathlib.Core.Path.{_≡_, refl, sym, ap, _∙_}
 use mathlib.Core.Bool.{Bool, true, false, cond, _||_}

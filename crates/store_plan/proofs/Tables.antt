@@ -1,5 +1,4 @@
 -- The two tables of a pass, of last touches and of excesses: what one step more makes of them, and what they tell of a touch.
--- Assumes nothing.
 use Prim.Native.Nat.{ℕ, suc, _+_, _*_, _^_, _≤_, _<_}
 use mathlib.Core.Path.{_≡_, refl, sym, ap, _∙_}
 use mathlib.Core.Bool.{Bool, cond}

@@ -1,4 +1,4 @@
--- One touch of a pass: its excess is small, and what the two numbers of its segment tell is what the definitions say. Assumes nothing.
+-- One touch of a pass: its excess is small, and what the two numbers of its segment tell is what the definitions say.
 use Prim.Native.Nat.{ℕ, suc, _-_, _*_, _^_, _<_}
 use mathlib.Core.Path.{_≡_, refl, ap}
 use mathlib.Core.Bool.{Bool, true, false, cond}

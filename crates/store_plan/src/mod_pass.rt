@@ -1,5 +1,5 @@
 // Modified segments: what a pass over the references finds of the touches at a row, and what the modifying ones add to opttotal. What they
-// add is written in crate `stores`; nothing is assumed.
+// add is written in crate `stores`.
 pub mod touching;
 
 use model::Kind;

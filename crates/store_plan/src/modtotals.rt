@@ -1,5 +1,5 @@
 // modtotal of every row of an accepted sheet of form 4: its opttotal, and one pass over the references a row for what the modifying touches
-// add. What they add is written in crate `stores`; nothing is assumed.
+// add. What they add is written in crate `stores`.
 use model::Kind;
 use model::PriceRow;
 use model::RowFigures;

@@ -1,5 +1,5 @@
 // The stores of a schedule handed in that is permitted: one pass over the touches, with a flag for each segment. What a store is is written
-// in crate `stores`; nothing is assumed.
+// in crate `stores`.
 use model::LoadUnits;
 use model::Sheet;
 use schedule::Schedule;

@@ -1,4 +1,4 @@
--- The schedule of the least total is the one by its decisions, so that the writer of schedules by decisions writes it. Assumes nothing.
+-- The schedule of the least total is the one by its decisions, so that the writer of schedules by decisions writes it.
 use Prim.Native.Nat.{ℕ, zero, suc, _+_, _-_, _<_}
 use mathlib.Core.Path.{_≡_, refl, ap, _∙_}
 use mathlib.Core.Bool.{Bool, true, false, cond, _&&_, _||_}

@@ -1,5 +1,5 @@
 -- Request F-13's demand on runs holds: of at most 256 segments, each of a size that is not 0, with a price d that is not 0 and none but
--- segments warm; so it holds of every run of a sheet. Assumes nothing.
+-- segments warm; so it holds of every run of a sheet.
 use Prim.Native.Nat.{ℕ, _≤_, _<_}
 use mathlib.Core.Path.{_≡_, sym, _∙_}
 use mathlib.Core.Bool.{Bool, false}

@@ -1,4 +1,4 @@
--- The stores counted at the first modifying touch of each stay are those counted at its end. Assumes nothing.
+-- The stores counted at the first modifying touch of each stay are those counted at its end.
 use Prim.Native.Nat.{ℕ, suc, _+_, _<_}
 use mathlib.Core.Path.{_≡_, refl}
 use mathlib.Core.Bool.{Bool, true, false, cond, not, _&&_, _||_, false≢true}

@@ -1,6 +1,6 @@
 -- Runs with modifying touches and rows, with modtotal, the schedule written and the prices of others, in one table; a single proof goes
 -- over it, computed from the definitions. The first run is worked by hand, the others by trying all schedules. At the end what a stay is
--- and what is stored, by the definitions alone. Assumes nothing.
+-- and what is stored, by the definitions alone.
 use Prim.Native.Nat.{ℕ, zero, suc, _+_, _*_, _/_, _%_}
 use mathlib.Core.Path.{_≡_, refl}
 use mathlib.Core.Bool.{Bool, true, false, cond, _&&_}

@@ -1,5 +1,5 @@
 -- A permitted schedule lets no segment enter untouched, so what is held was held since its last touch: a flag that changes only at touches
--- tells what is modified, and so the stores. Assumes nothing.
+-- tells what is modified, and so the stores.
 use Prim.Native.Nat.{ℕ, zero, suc, _≤_, _<_}
 use mathlib.Core.Path.{_≡_, refl, sym}
 use mathlib.Core.Bool.{Bool, true, false, cond, _&&_, _||_, and-false}

@@ -1,5 +1,5 @@
 -- No permitted schedule with the total modtotal has a smaller load, stores counted, than the one written: at the prices M × h + 1 and M ×
--- d, M large, the same schedule is written, and there its total is the least. Assumes nothing.
+-- d, M large, the same schedule is written, and there its total is the least.
 use Prim.Native.Nat.{ℕ, zero, suc, _+_, _-_, _*_, _≤_, _<_}
 use mathlib.Core.Path.{_≡_, refl, sym, _∙_}
 use mathlib.Core.Bool.{Bool, true, false, cond}

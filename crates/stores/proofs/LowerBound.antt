@@ -1,5 +1,5 @@
 -- No permitted schedule costs less than modtotal with stores counted, at any prices. Proved by a potential: of a held segment the least
--- cost of a touch in the next step, of a modified one what it saves at a modifying touch there. Assumes nothing.
+-- cost of a touch in the next step, of a modified one what it saves at a modifying touch there.
 use Prim.Native.Nat.{ℕ, zero, suc, _+_, _-_, _*_, _≤_, _<_}
 use mathlib.Core.Path.{_≡_, refl}
 use mathlib.Core.Bool.{Bool, true, false, cond, not, _&&_, _||_, false≢true}

@@ -1,5 +1,5 @@
 -- The next touch and the next modifying touch of a segment: which is decided by the step at hand, that there is none after the last step or
--- of what is no segment, and that only the decisions of modifying touches count. Assumes nothing.
+-- of what is no segment, and that only the decisions of modifying touches count.
 use Prim.Native.Nat.{ℕ, zero, suc, _+_, _-_, _≤_, _<_}
 use mathlib.Core.Path.{_≡_, refl, sym, _∙_}
 use mathlib.Core.Bool.{Bool, true, false, cond, _&&_}

@@ -1,5 +1,5 @@
 -- One step of one segment in the schedule of the least total, over plain variables: the cost of the step is within what modtotal counts
--- and the change of what is paid so far for holding the segment. Assumes nothing.
+-- and the change of what is paid so far for holding the segment.
 use Prim.Native.Nat.{ℕ, _+_, _*_, _≤_}
 use mathlib.Core.Path.{_≡_, refl}
 use mathlib.Core.Bool.{Bool, true, false, cond, not, _&&_, _||_, false≢true, and-true}

@@ -42,8 +42,8 @@ unfolding sheet bytesOf scheduleFor optimalSchedule optimalByte optimalHeld next
 keeps = refl
 
 stays : modifiedFor sheet 0 ≡ gives (bytesOf (1 ∷ 3 ∷ 3 ∷ 1 ∷ []))
-unfolding sheet bytesOf modifiedFor modSchedule modHeld joinsBefore nextMarked sinceMark storeCost nextKept kept heldByte heldBytes sum tabulate
-    touching later unreferenced listed
+unfolding sheet bytesOf modifiedFor modSchedule modHeld joinsBefore nextMarked sinceMark storeCost nextKept kept heldByte heldBytes sum
+    tabulate touching later unreferenced listed
 stays = refl
 
 -- 7 where there is no such row
@@ -62,8 +62,8 @@ priceNumbers p = verdictNumber (p .verdict) ∷ p .memory .0 ∷ p .load .0 ∷ 
 -- the prices of both with stores counted; 7 before 8; 8, 9 and 10
 priced : priceNumbers (priceFor sheet 0 (bytesOf (1 ∷ 2 ∷ 2 ∷ 1 ∷ []))) ++ priceNumbers (priceFor sheet 0 (bytesOf (1 ∷ 3 ∷ 3 ∷ 1 ∷ [])))
     ≡ 0 ∷ 4 ∷ 5 ∷ 23 ∷ 0 ∷ 6 ∷ 3 ∷ 21 ∷ []
-unfolding sheet bytesOf priceNumbers priceFor pricedAt scheduleVerdict stepsVerdict stepVerdict missing someEnters enters held listed refCost
-    scheduleMemory scheduleLoad markedLoad markedTotal storesOf isModifiedStay isStay everyStep someStep all any heldBefore heldAfter
+unfolding sheet bytesOf priceNumbers priceFor pricedAt scheduleVerdict stepsVerdict stepVerdict missing someEnters enters held listed
+    refCost scheduleMemory scheduleLoad markedLoad markedTotal storesOf isModifiedStay isStay everyStep someStep all any heldBefore heldAfter
     modifiesIn sum tabulate touching later unreferenced
 priced = refl
 

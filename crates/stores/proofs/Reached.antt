@@ -1,5 +1,5 @@
 -- The schedule of the least total is permitted, and its total with stores counted is modtotal. The lower bound gives one side, the other is
--- proved by a potential, what the schedule has paid so far for what it holds. Assumes nothing.
+-- proved by a potential, what the schedule has paid so far for what it holds.
 use Prim.Native.Nat.{ℕ, zero, suc, _+_, _-_, _*_, _≤_, _<_}
 use mathlib.Core.Path.{_≡_, refl, sym, _∙_}
 use mathlib.Core.Bool.{Bool, true, false, cond, _&&_, _||_, false≢true, or-true}

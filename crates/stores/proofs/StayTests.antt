@@ -1,5 +1,5 @@
 -- The tests by which stores are counted say what the records say: `isStay` that the steps are a stay, and the test for a modifying touch
--- that one of them has it. Assumes nothing.
+-- that one of them has it.
 use Prim.Native.Nat.{ℕ, zero, suc, _≤_, _<_}
 use mathlib.Core.Path.{_≡_, refl}
 use mathlib.Core.Logic.{_⊎_, inl, inr, ⊎-elim}

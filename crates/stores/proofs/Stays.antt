@@ -1,5 +1,5 @@
 -- The stores by stays are those at the ends of stays, and of a permitted schedule those at the first modifying touch of each: a method
--- that goes through the steps counts what the request's sentence says. Assumes nothing.
+-- that goes through the steps counts what the request's sentence says.
 use Prim.Native.Nat.{ℕ, zero, suc, _+_, _≤_, _<_}
 use mathlib.Core.Path.{_≡_, refl, sym, _∙_}
 use mathlib.Core.Logic.{⊎-elim}

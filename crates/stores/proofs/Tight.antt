@@ -1,5 +1,5 @@
 -- What a step without loss shows, over plain variables: where the cost of a schedule in every step is the least that the potential of the
--- lower bound allows, and no decision ties, its decisions are those of the schedule of the least total. Assumes nothing.
+-- lower bound allows, and no decision ties, its decisions are those of the schedule of the least total.
 use Prim.Native.Nat.{ℕ, suc, _+_, _-_, _*_, _≤_, _<_}
 use mathlib.Core.Path.{_≡_, refl, sym, _∙_}
 use mathlib.Core.Bool.{Bool, true, false, cond, not, _&&_, _||_, false≢true}

@@ -1,5 +1,5 @@
 -- A permitted schedule with the total and the load of the one written holds the same segments in every step, so that the last part of
--- the rule for ties has nothing to decide. Assumes nothing.
+-- the rule for ties has nothing to decide.
 use Prim.Native.Nat.{ℕ, zero, suc, _+_, _-_, _*_, _≤_, _<_}
 use mathlib.Core.Path.{_≡_, refl, sym, _∙_}
 use mathlib.Core.Bool.{Bool, true, false, cond, false≢true}

@@ -1,4 +1,4 @@
--- Without a modifying touch modtotal is opttotal, the schedule written is the optimal one, and no schedule has a store. Assumes nothing.
+-- Without a modifying touch modtotal is opttotal, the schedule written is the optimal one, and no schedule has a store.
 use Prim.Native.Nat.{ℕ, zero, suc, _+_, _-_, _≤_, _<_}
 use mathlib.Core.Path.{_≡_, refl, ap, _∙_}
 use mathlib.Core.Bool.{Bool, true, false, cond, not, _&&_, _||_, and-false, or-false}

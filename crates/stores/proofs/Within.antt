@@ -1,4 +1,4 @@
--- How much the modifying touches of a run within the limits can add to opttotal: a store each. Assumes nothing.
+-- How much the modifying touches of a run within the limits can add to opttotal: a store each.
 use Prim.Native.Nat.{ℕ, _+_, _*_, _≤_, _<_}
 use mathlib.Core.Bool.{Bool, cond}
 use mathlib.Core.Option.{Option, none, some}

@@ -1,5 +1,5 @@
 -- What request F-13 says of a run with modifying touches, as one statement: demand 3 of document 01 with stores counted, and the rule for
--- ties. Assumes nothing.
+-- ties.
 use Prim.Native.Nat.{ℕ, suc, _≤_, _<_}
 use mathlib.Core.Path.{_≡_}
 use mathlib.Core.Bool.{Bool, true, false}

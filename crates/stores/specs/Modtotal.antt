@@ -1,7 +1,7 @@
 -- Modified segments (request F-13), the part that theorems pin, so that nothing in it needs to be believed: the least total with stores
 -- counted, by a formula, and the schedule that has it. That no permitted schedule costs less than `modtotal`, that `modSchedule` costs just
 -- that, and that it is the one which the rule for ties picks is the record `MarkedDemand` (Demand.antt), proved of every run of a sheet
--- (`run-demand`, proofs/Demand.antt); it speaks of costs by Stays.antt alone. Assumes nothing.
+-- (`run-demand`, proofs/Demand.antt); it speaks of costs by Stays.antt alone.
 use Prim.Native.Nat.{ℕ, zero, suc, _+_, _-_, _*_, min}
 use mathlib.Core.Bool.{Bool, false, cond, _||_}
 use mathlib.Core.List.{List}

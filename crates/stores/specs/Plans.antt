@@ -1,4 +1,4 @@
--- What is answered for the schedules of a row of a sheet: 7, then 11 by the place, or 8, 9, 10. Assumes nothing.
+-- What is answered for the schedules of a row of a sheet: 7, then 11 by the place, or 8, 9, 10.
 use Prim.Native.Nat.{ℕ}
 use mathlib.Core.Bool.{cond}
 use mathlib.Core.List.{List}

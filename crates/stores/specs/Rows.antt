@@ -1,5 +1,5 @@
 -- What request F-13 says of row r of a sheet: modtotal, the schedule that has it, and what a schedule costs with stores counted. A sheet
--- without marks has no stores. Assumes nothing.
+-- without marks has no stores.
 use Prim.Native.Nat.{ℕ}
 use mathlib.Core.List.{List}
 use Rattle.model.specs.Sheets.{SheetValue, traceOf, marksOf, rowAt}

@@ -1,6 +1,6 @@
 -- Modified segments (request F-13), the part that must be believed: what a stay is, what a schedule stores, and what it then costs. It is
 -- the request's sentence and no method: nothing else says what a store is. S t i says that segment i is held in step t, counted from 1, and
--- S 0 i that it is warm; `marks t` that the touch in step t + 1 modifies, the letter w. Assumes nothing.
+-- S 0 i that it is warm; `marks t` that the touch in step t + 1 modifies, the letter w.
 use Prim.Native.Nat.{ℕ, zero, suc, _+_, _≤_, _<_}
 use mathlib.Core.Path.{_≡_}
 use mathlib.Core.Bool.{Bool, true, false, cond, not, _&&_, _||_}

@@ -1,4 +1,4 @@
--- What the tariff's definitions say, and that no bill exceeds 64 bits. Assumes nothing.
+-- What the tariff's definitions say, and that no bill exceeds 64 bits.
 use Prim.Native.Nat.{ℕ, _+_, _*_, _^_, _≤_, _<_}
 use mathlib.Core.Path.{_≡_, refl}
 use mathlib.Core.Bool.{Bool, true, false, _&&_, false≢true}

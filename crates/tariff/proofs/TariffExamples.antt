@@ -1,4 +1,4 @@
--- Bills in one table; a single proof goes over it, computed from the definitions. And both sides of each limit. Assumes nothing.
+-- Bills in one table; a single proof goes over it, computed from the definitions. And both sides of each limit.
 use Prim.Native.Nat.{ℕ}
 use mathlib.Core.Path.{_≡_, refl}
 use mathlib.Core.Bool.{Bool, true, false, _&&_}

@@ -1,4 +1,4 @@
--- What is answered for the bill of a row: 7, 18. Assumes nothing.
+-- What is answered for the bill of a row: 7, 18.
 use Prim.Native.Nat.{ℕ}
 use mathlib.Core.Bool.{cond}
 use lib.ListN.{length}

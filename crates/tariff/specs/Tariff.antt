@@ -1,4 +1,4 @@
--- The loading tariff (request F-5): what a run is billed for its memory and its load at a row, in cents. Assumes nothing.
+-- The loading tariff (request F-5): what a run is billed for its memory and its load at a row, in cents.
 use Prim.Native.Nat.{ℕ, _+_, _*_, _/_}
 use mathlib.Core.Bool.{Bool, cond, _&&_}
 use lib.Dec.{leb, ltb}

@@ -1,4 +1,4 @@
--- How long a line is, and the sum of lengths in a loop. Assumes nothing.
+-- How long a line is, and the sum of lengths in a loop.
 use Prim.Native.Nat.{ℕ, suc, _+_, _*_, _^_, _≤_, _<_}
 use mathlib.Core.Path.{_≡_, refl}
 use mathlib.Core.List.{List, [], _∷_, _++_}

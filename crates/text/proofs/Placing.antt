@@ -1,4 +1,4 @@
--- What a call that puts a text at the front of a lent place answers and leaves there. Assumes nothing.
+-- What a call that puts a text at the front of a lent place answers and leaves there.
 use Prim.Native.Nat.{ℕ, _+_}
 use mathlib.Core.Path.{_≡_}
 use mathlib.Core.List.{List}

@@ -1,4 +1,4 @@
--- Laws of a text put into a place: nothing, one byte, one text after another, and a loop that puts part after part. Assumes nothing.
+-- Laws of a text put into a place: nothing, one byte, one text after another, and a loop that puts part after part.
 use Prim.Native.Nat.{ℕ, _+_, _≤_, _<_}
 use mathlib.Core.Path.{_≡_, refl, sym, ap, _∙_}
 use mathlib.Core.List.{List, [], _∷_, _++_, append-assoc}

@@ -1,4 +1,4 @@
--- Lines one after another, one for each element of a list: what each of them says, and how long they are. Assumes nothing.
+-- Lines one after another, one for each element of a list: what each of them says, and how long they are.
 use Prim.Native.Nat.{ℕ, zero, suc, _+_, _*_, _≤_, _<_}
 use mathlib.Core.Path.{_≡_, refl, ap}
 use mathlib.Core.List.{List, [], _∷_, _++_, append-assoc, append-nil, map}

@@ -1,4 +1,4 @@
--- Texts written as strings, for the examples of this crate and of those above it. Assumes nothing.
+-- Texts written as strings, for the examples of this crate and of those above it.
 use Prim.Native.Nat.{ℕ}
 use Prim.Native.Char.{code}
 use Prim.Native.String.{String, [] as []ˢ, _∷_ as _∷ˢ_}

@@ -1,4 +1,4 @@
--- The words of a sheet as bytes: each key with its "=", the two kinds, the line feed, "/", "@" and the letter w. Assumes nothing.
+-- The words of a sheet as bytes: each key with its "=", the two kinds, the line feed, "/", "@" and the letter w.
 use Prim.Native.Nat.{ℕ}
 use mathlib.Core.List.{List, [], _∷_}
 use Rattle.model.specs.declared.Kind.{Kind}

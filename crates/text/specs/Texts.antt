@@ -1,4 +1,4 @@
--- The text of lines: each key, value and a line feed. Assumes nothing.
+-- The text of lines: each key, value and a line feed.
 use Prim.Native.Nat.{ℕ}
 use mathlib.Core.List.{List, [], _∷_, _++_}
 use Rattle.decimal.specs.Decimal.{written}

@@ -1,5 +1,4 @@
 // The number of a line, and its text as bytes.
-// Nothing is assumed.
 
 // The number after the last blank. One of more than 64 bits comes out wrong.
 pub fn number(head: &[u8]) -> u64 {

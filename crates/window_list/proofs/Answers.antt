@@ -1,5 +1,4 @@
 -- What the call for the windows of a sheet answers, by its tests; and that an accepted sheet is one that the recursion is made for.
--- Assumes nothing.
 use Prim.Native.Nat.{ℕ, zero, suc, _<_}
 use mathlib.Core.Path.{_≡_, refl, sym, ap, _∙_}
 use mathlib.Core.Bool.{Bool, true, false, cond, _&&_, false≢true}

@@ -1,4 +1,4 @@
--- Counting intervals by length: what one interval, one step and one segment's end add, and that no count overflows. Assumes nothing.
+-- Counting intervals by length: what one interval, one step and one segment's end add, and that no count overflows.
 use Prim.Native.Nat.{ℕ, zero, suc, _+_, _-_, _≤_, _<_}
 use mathlib.Core.Path.{_≡_, refl, sym, _∙_}
 use mathlib.Core.Bool.{Bool, true, false, cond}

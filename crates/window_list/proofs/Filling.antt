@@ -1,4 +1,4 @@
--- The loop over the windows: its start and one window more. Assumes nothing.
+-- The loop over the windows: its start and one window more.
 use Prim.Native.Nat.{ℕ, suc, _+_, _-_, _*_, _≤_, _<_}
 use mathlib.Core.Path.{_≡_, refl, ap, sym, _∙_}
 use mathlib.Core.Bool.{Bool, true, false, cond}

@@ -1,5 +1,5 @@
 // The window recursion over a run: its reuses and end intervals are counted by length, and one addition and one subtraction give each
-// window. What the values are is written in crate `windows`; nothing is assumed.
+// window. What the values are is written in crate `windows`.
 use model::PlaceAnswer;
 use model::Refusal;
 use model::Sheet;

@@ -1,5 +1,5 @@
 -- Table 2 of document 000, the address trace of its Figure 7, and further runs worked by hand, in one table; a single proof goes over it,
--- computed from the definitions. Assumes nothing.
+-- computed from the definitions.
 use Prim.Native.Nat.{ℕ}
 use mathlib.Core.Path.{_≡_, refl}
 use mathlib.Core.List.{List, [], _∷_}

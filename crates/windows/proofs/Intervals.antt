@@ -1,4 +1,4 @@
--- Sums over all reuses and end intervals: equal and added as the terms are. Assumes nothing.
+-- Sums over all reuses and end intervals: equal and added as the terms are.
 use Prim.Native.Nat.{ℕ, _+_}
 use mathlib.Core.Path.{_≡_, refl, _∙_}
 use mathlib.Core.Option.{Option, none, some}

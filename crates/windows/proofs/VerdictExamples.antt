@@ -1,4 +1,4 @@
--- Which number a sheet's head gets: 28, then 26, then 27. Assumes nothing.
+-- Which number a sheet's head gets: 28, then 26, then 27.
 use Prim.Native.Nat.{ℕ}
 use mathlib.Core.Path.{_≡_, refl}
 use mathlib.Core.List.{List, [], _∷_}

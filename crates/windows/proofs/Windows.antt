@@ -1,5 +1,5 @@
 -- The recursion and the row definition agree at every window: by induction over the window, each step of it for all reuses and end
--- intervals at once. Assumes nothing.
+-- intervals at once.
 use Prim.Native.Nat.{ℕ, zero, suc, _+_, _-_, _*_, _≤_, _<_, min}
 use mathlib.Core.Path.{_≡_, refl, ap, _∙_}
 use mathlib.Core.Bool.{Bool, true, false, cond}

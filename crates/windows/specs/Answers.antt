@@ -1,4 +1,4 @@
--- What is answered for wsocc of a sheet at every window from 1 to steps: 28, then 26, then 27, then 11 by the place. Assumes nothing.
+-- What is answered for wsocc of a sheet at every window from 1 to steps: 28, then 26, then 27, then 11 by the place.
 use Prim.Native.Nat.{ℕ}
 use mathlib.Core.Bool.{cond}
 use mathlib.Core.List.{List}

@@ -1,5 +1,5 @@
 -- The window recursion of document 000 (request F-12): the working set's occupancy at every window. The value at the window n + 1 stands
--- at place n. Assumes nothing.
+-- at place n.
 use Prim.Native.Nat.{ℕ, zero, suc, _+_, _<_}
 use mathlib.Core.Path.{_≡_}
 use mathlib.Core.Bool.{cond}

@@ -1,4 +1,4 @@
--- The text of a head in the parts in which it is written, and the lengths of the parts. Assumes nothing.
+-- The text of a head in the parts in which it is written, and the lengths of the parts.
 use Prim.Native.Nat.{ℕ, _+_, _≤_}
 use mathlib.Core.Path.{_≡_}
 use mathlib.Core.Bool.{true, false}

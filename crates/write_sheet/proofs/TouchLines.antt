@@ -1,5 +1,4 @@
 -- Laws of writing touches from entries and their marks one after another: what one entry more adds to the touches and to their lines.
--- Assumes nothing.
 use Prim.Native.Nat.{ℕ, suc, _+_, _≤_, _<_}
 use mathlib.Core.Path.{_≡_, refl, sym, ap, _∙_}
 use mathlib.Core.Bool.{Bool, true, false, cond}

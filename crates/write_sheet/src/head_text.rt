@@ -1,5 +1,5 @@
 // Writing the head of a sheet: the lengths of its lines, and the lines part after part, each from an index of the lent place on.
-// A count beyond its array counts the whole array. What the lines are stands in specs/Heads.antt. Nothing is assumed.
+// A count beyond its array counts the whole array. What the lines are stands in specs/Heads.antt.
 use model::Head;
 use model::Kind;
 use model::PriceRow;

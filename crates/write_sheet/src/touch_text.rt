@@ -1,5 +1,5 @@
 // Writing the entries of a sheet of form 2 on: how many steps and touches there are, and a line for each touch. A step without a touch has
-// no line. `marks` says for each step whether its touch modifies, and is empty in a form without marks. Nothing is assumed.
+// no line. `marks` says for each step whether its touch modifies, and is empty in a form without marks.
 use model::Sheet;
 use text::number_length;
 use text::put;

@@ -1,5 +1,4 @@
 -- What the functions of the single pass give: a touch with its bucket, the table of last touches, and buckets filled touch by touch.
--- Assumes nothing.
 use Prim.Native.Nat.{ℕ, _+_, _*_, _^_, _≤_, _<_}
 use mathlib.Core.Path.{_≡_}
 use mathlib.Core.Bool.{cond}

@@ -1,5 +1,4 @@
 -- What the functions of the search give: the prices of the rows in two lists, and the first row that keeps a reuse, looked for in rounds.
--- Assumes nothing.
 use Prim.Native.Nat.{ℕ, _+_, _-_, _*_, _^_, _≤_, _<_}
 use mathlib.Core.Path.{_≡_}
 use mathlib.Core.Bool.{Bool, true, false, cond}

@@ -1,4 +1,4 @@
--- `c_lists::put_row` meets its contract. The loop's invariant: the first `i` numbers of the row are put from `at` on. Assumes nothing.
+-- `c_lists::put_row` meets its contract. The loop's invariant: the first `i` numbers of the row are put from `at` on.
 use mathlib.Core.Path.{_≡_, refl, ap}
 use Prim.Native.Nat.{_+_, _-_, _≤_}
 use native.Mathlib.Nat.{add-zero}

@@ -1,4 +1,4 @@
--- `c_lists::put_rows` meets its contract. The loop's invariant: the numbers of the rows passed are put at the front. Assumes nothing.
+-- `c_lists::put_rows` meets its contract. The loop's invariant: the numbers of the rows passed are put at the front.
 use mathlib.Core.Path.{_≡_, refl, sym}
 use Prim.Native.Nat.{_-_, _≤_}
 use native.Mathlib.Omega.{arith}

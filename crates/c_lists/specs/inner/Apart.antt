@@ -1,4 +1,4 @@
--- The prices of rows, apart, by value. Assumes nothing.
+-- The prices of rows, apart, by value.
 use mathlib.Core.List.{List, map}
 use Rattle.model.specs.declared.PriceRow.{PriceRow}
 use Rattle.c_lists.specs.declared.tables.Prices.{Prices}

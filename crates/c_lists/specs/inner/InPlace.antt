@@ -1,4 +1,4 @@
--- What the functions that change a recorder's list in place give, number by number. Assumes nothing.
+-- What the functions that change a recorder's list in place give, number by number.
 use Prim.Native.Nat.{ℕ, _+_, _*_, _^_, _≤_, _<_, min}
 use mathlib.Core.Path.{_≡_}
 use mathlib.Core.List.{List}

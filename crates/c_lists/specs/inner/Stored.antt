@@ -1,4 +1,4 @@
--- What is stored of a recorder, part by part. Assumes nothing.
+-- What is stored of a recorder, part by part.
 use Prim.Native.Nat.{ℕ}
 use mathlib.Core.Path.{_≡_}
 use mathlib.Core.List.{List}

@@ -1,4 +1,4 @@
--- `convert::has_idle` meets its contract. The loop's invariant: the entries left have an idle one where all have. Assumes nothing.
+-- `convert::has_idle` meets its contract. The loop's invariant: the entries left have an idle one where all have.
 use mathlib.Core.Path.{_≡_, refl, sym, _∙_}
 use Prim.Native.Nat.{_-_}
 use borrow.Author.Needs.{needs}

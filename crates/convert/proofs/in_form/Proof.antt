@@ -1,4 +1,4 @@
--- `convert::in_form` meets its contract: the head, the count and the entries stay. Assumes nothing.
+-- `convert::in_form` meets its contract: the head, the count and the entries stay.
 use mathlib.Core.Path.{refl}
 use Rattle.model.specs.Values.{valueOf}
 use Rattle.convert.proofs.in_form.Statement.{statement}

@@ -1,4 +1,4 @@
--- `convert::to_form_1` meets its contract: refused where a step is idle, else the sheet in form 1 is written. Assumes nothing.
+-- `convert::to_form_1` meets its contract: refused where a step is idle, else the sheet in form 1 is written.
 use mathlib.Core.Path.{sym, _∙_}
 use native.Mathlib.Omega.{arith}
 use borrow.Author.Needs.{needs}

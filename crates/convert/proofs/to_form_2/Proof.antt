@@ -1,4 +1,4 @@
--- `convert::to_form_2` meets its contract: the sheet in form 2 is written. Assumes nothing.
+-- `convert::to_form_2` meets its contract: the sheet in form 2 is written.
 use borrow.Author.Needs.{needs}
 use Rattle.convert.proofs.Results.{later-left}
 use Rattle.convert.proofs.to_form_2.Statement.{statement}

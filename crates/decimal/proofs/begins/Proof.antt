@@ -1,5 +1,4 @@
 -- `decimal::begins` meets its contract: a list is empty, has one byte, or has more.
--- Assumes nothing.
 use mathlib.Core.Path.{_≡_, refl, sym}
 use mathlib.Core.Bool.{Bool, true, false, not, _&&_}
 use mathlib.Core.List.{List, [], _∷_}

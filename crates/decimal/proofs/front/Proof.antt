@@ -1,5 +1,4 @@
 -- `decimal::front` meets its contract. The loop's invariant: the digits passed are a number, and `value` is its value.
--- Assumes nothing.
 use mathlib.Core.Path.{_≡_, sym, _∙_}
 use mathlib.Core.Bool.{true}
 use Prim.Native.Nat.{ℕ, _-_, _≤_}

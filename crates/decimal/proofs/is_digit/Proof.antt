@@ -1,4 +1,4 @@
--- `decimal::is_digit` meets its contract. Assumes nothing.
+-- `decimal::is_digit` meets its contract.
 use mathlib.Core.Path.{sym}
 use borrow.Author.Tests.{le-leb}
 use Rattle.decimal.proofs.Digits.{below-digit}

@@ -1,4 +1,4 @@
--- `decimal::put_pair` meets its contract, by two stores. Assumes nothing.
+-- `decimal::put_pair` meets its contract, by two stores.
 use native.Mathlib.Omega.{arith}
 use borrow.Author.Needs.{needs}
 use lib.ListN.{length-set}

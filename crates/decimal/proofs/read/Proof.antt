@@ -1,5 +1,4 @@
 -- `decimal::read` meets its contract. The loop's invariant: the bytes passed are digits, and `v` is their value, cut off above `hi`.
--- Assumes nothing.
 use mathlib.Core.Path.{sym, _∙_}
 use Prim.Native.Nat.{_-_}
 use native.Mathlib.Omega.{arith}

@@ -1,5 +1,4 @@
 -- `decimal::width` meets its contract. The loop's invariant: ten times the power is 10 to the power `w`, and `n` has at least `w` digits.
--- Assumes nothing.
 use mathlib.Core.Path.{_≡_, refl, ap}
 use Prim.Native.Nat.{ℕ, _+_, _*_, _-_, _^_, _≤_, _<_}
 use native.Mathlib.Nat.{pow-suc, pow-le-pow-right}

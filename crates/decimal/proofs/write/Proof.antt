@@ -1,5 +1,5 @@
 -- `decimal::write` meets its contract. The loop's invariant: `out` is as it is to be once the digits of `rest` are written, and these are
--- `left`. Assumes nothing.
+-- `left`.
 use mathlib.Core.Path.{_≡_, refl}
 use mathlib.Core.List.{List, _++_}
 use Prim.Native.Nat.{ℕ, _+_}

@@ -1,4 +1,4 @@
--- What the readers of short lines know of a number at the front of bytes. Assumes nothing.
+-- What the readers of short lines know of a number at the front of bytes.
 use Prim.Native.Nat.{_≤_, _<_, ℕ}
 use mathlib.Core.Path.{_≡_}
 use mathlib.Core.Bool.{true}

@@ -1,4 +1,4 @@
--- `import` meets its contract: the refusal with the empty sheet, or the sheet of the segments found. Assumes nothing.
+-- `import` meets its contract: the refusal with the empty sheet, or the sheet of the segments found.
 use borrow.Author.Needs.{needs}
 use Rattle.model.specs.Values.{blankMarks}
 use Rattle.din.proofs.Answers.{import-few, import-refused, import-taken}

@@ -1,4 +1,4 @@
--- `no_sizes` meets its contract: the repeat is that of the definition. Assumes nothing.
+-- `no_sizes` meets its contract: the repeat is that of the definition.
 use borrow.Author.Needs.{needs}
 use Rattle.model.specs.Values.{zeros}
 use Rattle.din.proofs.no_sizes.Statement.{statement}

@@ -1,5 +1,4 @@
 -- `ones` meets its contract. The loop's invariant: the sizes of i segments stand at the front. The measure is what is left of n.
--- Assumes nothing.
 use Prim.Native.Nat.{_-_, _≤_}
 use mathlib.Core.Path.{_≡_}
 use native.Mathlib.Omega.{arith}

@@ -1,4 +1,4 @@
--- The first of the lines of a din trace, and a line by places in the bytes. Assumes nothing.
+-- The first of the lines of a din trace, and a line by places in the bytes.
 use Prim.Native.Nat.{ℕ, _+_, _≤_}
 use mathlib.Core.Bool.{cond, _&&_}
 use mathlib.Core.List.{List, [], _∷_}

@@ -1,4 +1,4 @@
--- What the pass over the lines of a din trace keeps and gives: the table of the pages, and the answer. Assumes nothing.
+-- What the pass over the lines of a din trace keeps and gives: the table of the pages, and the answer.
 use Prim.Native.Nat.{ℕ, _+_, _*_, _-_, _/_, _%_, _≤_, _<_}
 use mathlib.Core.Path.{_≡_}
 use mathlib.Core.Bool.{cond}

@@ -1,4 +1,4 @@
--- `exports::segtrace_bill` meets its contract: the verdict of the bill decides. Assumes nothing.
+-- `exports::segtrace_bill` meets its contract: the verdict of the bill decides.
 use borrow.Author.Needs.{needs}
 use mathlib.Core.Path.{refl}
 use Rattle.exports.proofs.Told.{accepted-tells, refused-tells}

@@ -1,4 +1,4 @@
--- `exports::segtrace_check` meets its contract. Assumes nothing.
+-- `exports::segtrace_check` meets its contract.
 use borrow.Author.Needs.{needs}
 use mathlib.Core.Path.{ap, _∙_}
 use Rattle.model.specs.Refusals.{verdictNumber}

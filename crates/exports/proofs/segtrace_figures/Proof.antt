@@ -1,4 +1,4 @@
--- `exports::segtrace_figures` meets its contract: the verdict of the figures decides. Assumes nothing.
+-- `exports::segtrace_figures` meets its contract: the verdict of the figures decides.
 use borrow.Author.Needs.{needs}
 use Rattle.c_lists.specs.Figures.{figureList}
 use Rattle.exports.proofs.Told.{accepted-tells, refused-tells}

@@ -1,4 +1,4 @@
--- `exports::segtrace_listing` meets its contract: what was told of the listing's answer. Assumes nothing.
+-- `exports::segtrace_listing` meets its contract: what was told of the listing's answer.
 use borrow.Author.Needs.{needs}
 use Rattle.exports.proofs.Told.{place-call}
 use Rattle.exports.proofs.segtrace_listing.Statement.{statement}

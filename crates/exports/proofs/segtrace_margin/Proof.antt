@@ -1,4 +1,4 @@
--- `exports::segtrace_margin` meets its contract: the verdict of the margin decides. Assumes nothing.
+-- `exports::segtrace_margin` meets its contract: the verdict of the margin decides.
 use borrow.Author.Needs.{needs}
 use mir.Syntax.{w64}
 use mir.ValLaws.{toZ-ofZ}

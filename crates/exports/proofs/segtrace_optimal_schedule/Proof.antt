@@ -1,4 +1,4 @@
--- `exports::segtrace_optimal_schedule` meets its contract: what was told of the schedule's answer. Assumes nothing.
+-- `exports::segtrace_optimal_schedule` meets its contract: what was told of the schedule's answer.
 use borrow.Author.Needs.{needs}
 use Rattle.exports.proofs.Told.{place-call}
 use Rattle.exports.proofs.segtrace_optimal_schedule.Statement.{statement}

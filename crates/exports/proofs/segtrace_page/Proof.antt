@@ -1,4 +1,4 @@
--- `exports::segtrace_page` meets its contract: what was told of the page's answer. Assumes nothing.
+-- `exports::segtrace_page` meets its contract: what was told of the page's answer.
 use borrow.Author.Needs.{needs}
 use Rattle.exports.proofs.Told.{place-call}
 use Rattle.exports.proofs.segtrace_page.Statement.{statement}

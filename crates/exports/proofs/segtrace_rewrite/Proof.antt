@@ -1,4 +1,4 @@
--- `exports::segtrace_rewrite` meets its contract: what the sheet reads as decides. Assumes nothing.
+-- `exports::segtrace_rewrite` meets its contract: what the sheet reads as decides.
 use borrow.Author.Needs.{needs}
 use Rattle.sheet.specs.Writing.{sheetText}
 use Rattle.model.specs.Places.{gives, refuses}

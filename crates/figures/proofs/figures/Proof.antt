@@ -1,4 +1,4 @@
--- `figures::figures` meets its contract: the sizes and warm segments lent are those that the head counts. Assumes nothing.
+-- `figures::figures` meets its contract: the sizes and warm segments lent are those that the head counts.
 use borrow.Author.Needs.{needs}
 use mathlib.Core.Path.{_≡_, sym}
 use native.Mathlib.Omega.{arith}

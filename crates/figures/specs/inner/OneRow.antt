@@ -1,6 +1,6 @@
 -- The figures of one row from sums over the buckets, and what those sums must satisfy. `all` is the sum of all buckets of the touches
 -- and of the swap costs of the warm segments, `kept` that of the buckets up to the row, `ends` that of the end intervals' buckets up to
--- the row: what the row keeps. `cost` is Q and `volume` V of the references. Assumes nothing.
+-- the row: what the row keeps. `cost` is Q and `volume` V of the references.
 use Prim.Native.Nat.{ℕ, _+_, _-_, _*_, _/_, _^_, _≤_, _<_}
 use mathlib.Core.Bool.{cond}
 use lib.Dec.{eqb}

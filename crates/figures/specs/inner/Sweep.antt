@@ -1,4 +1,4 @@
--- The sums over the buckets that the figures of a row are made of, those of the warm segments, and what they belong to. Assumes nothing.
+-- The sums over the buckets that the figures of a row are made of, those of the warm segments, and what they belong to.
 use Prim.Native.Nat.{ℕ, _+_, _*_}
 use mathlib.Core.Path.{_≡_}
 use mathlib.Core.Bool.{cond}

@@ -1,4 +1,4 @@
--- `join` meets its contract: the three checks in order, and the joint sheet. Assumes nothing.
+-- `join` meets its contract: the three checks in order, and the joint sheet.
 use Prim.Native.Nat.{_≤_}
 use mathlib.Core.Path.{_≡_, sym, ap, _∙_}
 use native.Mathlib.Omega.{arith}

@@ -1,4 +1,4 @@
--- `joint_sheet` meets its contract: the head and the entries put together are those of the definition. Assumes nothing.
+-- `joint_sheet` meets its contract: the head and the entries put together are those of the definition.
 use native.Mathlib.Omega.{arith}
 use borrow.Author.Needs.{needs}
 use denote.Ref.{now}

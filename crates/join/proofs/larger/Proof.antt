@@ -1,4 +1,4 @@
--- `larger` meets its contract: the second where it is above the first, else the first. Assumes nothing.
+-- `larger` meets its contract: the second where it is above the first, else the first.
 use native.Mathlib.Omega.{arith}
 use Rattle.join.proofs.larger.Statement.{statement}
 use Rattle.join.proofs.larger.Tie as tie

@@ -1,4 +1,4 @@
--- `refused` meets its contract: the refusal beside the empty sheet. Assumes nothing.
+-- `refused` meets its contract: the refusal beside the empty sheet.
 use mathlib.Core.Path.{ap}
 use borrow.Author.Needs.{needs}
 use Rattle.model.specs.declared.Sheet.{Sheet}

@@ -1,4 +1,4 @@
--- What the code of the entries works out: both touch in a step, the entries of so many steps of two records. Assumes nothing.
+-- What the code of the entries works out: both touch in a step, the entries of so many steps of two records.
 use Prim.Native.Nat.{ℕ, _<_}
 use mathlib.Core.Path.{_≡_}
 use mathlib.Core.Logic.{_⊎_}

@@ -1,4 +1,4 @@
--- What the code of the heads works out or needs: rows alike, numbers that fit when moved, heads that fit. Assumes nothing.
+-- What the code of the heads works out or needs: rows alike, numbers that fit when moved, heads that fit.
 use Prim.Native.Nat.{ℕ, _+_, _≤_, _<_}
 use mathlib.Core.Path.{_≡_}
 use mathlib.Core.Bool.{Bool, _&&_}

@@ -1,4 +1,4 @@
--- The joint sheet by the heads and the entries of two sheets, as the code of joining makes it. Assumes nothing.
+-- The joint sheet by the heads and the entries of two sheets, as the code of joining makes it.
 use Prim.Native.Nat.{ℕ, max}
 use mathlib.Core.List.{List}
 use lib.ListN.{length}

@@ -1,4 +1,4 @@
--- Numbers moved by the segments before them, and put after others, as the second sheet's warm segments are. Assumes nothing.
+-- Numbers moved by the segments before them, and put after others, as the second sheet's warm segments are.
 use Prim.Native.Nat.{ℕ, _+_}
 use mathlib.Core.List.{List, _++_, map}
 

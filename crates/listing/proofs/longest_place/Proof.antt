@@ -1,4 +1,4 @@
--- `listing::longest_place` meets its contract: the array has zeros. Assumes nothing.
+-- `listing::longest_place` meets its contract: the array has zeros.
 use mathlib.Core.Path.{refl}
 use Rattle.model.specs.Values.{zeros}
 use Rattle.listing.proofs.longest_place.Statement.{statement}

@@ -1,4 +1,4 @@
--- `listing::most_bytes` meets its contract: the form decides. Assumes nothing.
+-- `listing::most_bytes` meets its contract: the form decides.
 use mathlib.Core.Path.{sym, _∙_}
 use borrow.Author.Needs.{needs}
 use Rattle.listing.proofs.most_bytes.Statement.{statement}

@@ -1,4 +1,4 @@
--- `listing::put_counts` meets its contract: refs= is put, and where the form has it steps= after it. Assumes nothing.
+-- `listing::put_counts` meets its contract: refs= is put, and where the form has it steps= after it.
 use mathlib.Core.Path.{sym, _∙_}
 use native.Mathlib.Omega.{arith}
 use borrow.Author.Needs.{needs}

@@ -1,4 +1,4 @@
--- `listing::put_head` meets its contract: the lines are put one after another. Assumes nothing.
+-- `listing::put_head` meets its contract: the lines are put one after another.
 use native.Mathlib.Omega.{arith}
 use borrow.Author.Needs.{needs}
 use Rattle.text.proofs.Putting.{put-then}

@@ -1,4 +1,4 @@
--- `listing::put_listing` meets its contract: the head is put, and then the rows. Assumes nothing.
+-- `listing::put_listing` meets its contract: the head is put, and then the rows.
 use Prim.Native.Nat.{_+_}
 use mathlib.Core.Path.{_≡_}
 use native.Mathlib.Omega.{arith}

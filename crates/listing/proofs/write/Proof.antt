@@ -1,5 +1,4 @@
 -- `listing::write` meets its contract: the listing is put at the front of the lent place, or at that of a local one and copied from there.
--- Assumes nothing.
 use mathlib.Core.Path.{sym}
 use native.Mathlib.Omega.{arith}
 use borrow.Author.Needs.{needs}

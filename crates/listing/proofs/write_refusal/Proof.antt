@@ -1,5 +1,4 @@
 -- `listing::write_refusal` meets its contract: the line's length decides, and the line is put at the front, the key and then the number.
--- Assumes nothing.
 use native.Mathlib.Omega.{arith}
 use borrow.Author.Needs.{needs}
 use lib.ListN.{length-append}

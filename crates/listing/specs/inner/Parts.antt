@@ -1,4 +1,4 @@
--- The parts in which the lines of a listing before its rows are written. Assumes nothing.
+-- The parts in which the lines of a listing before its rows are written.
 use Prim.Native.Nat.{ℕ}
 use mathlib.Core.List.{List, _++_}
 use Rattle.text.specs.Keys.{refsKey, segsKey, rowsKey}

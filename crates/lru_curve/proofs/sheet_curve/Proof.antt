@@ -1,5 +1,5 @@
 -- `lru_curve::sheet_curve` meets its contract: the sizes, the warm segments and the room are tested, and the list of the sheet's value is
--- written. Assumes nothing.
+-- written.
 use mathlib.Core.Path.{_≡_, sym, _∙_}
 use native.Mathlib.Omega.{arith}
 use borrow.Author.Needs.{needs}

@@ -1,4 +1,4 @@
--- What the pass by stack distances keeps: the room of its recency list, and the touches at each distance. Assumes nothing.
+-- What the pass by stack distances keeps: the room of its recency list, and the touches at each distance.
 use Prim.Native.Nat.{ℕ, suc, _<_}
 use mathlib.Core.Path.{_≡_}
 use mathlib.Core.Bool.{cond}

@@ -1,4 +1,4 @@
--- `margin::is_found` meets its contract. Assumes nothing.
+-- `margin::is_found` meets its contract.
 use Rattle.margin.proofs.is_found.Statement.{statement}
 use Rattle.margin.proofs.is_found.Tie as tie
 

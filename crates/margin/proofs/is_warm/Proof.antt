@@ -1,4 +1,4 @@
--- `margin::is_warm` meets its contract: none where no segment is warm, and else by its mark in the table before step 1. Assumes nothing.
+-- `margin::is_warm` meets its contract: none where no segment is warm, and else by its mark in the table before step 1.
 use borrow.Author.Needs.{needs}
 use Rattle.margin.proofs.Times.{none-warm, warm-mark}
 use Rattle.margin.proofs.is_warm.Statement.{statement}

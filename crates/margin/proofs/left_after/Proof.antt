@@ -1,4 +1,4 @@
--- `margin::left_after` meets its contract. Assumes nothing.
+-- `margin::left_after` meets its contract.
 use borrow.Author.Needs.{needs}
 use Rattle.margin.proofs.left_after.Statement.{statement}
 use Rattle.margin.proofs.left_after.Tie as tie

@@ -1,5 +1,5 @@
 -- `margin::reference_place` meets its contract. The loop's invariant: the reference is the first of `left` from place t on. The measure is
--- what is left of the steps. Assumes nothing.
+-- what is left of the steps.
 use Prim.Native.Nat.{_-_}
 use mathlib.Core.Path.{sym, _∙_}
 use native.Mathlib.Omega.{arith}

@@ -1,4 +1,4 @@
--- `margin::sheet_margin` meets its contract: the row and the reference are tested, and the parts of the sheet lent. Assumes nothing.
+-- `margin::sheet_margin` meets its contract: the row and the reference are tested, and the parts of the sheet lent.
 use Prim.Native.Nat.{_≤_, _<_}
 use mathlib.Core.Path.{refl, sym, ap, _∙_}
 use native.Mathlib.Omega.{arith}

@@ -1,4 +1,4 @@
--- `margin::touch_margin` meets its contract: a first touch is refused, and the costs of a reuse fit. Assumes nothing.
+-- `margin::touch_margin` meets its contract: a first touch is refused, and the costs of a reuse fit.
 use Prim.Native.Nat.{ℕ, _^_, _<_}
 use mathlib.Core.Path.{_≡_, refl, sym, ap, _∙_}
 use native.Mathlib.Omega.{arith}

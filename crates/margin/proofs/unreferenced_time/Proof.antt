@@ -1,5 +1,5 @@
 -- `margin::unreferenced_time` meets its contract. The loop's invariant: none of the steps after the first i, up to t, touches the segment.
--- The measure is i. Assumes nothing.
+-- The measure is i.
 use Prim.Native.Nat.{_-_}
 use mathlib.Core.Path.{_≡_}
 use native.Mathlib.Omega.{arith}

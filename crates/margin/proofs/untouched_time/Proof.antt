@@ -1,4 +1,4 @@
--- `margin::untouched_time` meets its contract: its test is that of the definition. Assumes nothing.
+-- `margin::untouched_time` meets its contract: its test is that of the definition.
 use Rattle.margin.proofs.untouched_time.Statement.{statement}
 use Rattle.margin.proofs.untouched_time.Tie as tie
 

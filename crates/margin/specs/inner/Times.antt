@@ -1,4 +1,4 @@
--- The unreferenced time as the code holds it, by value, and where a reference stands. Assumes nothing.
+-- The unreferenced time as the code holds it, by value, and where a reference stands.
 use Prim.Native.Nat.{ℕ, _+_, _-_, _≤_, _<_}
 use mathlib.Core.Path.{_≡_}
 use mathlib.Core.Bool.{Bool, true, false, cond}

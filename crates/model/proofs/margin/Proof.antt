@@ -1,5 +1,4 @@
 -- `model::margin` meets its contract: both prices are below 2 ^ 62, so each is itself as a signed number and the difference fits.
--- Assumes nothing.
 use mathlib.Core.Path.{_≡_, _∙_}
 use native.Mathlib.Omega.{arith}
 use borrow.Author.Needs.{needs}

@@ -1,5 +1,5 @@
 -- `model::number` meets its contract, case by case: a case is told, and its number is that of the definition. A refusal more is a line more
--- of each of the two kinds, in the order of the enum. Assumes nothing.
+-- of each of the two kinds, in the order of the enum.
 use mathlib.Core.Path.{sym, ap}
 use borrow.Author.Needs.{needs}
 use Rattle.model.specs.Refusals.{numberOf}

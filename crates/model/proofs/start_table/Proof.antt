@@ -1,4 +1,4 @@
--- `model::start_table` meets its contract: the table holds the warm segments passed so far. Assumes nothing.
+-- `model::start_table` meets its contract: the table holds the warm segments passed so far.
 use Prim.Native.Nat.{_-_}
 use mathlib.Core.Path.{_≡_, refl}
 use mathlib.Core.Logic.{⊎-elim}

@@ -1,4 +1,4 @@
--- `model::total` meets its contract: each product is within 65,535 × 2 ^ 47, so that the sum is below 2 ^ 64. Assumes nothing.
+-- `model::total` meets its contract: each product is within 65,535 × 2 ^ 47, so that the sum is below 2 ^ 64.
 use borrow.Author.Needs.{needs}
 use native.Mathlib.Omega.{arith}
 use Prim.Native.Nat.{_^_}

@@ -1,4 +1,4 @@
--- `model::untouched` meets its contract. Assumes nothing.
+-- `model::untouched` meets its contract.
 use borrow.Author.Needs.{needs}
 use Rattle.model.specs.LastTouches.{startTable}
 use Rattle.model.specs.Sheets.{listed}

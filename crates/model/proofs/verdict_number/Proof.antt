@@ -1,4 +1,4 @@
--- `model::verdict_number` meets its contract: the number of a refused verdict is that of its refusal. Assumes nothing.
+-- `model::verdict_number` meets its contract: the number of a refused verdict is that of its refusal.
 use mathlib.Core.Path.{sym, ap, _∙_}
 use borrow.Author.Needs.{needs}
 use Rattle.model.specs.Refusals.{verdictNumber}

@@ -1,4 +1,4 @@
--- `page::pages_length` meets its contract. Assumes nothing.
+-- `page::pages_length` meets its contract.
 use borrow.Author.Tests.{le-leb, lt-leb}
 use Rattle.page.proofs.pages_length.Statement.{statement}
 use Rattle.page.proofs.pages_length.Tie as tie

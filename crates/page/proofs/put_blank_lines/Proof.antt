@@ -1,4 +1,4 @@
--- `page::put_blank_lines` meets its contract. The loop's invariant: `i` lines of blanks are put from `at` on. Assumes nothing.
+-- `page::put_blank_lines` meets its contract. The loop's invariant: `i` lines of blanks are put from `at` on.
 use mathlib.Core.Path.{_≡_, refl}
 use Prim.Native.Nat.{_-_}
 use native.Mathlib.Omega.{arith}

@@ -1,4 +1,4 @@
--- `page::put_blanks` meets its contract. The loop's invariant: `i` blanks are put from `at` on. Assumes nothing.
+-- `page::put_blanks` meets its contract. The loop's invariant: `i` blanks are put from `at` on.
 use mathlib.Core.Path.{_≡_, ap}
 use Prim.Native.Nat.{_+_, _-_}
 use native.Mathlib.Nat.{add-zero}

@@ -1,4 +1,4 @@
--- `page::put_end` meets its contract: the blanks are put, and then the line feed. Assumes nothing.
+-- `page::put_end` meets its contract: the blanks are put, and then the line feed.
 use native.Mathlib.Omega.{arith}
 use Rattle.text.proofs.Putting.{put-then, put-byte}
 use borrow.Author.Needs.{needs}

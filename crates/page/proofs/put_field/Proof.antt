@@ -1,4 +1,4 @@
--- `page::put_field` meets its contract: the blanks are put, and then the digits. Assumes nothing.
+-- `page::put_field` meets its contract: the blanks are put, and then the digits.
 use native.Mathlib.Omega.{arith}
 use Rattle.decimal.specs.Decimal.{written}
 use Rattle.text.proofs.Putting.{put-then, put-same, put-of}

@@ -1,4 +1,4 @@
--- `page::put_kind` meets its contract, a kind at a time: the start of the line is the text that is put. Assumes nothing.
+-- `page::put_kind` meets its contract, a kind at a time: the start of the line is the text that is put.
 use mathlib.Core.Path.{_≡_}
 use Rattle.model.specs.declared.Kind.the-variants.{Time, Space}
 use borrow.Author.Needs.{needs}

@@ -1,4 +1,4 @@
--- `page::put_names` meets its contract: the line is the text that is put. Assumes nothing.
+-- `page::put_names` meets its contract: the line is the text that is put.
 use native.Mathlib.Omega.{arith}
 use Rattle.page.specs.Page.{namesLine, pageLine, columns}
 use borrow.Author.Needs.{needs}

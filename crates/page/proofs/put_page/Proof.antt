@@ -1,4 +1,4 @@
--- `page::put_page` meets its contract: its parts are put one after another. Assumes nothing.
+-- `page::put_page` meets its contract: its parts are put one after another.
 use native.Mathlib.Omega.{arith}
 use Rattle.text.proofs.Putting.{put-then, put-same}
 use Rattle.page.proofs.Parts.{page-parts}

@@ -1,4 +1,4 @@
--- `page::put_pages` meets its contract: one page, or one after the other. Assumes nothing.
+-- `page::put_pages` meets its contract: one page, or one after the other.
 use native.Mathlib.Omega.{arith}
 use Rattle.text.proofs.Putting.{put-then, put-same}
 use Rattle.page.proofs.Parts.{one-page, two-pages}

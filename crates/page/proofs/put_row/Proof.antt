@@ -1,4 +1,4 @@
--- `page::put_row` meets its contract: the six fields are put one after another, and the end of the line. Assumes nothing.
+-- `page::put_row` meets its contract: the six fields are put one after another, and the end of the line.
 use native.Mathlib.Omega.{arith}
 use Rattle.text.proofs.Putting.{put-then, put-same}
 use Rattle.page.proofs.Parts.{row-parts}

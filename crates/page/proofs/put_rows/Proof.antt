@@ -1,4 +1,4 @@
--- `page::put_rows` meets its contract. The loop's invariant: the lines of the rows passed are put from `at` on. Assumes nothing.
+-- `page::put_rows` meets its contract. The loop's invariant: the lines of the rows passed are put from `at` on.
 use mathlib.Core.Path.{_≡_, refl}
 use mathlib.Core.List.{map}
 use Prim.Native.Nat.{_-_}

@@ -1,4 +1,4 @@
--- `page::put_title` meets its contract: the words, the number and the end of the line are put. Assumes nothing.
+-- `page::put_title` meets its contract: the words, the number and the end of the line are put.
 use Prim.Native.Nat.{_≤_}
 use mathlib.Core.List.{_∷_, _++_}
 use native.Mathlib.Omega.{arith}

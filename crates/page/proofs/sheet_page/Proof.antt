@@ -1,4 +1,4 @@
--- `page::sheet_page` meets its contract: the page is that of the sheet's value, and every field fits. Assumes nothing.
+-- `page::sheet_page` meets its contract: the page is that of the sheet's value, and every field fits.
 use borrow.Author.Needs.{needs}
 use Rattle.model.specs.Values.{valueOf}
 use Rattle.model.proofs.Standing.{rows-counted}

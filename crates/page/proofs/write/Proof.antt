@@ -1,4 +1,4 @@
--- `page::write` meets its contract: a place that is too short stays, and else the pages are put at its front. Assumes nothing.
+-- `page::write` meets its contract: a place that is too short stays, and else the pages are put at its front.
 use mathlib.Core.Path.{_≡_, sym, _∙_}
 use Prim.Native.Nat.{_≤_}
 use native.Mathlib.Omega.{arith}

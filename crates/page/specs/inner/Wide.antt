@@ -1,4 +1,4 @@
--- A text of so many bytes put into a lent place from an index on. Assumes nothing.
+-- A text of so many bytes put into a lent place from an index on.
 use Prim.Native.Nat.{ℕ, _+_}
 use mathlib.Core.Path.{_≡_}
 use mathlib.Core.List.{List}

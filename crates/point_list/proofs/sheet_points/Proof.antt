@@ -1,4 +1,4 @@
--- `point_list::sheet_points` meets its contract: the run of the sheet's value is handed on. Assumes nothing.
+-- `point_list::sheet_points` meets its contract: the run of the sheet's value is handed on.
 use mathlib.Core.Path.{sym}
 use native.Mathlib.Omega.{arith}
 use borrow.Author.Needs.{needs}

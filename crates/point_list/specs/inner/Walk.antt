@@ -1,4 +1,4 @@
--- The walk along sorted keys: where the quotient changes one point ends and the next begins. Assumes nothing.
+-- The walk along sorted keys: where the quotient changes one point ends and the next begins.
 use Prim.Native.Nat.{ℕ, zero, suc, _+_, _-_, _*_, _/_, _%_, _^_, _≤_, _<_}
 use mathlib.Core.Bool.{cond, _&&_}
 use mathlib.Core.List.{List, [], _∷_, _++_}

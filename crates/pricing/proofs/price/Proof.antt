@@ -1,4 +1,4 @@
--- `pricing::price` meets its contract: the mask of the warm segments is lent whole. Assumes nothing.
+-- `pricing::price` meets its contract: the mask of the warm segments is lent whole.
 use Prim.Native.Nat.{ℕ, _/_, _%_, _≤_}
 use mathlib.Core.Path.{sym, ap, _∙_}
 use mathlib.Core.List.{List}

@@ -1,4 +1,4 @@
--- `pricing::price_from` meets its contract. The loop's invariant: the first t steps are accepted, and c has their costs. Assumes nothing.
+-- `pricing::price_from` meets its contract. The loop's invariant: the first t steps are accepted, and c has their costs.
 use Prim.Native.Nat.{_-_, _≤_}
 use mathlib.Core.Path.{refl, sym, _∙_}
 use native.Mathlib.Numerals.{add-one}

@@ -1,4 +1,4 @@
--- `pricing::start_cost` meets its contract. The loop's invariant: the segments below i are added up. Assumes nothing.
+-- `pricing::start_cost` meets its contract. The loop's invariant: the segments below i are added up.
 use Prim.Native.Nat.{_-_}
 use native.Mathlib.Omega.{arith}
 use lib.ListN.{length}

@@ -1,4 +1,4 @@
--- `pricing::unit_where` meets its contract. Assumes nothing.
+-- `pricing::unit_where` meets its contract.
 use native.Mathlib.Omega.{arith}
 use Rattle.model.proofs.Bounds.{unit-within}
 use borrow.Author.Needs.{needs}

@@ -1,4 +1,4 @@
--- Which segments a step of a schedule holds, by its bytes and by the four numbers that have the start set. Assumes nothing.
+-- Which segments a step of a schedule holds, by its bytes and by the four numbers that have the start set.
 use Prim.Native.Nat.{ℕ, zero, suc, _+_, _*_, _/_, _%_, _<_}
 use mathlib.Core.Path.{_≡_}
 use mathlib.Core.Bool.{Bool, cond}

@@ -1,4 +1,4 @@
--- What one step keeps as its segments are passed: which entered and which left so far, and what that makes of the costs. Assumes nothing.
+-- What one step keeps as its segments are passed: which entered and which left so far, and what that makes of the costs.
 use Prim.Native.Nat.{ℕ, suc, _+_}
 use mathlib.Core.Path.{_≡_}
 use mathlib.Core.Bool.{Bool, cond, not, _&&_, _||_}

@@ -1,4 +1,4 @@
--- What is held before step 1 costs. Assumes nothing.
+-- What is held before step 1 costs.
 use Prim.Native.Nat.{ℕ}
 use mathlib.Core.Bool.{cond}
 use mathlib.Core.List.{List}

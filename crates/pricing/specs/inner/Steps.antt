@@ -1,5 +1,4 @@
 -- What pricing a schedule keeps of the steps so far: the cost of what is held, the memory and the load; and one step more.
--- Assumes nothing.
 use Prim.Native.Nat.{ℕ, suc, _*_, _<_}
 use mathlib.Core.Path.{_≡_}
 use mathlib.Core.Bool.{cond}

@@ -1,4 +1,4 @@
--- `read_sheet::all_lines` meets its contract: the length, the form line, and the answer to the rest. Assumes nothing.
+-- `read_sheet::all_lines` meets its contract: the length, the form line, and the answer to the rest.
 use mathlib.Core.Path.{sym, _∙_}
 use native.Mathlib.Omega.{arith}
 use borrow.Author.Needs.{needs}

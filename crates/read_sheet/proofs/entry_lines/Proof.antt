@@ -1,4 +1,4 @@
--- `read_sheet::entry_lines` meets its contract: the entries of form 2 on, or those of form 1. Assumes nothing.
+-- `read_sheet::entry_lines` meets its contract: the entries of form 2 on, or those of form 1.
 use mathlib.Core.Path.{refl, ap, _∙_}
 use native.Mathlib.Omega.{arith}
 use borrow.Author.Needs.{needs}

@@ -1,4 +1,4 @@
--- `read_sheet::mark_count` meets its contract: a mark for each step from form 4 on. Assumes nothing.
+-- `read_sheet::mark_count` meets its contract: a mark for each step from form 4 on.
 use borrow.Author.Tests.{le-leb, lt-leb}
 use Rattle.read_sheet.proofs.mark_count.Statement.{statement}
 use Rattle.read_sheet.proofs.mark_count.Tie as tie

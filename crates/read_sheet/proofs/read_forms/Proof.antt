@@ -1,4 +1,4 @@
--- `read_sheet::read_forms` meets its contract: the answer to what `all_lines` reads into blank lists. Assumes nothing.
+-- `read_sheet::read_forms` meets its contract: the answer to what `all_lines` reads into blank lists.
 use mathlib.Core.Path.{_≡_, sym, ap, _∙_}
 use native.Mathlib.Omega.{arith}
 use borrow.Author.Needs.{needs}

@@ -1,4 +1,4 @@
--- `read_sheet::refused` meets its contract: the refusal and the empty sheet. Assumes nothing.
+-- `read_sheet::refused` meets its contract: the refusal and the empty sheet.
 use borrow.Author.Needs.{needs}
 use Rattle.sheet.specs.Answers.{answerOf}
 use Rattle.read_sheet.proofs.refused.Statement.{statement}

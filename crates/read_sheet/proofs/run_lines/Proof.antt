@@ -1,4 +1,4 @@
--- `read_sheet::run_lines` meets its contract: the entries with their marks, and the end. Assumes nothing.
+-- `read_sheet::run_lines` meets its contract: the entries with their marks, and the end.
 use mathlib.Core.Path.{subst}
 use borrow.Author.Needs.{needs}
 use Rattle.scan.specs.inner.AtPlace.{Filled}

@@ -1,4 +1,4 @@
--- `read_sheet::sheet_lines` meets its contract: the head, and the answer to the rest. Assumes nothing.
+-- `read_sheet::sheet_lines` meets its contract: the head, and the answer to the rest.
 use mathlib.Core.Path.{refl}
 use native.Mathlib.Omega.{arith}
 use borrow.Author.Needs.{needs}

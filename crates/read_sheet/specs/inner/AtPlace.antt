@@ -1,4 +1,4 @@
--- The answer to what was read of a sheet: its lists stand in slices that were lent. Assumes nothing.
+-- The answer to what was read of a sheet: its lists stand in slices that were lent.
 use Prim.Native.Nat.{ℕ}
 use mathlib.Core.Path.{_≡_}
 use mathlib.Core.Bool.{Bool}

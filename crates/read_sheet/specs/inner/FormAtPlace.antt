@@ -1,4 +1,4 @@
--- The form line as the code reads it. Assumes nothing.
+-- The form line as the code reads it.
 use Prim.Native.Nat.{ℕ, max}
 use mathlib.Core.Bool.{cond}
 use mathlib.Core.List.{List}

@@ -1,5 +1,4 @@
 -- What a kind and a head that were read stand for: the code gives places in the bytes that it is lent, the definitions speak of bytes.
--- Assumes nothing.
 use Prim.Native.Nat.{ℕ, _≤_}
 use mathlib.Core.Path.{_≡_}
 use mathlib.Core.List.{List}

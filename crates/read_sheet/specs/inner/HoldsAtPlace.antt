@@ -1,4 +1,4 @@
--- The segment of the line hold= before, as the code keeps it: the first that may follow. Assumes nothing.
+-- The segment of the line hold= before, as the code keeps it: the first that may follow.
 use Prim.Native.Nat.{ℕ, zero, suc}
 use mathlib.Core.Option.{Option, none, some}
 

@@ -1,5 +1,4 @@
 -- What a row that was read stands for: the code gives places in the bytes that it is lent, the definitions speak of bytes.
--- Assumes nothing.
 use Prim.Native.Nat.{ℕ}
 use mathlib.Core.Path.{_≡_}
 use mathlib.Core.List.{List}

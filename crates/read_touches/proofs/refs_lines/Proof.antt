@@ -1,4 +1,4 @@
--- `read_touches::refs_lines` meets its contract: the count, and then so many touches into the entries and the marks. Assumes nothing.
+-- `read_touches::refs_lines` meets its contract: the count, and then so many touches into the entries and the marks.
 use mathlib.Core.Path.{refl}
 use native.Mathlib.Omega.{arith}
 use borrow.Author.Needs.{needs}

@@ -1,5 +1,5 @@
 -- `read_touches::short_touches` meets its contract. The loop's invariant: the touches of the lines passed are put into the entries and the
--- marks. Assumes nothing.
+-- marks.
 use Prim.Native.Nat.{_-_, _≤_}
 use mathlib.Core.Path.{_≡_, refl, sym, ap, _∙_}
 use mathlib.Core.Bool.{false}

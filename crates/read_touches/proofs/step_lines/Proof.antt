@@ -1,5 +1,4 @@
 -- `read_touches::step_lines` meets its contract: the number of steps, and then the touches into the fronts of `out` and `marks`.
--- Assumes nothing.
 use mathlib.Core.Path.{refl, sym, ap, _∙_}
 use mathlib.Core.Bool.{false}
 use Prim.Native.Nat.{_≤_}

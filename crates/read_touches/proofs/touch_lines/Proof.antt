@@ -1,5 +1,5 @@
 -- `read_touches::touch_lines` meets its contract. The loop's invariant: the touches of the lines passed are put into the entries and
--- the marks; the short lines at the front are passed before it. Assumes nothing.
+-- the marks; the short lines at the front are passed before it.
 use Prim.Native.Nat.{_-_, _≤_}
 use mathlib.Core.Path.{_≡_, sym, ap, _∙_}
 use mathlib.Core.Bool.{false}

@@ -1,5 +1,5 @@
 -- What is known while the lines of touches are read one after another into the entries and the marks, and these lines with the line refs=
--- before them. `letters` says that the form has the letter w. Assumes nothing.
+-- before them. `letters` says that the form has the letter w.
 use Prim.Native.Nat.{ℕ, _-_, _≤_}
 use mathlib.Core.Path.{_≡_}
 use mathlib.Core.Bool.{Bool, false}

@@ -1,4 +1,4 @@
--- What the results of reading one line of a touch stand for, as the code gives places in the bytes that it is lent. Assumes nothing.
+-- What the results of reading one line of a touch stand for, as the code gives places in the bytes that it is lent.
 use Prim.Native.Nat.{ℕ, _+_, _≤_, _<_}
 use mathlib.Core.Path.{_≡_}
 use mathlib.Core.Bool.{Bool, true}

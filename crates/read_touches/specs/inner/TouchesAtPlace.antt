@@ -1,4 +1,4 @@
--- What the results of reading the lines of touches stand for: entries and, in a form that has the letter w, marks. Assumes nothing.
+-- What the results of reading the lines of touches stand for: entries and, in a form that has the letter w, marks.
 use Prim.Native.Nat.{ℕ, _≤_}
 use mathlib.Core.Path.{_≡_}
 use mathlib.Core.Bool.{Bool, false, cond}

@@ -1,4 +1,4 @@
--- `after` meets its contract, by the place that `find` gives. Assumes nothing.
+-- `after` meets its contract, by the place that `find` gives.
 use borrow.Author.Needs.{needs}
 use Rattle.reader.proofs.Places.{after-within, after-none}
 use Rattle.reader.proofs.after.Statement.{statement}

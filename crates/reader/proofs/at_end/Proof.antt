@@ -1,5 +1,5 @@
 -- `at_end` meets its contract: it takes the reader apart and hands on the result of `ends_at`. All that the proof knows of `ends_at` is
--- that it meets its contract. Assumes nothing.
+-- that it meets its contract.
 use mathlib.Core.Path.{_≡_}
 use Prim.Native.Nat.{ℕ}
 use mathlib.Core.Bool.{Bool}

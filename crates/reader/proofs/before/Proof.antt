@@ -1,4 +1,4 @@
--- `before` meets its contract, by the place that `find` gives. Assumes nothing.
+-- `before` meets its contract, by the place that `find` gives.
 use mathlib.Core.Path.{sym}
 use borrow.Author.Needs.{needs}
 use lib.Seq.{length-take-le}

@@ -1,5 +1,5 @@
 -- `key` meets its contract: it takes the reader apart and hands on the result of `key_at`. All that the proof knows of `key_at` is
--- that it meets its contract. Assumes nothing.
+-- that it meets its contract.
 use mathlib.Core.Path.{_≡_}
 use Prim.Native.Nat.{ℕ}
 use mathlib.Core.List.{List}

@@ -1,4 +1,4 @@
--- `key_at` meets its contract: what stands before the first "=" of the line. Assumes nothing.
+-- `key_at` meets its contract: what stands before the first "=" of the line.
 use mathlib.Core.Path.{ap, _∙_}
 use borrow.Author.Needs.{needs}
 use Rattle.sheet.specs.Lines.{splitAt}

@@ -1,4 +1,4 @@
--- `line_at` meets its contract: what stands before the first line feed of the rest. Assumes nothing.
+-- `line_at` meets its contract: what stands before the first line feed of the rest.
 use mathlib.Core.Path.{ap, _∙_}
 use borrow.Author.Needs.{needs}
 use Rattle.reader.specs.Parts.{lineOf}

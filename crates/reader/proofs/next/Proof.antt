@@ -1,5 +1,5 @@
 -- `next` meets its contract: a walk of its MIR. It takes the reader apart, calls `place_after`, and makes a reader anew of the
--- slice and the place that the call gives. All that the proof knows of `place_after` is that it meets its contract. Assumes nothing.
+-- slice and the place that the call gives. All that the proof knows of `place_after` is that it meets its contract.
 use mathlib.Core.Path.{_≡_, refl, ap}
 use Prim.Native.Nat.{ℕ, _<_, _^_}
 use mathlib.Core.List.{List, [], _∷_}

@@ -1,4 +1,4 @@
--- `place_after` meets its contract: what follows a line is the end of the sheet. Assumes nothing.
+-- `place_after` meets its contract: what follows a line is the end of the sheet.
 use Prim.Native.Nat.{_-_}
 use mathlib.Core.Path.{ap, _∙_}
 use native.Mathlib.Omega.{arith}

@@ -1,4 +1,4 @@
--- `rest` meets its contract: past the end nothing is left. Assumes nothing.
+-- `rest` meets its contract: past the end nothing is left.
 use mathlib.Core.Path.{sym}
 use native.Mathlib.Omega.{arith}
 use borrow.Author.Needs.{needs}

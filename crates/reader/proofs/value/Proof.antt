@@ -1,5 +1,5 @@
 -- `value` meets its contract: it takes the reader apart and hands on the result of `value_at`. All that the proof knows of `value_at` is
--- that it meets its contract. Assumes nothing.
+-- that it meets its contract.
 use contract.Running.{givenOf, tables, tablesOf}
 use denote.Triple.Spec.{tripleOf}
 use denote.Triple.Table.{entered, cited}

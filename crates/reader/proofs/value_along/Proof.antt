@@ -1,6 +1,6 @@
 -- `value_along` meets its contract: a walk of its MIR, with a loop. The reader that a call returns is held in a local and passed to
 -- the next call. All that the proof knows of `new`, `next` and `value` is that each meets its contract. In a local of a body MIR erases the
--- lifetime of the struct's type, so the value is shown to have the type at `erased`. Assumes nothing.
+-- lifetime of the struct's type, so the value is shown to have the type at `erased`.
 use mathlib.Core.Path.{_≡_, refl, sym, ap, subst, _∙_}
 use Prim.Native.Nat.{ℕ, zero, suc, _+_, _<_, _^_}
 use mathlib.Core.Bool.{Bool}

@@ -1,4 +1,4 @@
--- `value_at` meets its contract: what stands after the first "=" of the line. Assumes nothing.
+-- `value_at` meets its contract: what stands after the first "=" of the line.
 use mathlib.Core.Path.{ap, _∙_}
 use borrow.Author.Needs.{needs}
 use Rattle.sheet.specs.Lines.{splitAt}

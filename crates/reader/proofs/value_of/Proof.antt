@@ -1,4 +1,4 @@
--- `value_of` meets its contract: beyond as many lines as there are bytes nothing is shown. Assumes nothing.
+-- `value_of` meets its contract: beyond as many lines as there are bytes nothing is shown.
 use native.Mathlib.Omega.{arith}
 use borrow.Author.Needs.{needs}
 use Rattle.reader.proofs.Places.{value-none}

@@ -1,4 +1,4 @@
--- `recorder::begin` meets its contract: the warm segments lent are those that the head counts. Assumes nothing.
+-- `recorder::begin` meets its contract: the warm segments lent are those that the head counts.
 use mathlib.Core.Path.{_≡_, refl, sym}
 use native.Mathlib.Omega.{arith}
 use borrow.Author.Needs.{needs}

@@ -1,4 +1,4 @@
--- What is read of a head that may be put together by hand: its sizes, its warm segments and their swap costs. Assumes nothing.
+-- What is read of a head that may be put together by hand: its sizes, its warm segments and their swap costs.
 use Prim.Native.Nat.{ℕ, min}
 use mathlib.Core.List.{List}
 use lib.ListN.{take}

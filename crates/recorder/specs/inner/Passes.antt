@@ -1,4 +1,4 @@
--- What the recorder's inner functions give: the start from a head, and the pass that goes on. Assumes nothing.
+-- What the recorder's inner functions give: the start from a head, and the pass that goes on.
 use Prim.Native.Nat.{ℕ}
 use mathlib.Core.Path.{_≡_}
 use mathlib.Core.List.{List}

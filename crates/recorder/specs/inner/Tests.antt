@@ -1,4 +1,4 @@
--- Tests at run time. Assumes nothing.
+-- Tests at run time.
 use mathlib.Core.Path.{_≡_}
 use mathlib.Core.Bool.{Bool, true}
 

@@ -1,4 +1,4 @@
--- `row_records::all_records` meets its contract: what the sheet reads as decides. Assumes nothing.
+-- `row_records::all_records` meets its contract: what the sheet reads as decides.
 use mathlib.Core.Path.{sym, _∙_}
 use borrow.Author.Needs.{needs}
 use Rattle.sheet.proofs.Accepting.{on-refused, on-accepted, stands}

@@ -1,6 +1,6 @@
 -- `row_records::filled_list` meets its contract: a walk of its MIR. The list that `zero_list` makes is lent to `row_records` for a lifetime
 -- that is made for the call, and is the function's own again when that lifetime is over. All that the proof knows of the functions that it
--- calls is that each meets its contract. Assumes nothing.
+-- calls is that each meets its contract.
 use mathlib.Core.Path.{_≡_, refl, sym, ap, subst, _∙_}
 use Prim.Native.Nat.{ℕ}
 use mathlib.Core.List.{List, [], _∷_}

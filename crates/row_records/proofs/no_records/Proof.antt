@@ -1,4 +1,4 @@
--- `row_records::no_records` meets its contract: the figures beside the refusal are zero. Assumes nothing.
+-- `row_records::no_records` meets its contract: the figures beside the refusal are zero.
 use borrow.Author.Needs.{needs}
 use Rattle.row_records.specs.Held.{noRecords}
 use Rattle.row_records.proofs.no_records.Statement.{statement}

@@ -1,6 +1,6 @@
 -- `row_records` meets its contract: a walk of its MIR, with a loop. All that the proof knows of `all_records`, `count`, `record_at` and
 -- `answer_of` is that each meets its contract. The borrow of the list is opened once, before the loop, and closed once, after it; in
--- between, the list has the records of the rows gone through at its front. Assumes nothing.
+-- between, the list has the records of the rows gone through at its front.
 use mathlib.Core.Path.{_≡_, refl, sym, ap, subst, _∙_}
 use Prim.Native.Nat.{ℕ, zero, suc, _+_, _*_, _<_, _≤_, _^_}
 use mathlib.Core.Bool.{Bool}

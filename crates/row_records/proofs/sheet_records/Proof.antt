@@ -1,4 +1,4 @@
--- `row_records::sheet_records` meets its contract: the length of the list is tested first. Assumes nothing.
+-- `row_records::sheet_records` meets its contract: the length of the list is tested first.
 use native.Mathlib.Omega.{arith}
 use borrow.Author.Needs.{needs}
 use borrow.Author.Tests.{le-leb, lt-leb}

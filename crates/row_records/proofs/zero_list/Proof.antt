@@ -1,4 +1,4 @@
--- `row_records::zero_list` meets its contract: each record is zero. Assumes nothing.
+-- `row_records::zero_list` meets its contract: each record is zero.
 use mathlib.Core.Path.{refl}
 use borrow.Author.Needs.{needs}
 use Rattle.model.specs.Rows.{zeroFigures}

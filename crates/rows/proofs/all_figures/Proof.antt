@@ -1,4 +1,4 @@
--- `rows::all_figures` meets its contract: the head and the entries of a standing sheet are those of its value. Assumes nothing.
+-- `rows::all_figures` meets its contract: the head and the entries of a standing sheet are those of its value.
 use mathlib.Core.Path.{sym}
 use native.Mathlib.Omega.{arith}
 use lib.Seq.{length-take-le}

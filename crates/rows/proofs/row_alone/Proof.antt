@@ -1,4 +1,4 @@
--- `rows::row_alone` meets its contract: the row alone is within the limits, and it has the figures. Assumes nothing.
+-- `rows::row_alone` meets its contract: the row alone is within the limits, and it has the figures.
 use mathlib.Core.Path.{sym, ap, _∙_}
 use native.Mathlib.Omega.{arith}
 use borrow.Author.Needs.{needs}

@@ -1,4 +1,4 @@
--- `rows::sheet_figures` meets its contract: the row is tested, then its figures are worked out. Assumes nothing.
+-- `rows::sheet_figures` meets its contract: the row is tested, then its figures are worked out.
 use native.Mathlib.Omega.{arith}
 use borrow.Author.Needs.{needs}
 use borrow.Author.Tests.{le-ltb, lt-ltb}

@@ -1,5 +1,4 @@
 -- What a result of the reading code stands for: the code gives places in the bytes that it is lent, the definitions speak of bytes.
--- Assumes nothing.
 use Prim.Native.Nat.{ℕ, suc, _+_, _-_, _≤_, _<_}
 use mathlib.Core.Path.{_≡_}
 use mathlib.Core.Bool.{cond}

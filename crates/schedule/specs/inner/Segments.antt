@@ -1,4 +1,4 @@
--- The segment of an entry. Assumes nothing.
+-- The segment of an entry.
 use Prim.Native.Nat.{ℕ}
 use mathlib.Core.Bool.{cond}
 use lib.Dec.{ltb}

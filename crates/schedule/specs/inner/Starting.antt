@@ -1,4 +1,4 @@
--- The bytes of the segments that are held before step 1. Assumes nothing.
+-- The bytes of the segments that are held before step 1.
 use Prim.Native.Nat.{ℕ, _+_, _*_, _^_}
 use mathlib.Core.Bool.{cond}
 use mathlib.Core.List.{List}

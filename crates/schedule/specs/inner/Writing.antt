@@ -1,5 +1,4 @@
 -- What the functions that write the optimal schedule give: the marks of kept touches, and the bytes of a step with one segment changed.
--- Assumes nothing.
 use Prim.Native.Nat.{ℕ, _+_, _-_, _*_, _/_, _%_, _^_, _<_}
 use mathlib.Core.Path.{_≡_}
 use mathlib.Core.Bool.{Bool, false, cond}

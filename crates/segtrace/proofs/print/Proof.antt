@@ -1,4 +1,4 @@
--- `segtrace::print` is safe: what is printed lies within the buffer. Assumes nothing.
+-- `segtrace::print` is safe: what is printed lies within the buffer.
 use borrow.Author.Needs.{needs}
 use mathlib.Core.Path.{sym}
 use native.Mathlib.Omega.{arith}

@@ -1,4 +1,4 @@
--- `segtrace::read_input` is safe and ends, and the count that it gives lies within the buffer. Assumes nothing.
+-- `segtrace::read_input` is safe and ends, and the count that it gives lies within the buffer.
 use Prim.Native.Nat.{_-_, _^_, _≤_, _<_}
 use mathlib.Core.Path.{_≡_}
 use native.Mathlib.Omega.{arith}

@@ -1,5 +1,5 @@
 -- `sheet_schedules::sheet_plan` meets its contract: the row and the room are tested, and the schedule that is made for the sheet's form is
--- written. Assumes nothing.
+-- written.
 use Prim.Native.Nat.{_*_, _≤_, _<_}
 use mathlib.Core.Path.{sym, _∙_}
 use native.Mathlib.Omega.{arith}

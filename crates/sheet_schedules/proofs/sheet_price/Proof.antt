@@ -1,5 +1,5 @@
 -- `sheet_schedules::sheet_price` meets its contract: the row is tested, and the schedule is priced by the sheet's value, with its stores
--- where there are marks. Assumes nothing.
+-- where there are marks.
 use Prim.Native.Nat.{_<_}
 use mathlib.Core.Path.{_≡_, sym, _∙_}
 use native.Mathlib.Omega.{arith}

@@ -1,4 +1,4 @@
--- `sheet_schedules::stores_added` meets its contract: the load of the stores is added, and the total is priced again. Assumes nothing.
+-- `sheet_schedules::stores_added` meets its contract: the load of the stores is added, and the total is priced again.
 use Prim.Native.Nat.{_^_, _<_}
 use native.Mathlib.Omega.{arith}
 use Rattle.sheet_schedules.proofs.Prices.{parts-within, plain-within, stores-at}

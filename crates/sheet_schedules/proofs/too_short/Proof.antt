@@ -1,4 +1,4 @@
--- `sheet_schedules::too_short` meets its contract: the room in steps decides. Assumes nothing.
+-- `sheet_schedules::too_short` meets its contract: the room in steps decides.
 use Rattle.sheet_schedules.proofs.PlanResults.{room-test}
 use Rattle.sheet_schedules.proofs.too_short.Statement.{statement}
 use Rattle.sheet_schedules.proofs.too_short.Tie as tie

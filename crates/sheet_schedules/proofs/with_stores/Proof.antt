@@ -1,4 +1,4 @@
--- `sheet_schedules::with_stores` meets its contract: a refusal stays, and else the stores are added. Assumes nothing.
+-- `sheet_schedules::with_stores` meets its contract: a refusal stays, and else the stores are added.
 use mathlib.Core.Path.{_∙_}
 use borrow.Author.Needs.{needs}
 use Rattle.sheet_schedules.proofs.Prices.{refusal-stays}

@@ -1,4 +1,4 @@
--- The price of a schedule without stores, by the parts of a sheet that the stores are counted from. Assumes nothing.
+-- The price of a schedule without stores, by the parts of a sheet that the stores are counted from.
 use Prim.Native.Nat.{ℕ}
 use mathlib.Core.Path.{_≡_}
 use mathlib.Core.Bool.{Bool}

@@ -1,4 +1,4 @@
--- `either` meets its contract: the test picks the case. Assumes nothing.
+-- `either` meets its contract: the test picks the case.
 use Rattle.store_plan.proofs.either.Statement.{statement}
 use Rattle.store_plan.proofs.either.Tie as tie
 

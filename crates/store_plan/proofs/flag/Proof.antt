@@ -1,4 +1,4 @@
--- `flag` meets its contract: the test picks the case. Assumes nothing.
+-- `flag` meets its contract: the test picks the case.
 use Rattle.store_plan.proofs.flag.Statement.{statement}
 use Rattle.store_plan.proofs.flag.Tie as tie
 

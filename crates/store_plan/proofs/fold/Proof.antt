@@ -1,4 +1,4 @@
--- `fold` meets its contract: the invariant of its loop is `Folding`, the measure the steps that are left. Assumes nothing.
+-- `fold` meets its contract: the invariant of its loop is `Folding`, the measure the steps that are left.
 use Prim.Native.Nat.{_-_}
 use mathlib.Core.Path.{refl}
 use native.Mathlib.Omega.{arith}
@@ -24,8 +24,8 @@ loop-holds : tie.Need-loop-holds Inv-loop μ-loop
 loop-holds c =
     let s = c .before .before .before .before in
     let a = s .args in
-    folding-start (a .segments) (now (a .refs)) (marksOf (now (a .marks))) (a .t4) (s .pre .segs-within) (s .pre .steps-within) (c .before .no-flags .result)
-    (c .no-decisions .result) (c .before .no-flags .ensures) (c .no-decisions .ensures)
+    folding-start (a .segments) (now (a .refs)) (marksOf (now (a .marks))) (a .t4) (s .pre .segs-within) (s .pre .steps-within)
+    (c .before .no-flags .result) (c .no-decisions .result) (c .before .no-flags .ensures) (c .no-decisions .ensures)
 
 cast-i : tie.Need-cast-i Inv-loop μ-loop
 cast-i c = omega (arith, c .shared-slice-known3 .given (c .before .before .loop .t - 1))
@@ -37,8 +37,8 @@ loop-again c =
     let s = Entry turn in
     let a = s .args in
     let l = turn .before .loop in
-    folding-touch (a .segments) (now (a .refs)) (marksOf (now (a .marks))) (a .t4) (s .pre .segs-within) (s .pre .steps-within) (l .flags) (l .on) (l .t)
-    (l .inv) (turn .loop-test .taken) (getD (now (a .refs)) (l .t - 1) 0) (c .before .before .flag .result) (c .either .result) refl
+    folding-touch (a .segments) (now (a .refs)) (marksOf (now (a .marks))) (a .t4) (s .pre .segs-within) (s .pre .steps-within)
+    (l .flags) (l .on) (l .t) (l .inv) (turn .loop-test .taken) (getD (now (a .refs)) (l .t - 1) 0) (c .before .before .flag .result) (c .either .result) refl
     (touch .if1 .taken) (c .before .before .flag .ensures) (c .either .ensures)
 
 loop-again-2 : tie.Need-loop-again-2 Inv-loop μ-loop
@@ -47,16 +47,16 @@ loop-again-2 c =
     let s = Entry turn in
     let a = s .args in
     let l = turn .before .loop in
-    folding-idle (a .segments) (now (a .refs)) (marksOf (now (a .marks))) (a .t4) (s .pre .segs-within) (s .pre .steps-within) (l .flags) (l .on) (l .t)
-    (l .inv) (turn .loop-test .taken) (c .if1 .left)
+    folding-idle (a .segments) (now (a .refs)) (marksOf (now (a .marks))) (a .t4) (s .pre .segs-within) (s .pre .steps-within)
+    (l .flags) (l .on) (l .t) (l .inv) (turn .loop-test .taken) (c .if1 .left)
 
 returns : tie.Need-returns Inv-loop μ-loop
 returns c =
     let s = c .before .before .before .before .before .before in
     let a = s .args in
     let l = c .before .loop in
-    folding-end (a .segments) (now (a .refs)) (marksOf (now (a .marks))) (a .t4) (s .pre .segs-within) (s .pre .steps-within) (l .flags) (l .on) (l .t)
-    (l .inv) (c .loop-test .left)
+    folding-end (a .segments) (now (a .refs)) (marksOf (now (a .marks))) (a .t4) (s .pre .segs-within) (s .pre .steps-within)
+    (l .flags) (l .on) (l .t) (l .inv) (c .loop-test .left)
 
 pub fold-spec : {M : Type 1} → statement M
 fold-spec =

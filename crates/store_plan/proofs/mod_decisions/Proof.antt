@@ -1,5 +1,4 @@
 -- `mod_decisions` meets its contract: the decisions folded from what is found are those of the schedule of the least total.
--- Assumes nothing.
 use mathlib.Core.Path.{refl}
 use denote.Ref.{now}
 use borrow.Author.Needs.{needs}

@@ -1,4 +1,4 @@
--- `write_modified` meets its contract: the schedule by the decisions is the one of the least total. Assumes nothing.
+-- `write_modified` meets its contract: the schedule by the decisions is the one of the least total.
 use Prim.Native.Nat.{_*_}
 use mathlib.Core.Path.{refl, sym, ap, _∙_}
 use mathlib.Core.List.{_++_}

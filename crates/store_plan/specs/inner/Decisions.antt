@@ -1,5 +1,5 @@
 -- What the two passes that decide the touches give: the kept reuses and the modifying touches that belong to the stay of the one before,
--- what all of these add, and then for each touch whether it finds its segment held. Assumes nothing.
+-- what all of these add, and then for each touch whether it finds its segment held.
 use Prim.Native.Nat.{ℕ, _-_, _≤_, _<_}
 use mathlib.Core.Path.{_≡_}
 use mathlib.Core.Bool.{Bool, false, _||_}

@@ -1,4 +1,4 @@
--- The modtotals of all rows of a run, as they are held by value, and whether any touch modifies. Assumes nothing.
+-- The modtotals of all rows of a run, as they are held by value, and whether any touch modifies.
 use Prim.Native.Nat.{ℕ}
 use mathlib.Core.Bool.{Bool, false, cond, _||_}
 use mathlib.Core.List.{List, [], _∷_}

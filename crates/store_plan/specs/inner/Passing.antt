@@ -1,4 +1,4 @@
--- What the pass over a schedule's touches looks at, and of which runs it speaks. Assumes nothing.
+-- What the pass over a schedule's touches looks at, and of which runs it speaks.
 use Prim.Native.Nat.{ℕ, zero, suc, _+_, _*_, _/_, _%_}
 use mathlib.Core.Path.{_≡_}
 use mathlib.Core.Bool.{Bool, false}

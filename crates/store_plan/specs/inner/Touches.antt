@@ -1,5 +1,5 @@
 -- What one touch of a pass gives, from the two numbers that the pass keeps of each segment: its mark in the table of last touches and the
--- excess since its last modifying touch. Assumes nothing.
+-- excess since its last modifying touch.
 use Prim.Native.Nat.{ℕ, suc, _+_, _-_, _*_, min}
 use mathlib.Core.Bool.{Bool, false, cond}
 use mathlib.Core.List.{List}

@@ -1,5 +1,4 @@
 // One touch of a pass over the references: what it adds, what it decides, and the excess since the last modifying touch of its segment.
-// Nothing is assumed.
 use model::Kind;
 use model::PriceRow;
 use model::Priced;

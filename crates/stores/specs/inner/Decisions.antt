@@ -1,5 +1,4 @@
 -- The schedule of the least total by one decision of each touch, as a writer makes it: whether the touch finds its segment held.
--- Assumes nothing.
 use Prim.Native.Nat.{ℕ, _-_}
 use mathlib.Core.Bool.{Bool, _||_}
 use Rattle.model.specs.Traces.{Trace, steps}

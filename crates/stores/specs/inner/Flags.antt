@@ -1,4 +1,4 @@
--- What a pricer keeps of each segment to tell whether it is modified: a flag that changes only at touches. Assumes nothing.
+-- What a pricer keeps of each segment to tell whether it is modified: a flag that changes only at touches.
 use Prim.Native.Nat.{ℕ, zero, suc}
 use mathlib.Core.Bool.{Bool, false, cond, _&&_, _||_}
 use Rattle.model.specs.Traces.{Trace, touched}

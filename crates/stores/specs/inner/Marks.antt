@@ -1,5 +1,5 @@
 -- The stores of a schedule by two methods: w at the first modifying touch of a stay, as a pricer counts it on its way, and w where the stay
--- ends. That both give `storesOf` is proved (proofs/Stays.antt, proofs/Ends.antt). Assumes nothing.
+-- ends. That both give `storesOf` is proved (proofs/Stays.antt, proofs/Ends.antt).
 use Prim.Native.Nat.{ℕ, zero, suc, _+_}
 use mathlib.Core.Bool.{Bool, false, cond, not, _&&_, _||_}
 use Rattle.model.specs.Sums.{sum}

@@ -1,4 +1,4 @@
--- `text::number_length` meets its contract: a number of 64 bits has at most 20 digits. Assumes nothing.
+-- `text::number_length` meets its contract: a number of 64 bits has at most 20 digits.
 use Prim.Native.Nat.{_≤_}
 use native.Mathlib.Omega.{arith}
 use borrow.Author.Needs.{needs}

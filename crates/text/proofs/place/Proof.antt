@@ -1,4 +1,4 @@
--- `text::place` meets its contract: the lengths decide, and then the text is put. Assumes nothing.
+-- `text::place` meets its contract: the lengths decide, and then the text is put.
 use native.Mathlib.Omega.{arith}
 use borrow.Author.Needs.{needs}
 use Rattle.model.proofs.Places.{text-short}

@@ -1,4 +1,4 @@
--- `text::put` meets its contract. The loop's invariant: the first `i` bytes of the text are put from `at` on. Assumes nothing.
+-- `text::put` meets its contract. The loop's invariant: the first `i` bytes of the text are put from `at` on.
 use Prim.Native.Nat.{_+_, _-_}
 use native.Mathlib.Nat.{add-zero}
 use native.Mathlib.Omega.{arith}

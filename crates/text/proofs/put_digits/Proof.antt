@@ -1,4 +1,4 @@
--- `text::put_digits` meets its contract: the digits are put, and then the byte. Assumes nothing.
+-- `text::put_digits` meets its contract: the digits are put, and then the byte.
 use Prim.Native.Nat.{_+_}
 use mathlib.Core.Path.{_≡_}
 use mathlib.Core.List.{[], _∷_, _++_}

@@ -1,4 +1,4 @@
--- `text::put_number` meets its contract: the key is put, and then the digits and the line feed. Assumes nothing.
+-- `text::put_number` meets its contract: the key is put, and then the digits and the line feed.
 use native.Mathlib.Omega.{arith}
 use borrow.Author.Needs.{needs}
 use lib.ListN.{length-append}

@@ -1,4 +1,4 @@
--- A text put into a lent place from an index on, and how long a text is. Assumes nothing.
+-- A text put into a lent place from an index on, and how long a text is.
 use Prim.Native.Nat.{ℕ, _+_, _≤_}
 use mathlib.Core.Path.{_≡_}
 use mathlib.Core.List.{List, _++_}

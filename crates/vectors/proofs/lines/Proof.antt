@@ -1,4 +1,4 @@
--- `vectors::lines` is safe and ends: each line is passed. Assumes nothing.
+-- `vectors::lines` is safe and ends: each line is passed.
 use Prim.Native.Nat.{_-_}
 use mathlib.Core.Path.{_≡_}
 use lib.ListN.{length}

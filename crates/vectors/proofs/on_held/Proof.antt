@@ -1,4 +1,4 @@
--- `vectors::on_held` is safe: each part lies within its array. Assumes nothing.
+-- `vectors::on_held` is safe: each part lies within its array.
 use mathlib.Core.Path.{sym}
 use native.Mathlib.Omega.{arith}
 use lib.Seq.{length-take-le}

@@ -1,4 +1,4 @@
--- `window_list::first_of` meets its contract: the first verdict decides whether there is a second. Assumes nothing.
+-- `window_list::first_of` meets its contract: the first verdict decides whether there is a second.
 use mathlib.Core.Path.{refl}
 use borrow.Author.Needs.{needs}
 use Rattle.window_list.proofs.first_of.Statement.{statement}

@@ -1,4 +1,4 @@
--- `window_list::sheet_windows` meets its contract: the head is tested, and the list of the sheet's value is written. Assumes nothing.
+-- `window_list::sheet_windows` meets its contract: the head is tested, and the list of the sheet's value is written.
 use mathlib.Core.Path.{_≡_, sym, _∙_}
 use native.Mathlib.Omega.{arith}
 use borrow.Author.Needs.{needs}

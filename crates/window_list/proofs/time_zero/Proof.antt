@@ -1,4 +1,4 @@
--- `window_list::time_zero` meets its contract: the kind is tested, then a. Assumes nothing.
+-- `window_list::time_zero` meets its contract: the kind is tested, then a.
 use mathlib.Core.Path.{sym}
 use borrow.Author.Needs.{needs}
 use Rattle.window_list.proofs.Answers.{time-space, time-weight, time-none}

@@ -1,4 +1,4 @@
--- `window_list::windows_verdict` meets its contract: the kind and a come first, then the sizes and the warm segments. Assumes nothing.
+-- `window_list::windows_verdict` meets its contract: the kind and a come first, then the sizes and the warm segments.
 use mathlib.Core.Path.{sym}
 use native.Mathlib.Omega.{arith}
 use borrow.Author.Needs.{needs}

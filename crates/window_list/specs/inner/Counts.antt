@@ -1,4 +1,4 @@
--- Reuses and end intervals counted by length, as the code holds them. Assumes nothing.
+-- Reuses and end intervals counted by length, as the code holds them.
 use Prim.Native.Nat.{ℕ, zero, suc, _+_, _-_, _<_}
 use mathlib.Core.Path.{_≡_}
 use mathlib.Core.Bool.{cond}

@@ -1,4 +1,4 @@
--- `write_sheet::form_length` meets its contract: a sheet has a form line from form 2 on. Assumes nothing.
+-- `write_sheet::form_length` meets its contract: a sheet has a form line from form 2 on.
 use mathlib.Core.Path.{ap}
 use native.Mathlib.Omega.{arith}
 use borrow.Author.Needs.{needs}

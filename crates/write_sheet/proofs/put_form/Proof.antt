@@ -1,4 +1,4 @@
--- `write_sheet::put_form` meets its contract: nothing is put before form 2. Assumes nothing.
+-- `write_sheet::put_form` meets its contract: nothing is put before form 2.
 use mathlib.Core.Path.{sym, ap}
 use native.Mathlib.Omega.{arith}
 use borrow.Author.Needs.{needs}

@@ -1,4 +1,4 @@
--- `write_sheet::put_run` meets its contract, by the form. Assumes nothing.
+-- `write_sheet::put_run` meets its contract, by the form.
 use mathlib.Core.Path.{sym, ap}
 use native.Mathlib.Omega.{arith}
 use borrow.Author.Needs.{needs}

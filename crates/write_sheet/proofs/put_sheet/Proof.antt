@@ -1,5 +1,5 @@
 -- `write_sheet::put_sheet` meets its contract: the counts are cut off at the arrays' lengths, which changes no value, and the parts are put
--- one after another. Assumes nothing.
+-- one after another.
 use mathlib.Core.Path.{_≡_, sym, ap, _∙_}
 use native.Mathlib.Omega.{arith}
 use borrow.Author.Needs.{needs}

@@ -1,4 +1,4 @@
--- `write_sheet::run_length` meets its contract, by the form. Assumes nothing.
+-- `write_sheet::run_length` meets its contract, by the form.
 use mathlib.Core.Path.{ap}
 use native.Mathlib.Omega.{arith}
 use borrow.Author.Needs.{needs}

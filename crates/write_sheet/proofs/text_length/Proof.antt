@@ -1,5 +1,5 @@
 -- `write_sheet::text_length` meets its contract: the counts are cut off at the arrays' lengths, which changes no value, and the lengths of
--- the parts are added. Assumes nothing.
+-- the parts are added.
 use mathlib.Core.Path.{_≡_, sym, ap, _∙_}
 use native.Mathlib.Omega.{arith}
 use borrow.Author.Needs.{needs}

@@ -1,4 +1,4 @@
--- `write_sheet::write` meets its contract: the text's length decides, and then the text is put. Assumes nothing.
+-- `write_sheet::write` meets its contract: the text's length decides, and then the text is put.
 use native.Mathlib.Omega.{arith}
 use borrow.Author.Needs.{needs}
 use Rattle.model.proofs.Places.{text-short}

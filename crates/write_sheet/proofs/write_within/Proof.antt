@@ -1,4 +1,4 @@
--- `write_sheet::write_within` meets its contract: a place of so many bytes has room for the text. Assumes nothing.
+-- `write_sheet::write_within` meets its contract: a place of so many bytes has room for the text.
 use native.Mathlib.Omega.{arith}
 use borrow.Author.Needs.{needs}
 use Rattle.text.proofs.Placing.{text-put}

@@ -1,4 +1,4 @@
--- The lines in which the head of a sheet is written. Assumes nothing.
+-- The lines in which the head of a sheet is written.
 use Prim.Native.Nat.{ℕ}
 use mathlib.Core.Bool.{cond}
 use mathlib.Core.List.{List, [], _++_}

@@ -1,4 +1,4 @@
--- The parts in which a sheet is written. Assumes nothing.
+-- The parts in which a sheet is written.
 use Prim.Native.Nat.{ℕ}
 use mathlib.Core.Bool.{Bool, cond}
 use mathlib.Core.List.{List, []}

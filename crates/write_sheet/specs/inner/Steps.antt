@@ -1,4 +1,4 @@
--- The lines in which the entries of form 2 on are written. Assumes nothing.
+-- The lines in which the entries of form 2 on are written.
 use Prim.Native.Nat.{ℕ, _≤_}
 use mathlib.Core.Path.{_≡_}
 use mathlib.Core.Bool.{Bool}

@@ -1,4 +1,4 @@
--- `curves::lru` meets its contract: what the sheet reads as decides. Assumes nothing.
+-- `curves::lru` meets its contract: what the sheet reads as decides.
 use borrow.Author.Needs.{needs}
 use Rattle.sheet.proofs.Accepting.{stands}
 use Rattle.analyser.proofs.LookedAt.{lru-refused, lru-accepted}

@@ -1,4 +1,4 @@
--- `curves::lru_plain` meets its contract: what the sheet reads as decides. Assumes nothing.
+-- `curves::lru_plain` meets its contract: what the sheet reads as decides.
 use borrow.Author.Needs.{needs}
 use Rattle.lru.specs.Answers.{plainFor}
 use Rattle.analyser.specs.Curves.{lruPlainResult}
@@ -17,7 +17,8 @@ unfolding lruPlainResult
 returns c =
     let r = c .before .before .before .before .before in
     let a = c .before .before .before .before .before .before .before .before .args in
-    result-refused (readSheet (a .bytes .now)) (r .read-forms .result) (r .read-forms .ensures) (a .out .now) plainFor (c .refused .ensures) (cc)
+    result-refused (readSheet (a .bytes .now)) (r .read-forms .result) (r .read-forms .ensures) (a .out .now) plainFor
+    (c .refused .ensures) (cc)
 
 returns-2 : tie.Need-returns-2
 unfolding lruPlainResult

@@ -1,4 +1,4 @@
--- `curves::points` meets its contract: what the sheet reads as decides. Assumes nothing.
+-- `curves::points` meets its contract: what the sheet reads as decides.
 use borrow.Author.Needs.{needs}
 use Rattle.points.specs.Answers.{pointsFor}
 use Rattle.analyser.specs.Curves.{pointsResult}
@@ -17,15 +17,16 @@ unfolding pointsResult
 returns c =
     let r = c .before .before .before .before .before in
     let a = c .before .before .before .before .before .before .before .before .args in
-    result-refused (readSheet (a .bytes .now)) (r .read-forms .result) (r .read-forms .ensures) (a .out .now) pointsFor (c .refused .ensures) (cc)
+    result-refused (readSheet (a .bytes .now)) (r .read-forms .result) (r .read-forms .ensures) (a .out .now) pointsFor
+    (c .refused .ensures) (cc)
 
 returns-2 : tie.Need-returns-2
 unfolding pointsResult
 returns-2 c =
     let r = c .before .before .before .before .before .before .before in
     let a = c .before .before .before .before .before .before .before .before .before .before .args in
-    result-accepted (readSheet (a .bytes .now)) (r .read-forms .result) (r .read-forms .ensures) pointsFor (c .before .before .sheet-points .ensures)
-    (cc)
+    result-accepted (readSheet (a .bytes .now)) (r .read-forms .result) (r .read-forms .ensures) pointsFor
+    (c .before .before .sheet-points .ensures) (cc)
 
 pub points-spec : {M : Type 1} → statement M
 points-spec =

@@ -1,4 +1,4 @@
--- `curves::windows` meets its contract: what the sheet reads as decides. Assumes nothing.
+-- `curves::windows` meets its contract: what the sheet reads as decides.
 use borrow.Author.Needs.{needs}
 use Rattle.windows.specs.Answers.{windowsFor}
 use Rattle.analyser.specs.Curves.{windowsResult}
@@ -17,7 +17,8 @@ unfolding windowsResult
 returns c =
     let r = c .before .before .before .before .before in
     let a = c .before .before .before .before .before .before .before .before .args in
-    result-refused (readSheet (a .bytes .now)) (r .read-forms .result) (r .read-forms .ensures) (a .out .now) windowsFor (c .refused .ensures) (cc)
+    result-refused (readSheet (a .bytes .now)) (r .read-forms .result) (r .read-forms .ensures) (a .out .now) windowsFor
+    (c .refused .ensures) (cc)
 
 returns-2 : tie.Need-returns-2
 unfolding windowsResult

@@ -1,4 +1,4 @@
--- `figures::bill` meets its contract: what the sheet reads as decides. Assumes nothing.
+-- `figures::bill` meets its contract: what the sheet reads as decides.
 use mathlib.Core.Path.{sym, _∙_}
 use borrow.Author.Needs.{needs}
 use Rattle.tariff.specs.Billing.{noBill, billFor, tariffOf}

@@ -1,4 +1,4 @@
--- `figures::figures` meets its contract: what the sheet reads as decides. Assumes nothing.
+-- `figures::figures` meets its contract: what the sheet reads as decides.
 use mathlib.Core.Path.{sym, _∙_}
 use borrow.Author.Needs.{needs}
 use Rattle.model.specs.RowAnswers.{noFigures, figuresOf}

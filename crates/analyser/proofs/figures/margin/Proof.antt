@@ -1,4 +1,4 @@
--- `figures::margin` meets its contract: what the sheet reads as decides. Assumes nothing.
+-- `figures::margin` meets its contract: what the sheet reads as decides.
 use mathlib.Core.Path.{sym, _∙_}
 use borrow.Author.Needs.{needs}
 use Rattle.model.specs.Margins.{noMargin, marginFor}

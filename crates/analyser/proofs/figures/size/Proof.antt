@@ -1,4 +1,4 @@
--- `figures::size` meets its contract: what the sheet reads as decides. Assumes nothing.
+-- `figures::size` meets its contract: what the sheet reads as decides.
 use mathlib.Core.Path.{sym, _∙_}
 use borrow.Author.Needs.{needs}
 use Rattle.model.specs.Sizing.{sizedRow}

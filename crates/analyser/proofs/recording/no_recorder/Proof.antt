@@ -1,4 +1,4 @@
--- `analyser::recording::no_recorder` meets its contract: the recorder beside the refusal is the empty one. Assumes nothing.
+-- `analyser::recording::no_recorder` meets its contract: the recorder beside the refusal is the empty one.
 use borrow.Author.Needs.{needs}
 use Rattle.analyser.proofs.recording.no_recorder.Statement.{statement}
 use Rattle.analyser.proofs.recording.no_recorder.Tie as tie

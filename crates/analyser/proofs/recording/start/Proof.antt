@@ -1,4 +1,4 @@
--- `analyser::recording::start` meets its contract: what the sheet reads as decides. Assumes nothing.
+-- `analyser::recording::start` meets its contract: what the sheet reads as decides.
 use mathlib.Core.Path.{_≡_, sym, ap, _∙_}
 use native.Mathlib.Omega.{arith}
 use borrow.Author.Needs.{needs}

@@ -1,4 +1,4 @@
--- `schedules::modified_schedule` meets its contract: what the sheet reads as decides. Assumes nothing.
+-- `schedules::modified_schedule` meets its contract: what the sheet reads as decides.
 use native.Mathlib.Omega.{arith}
 use borrow.Author.Needs.{needs}
 use Rattle.stores.specs.Plans.{modifiedFor}

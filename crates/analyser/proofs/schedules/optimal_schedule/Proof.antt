@@ -1,4 +1,4 @@
--- `schedules::optimal_schedule` meets its contract: what the sheet reads as decides. Assumes nothing.
+-- `schedules::optimal_schedule` meets its contract: what the sheet reads as decides.
 use native.Mathlib.Omega.{arith}
 use borrow.Author.Needs.{needs}
 use Rattle.stores.specs.Plans.{scheduleFor}

@@ -1,4 +1,4 @@
--- `schedules::price` meets its contract: what the sheet reads as decides. Assumes nothing.
+-- `schedules::price` meets its contract: what the sheet reads as decides.
 use mathlib.Core.Path.{sym, _∙_}
 use borrow.Author.Needs.{needs}
 use Rattle.model.specs.Pricing.{noPrice}

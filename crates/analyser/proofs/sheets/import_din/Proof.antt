@@ -1,4 +1,4 @@
--- `sheets::import_din` meets its contract: what the sheet that lends its rows reads as decides. Assumes nothing.
+-- `sheets::import_din` meets its contract: what the sheet that lends its rows reads as decides.
 use mathlib.Core.Path.{ap}
 use borrow.Author.Needs.{needs}
 use Rattle.model.specs.Values.{sheetOf, valueOf}

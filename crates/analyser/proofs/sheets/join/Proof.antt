@@ -1,4 +1,4 @@
--- `sheets::join` meets its contract: what the first sheet reads as decides. Assumes nothing.
+-- `sheets::join` meets its contract: what the first sheet reads as decides.
 use borrow.Author.Needs.{needs}
 use native.Mathlib.Omega.{arith}
 use Rattle.sheet.specs.Reading.{readForms}

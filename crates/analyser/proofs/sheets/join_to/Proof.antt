@@ -1,4 +1,4 @@
--- `sheets::join_to` meets its contract: what the second sheet reads as decides. Assumes nothing.
+-- `sheets::join_to` meets its contract: what the second sheet reads as decides.
 use borrow.Author.Needs.{needs}
 use native.Mathlib.Omega.{arith}
 use Rattle.model.specs.Values.{valueOf}

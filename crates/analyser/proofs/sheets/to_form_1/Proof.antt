@@ -1,4 +1,4 @@
--- `sheets::to_form_1` meets its contract: what the sheet reads as decides. Assumes nothing.
+-- `sheets::to_form_1` meets its contract: what the sheet reads as decides.
 use borrow.Author.Needs.{needs}
 use native.Mathlib.Omega.{arith}
 use Rattle.sheet.specs.Forms.{toForm1}

@@ -1,4 +1,4 @@
--- `sheets::to_form_2` meets its contract: what the sheet reads as decides. Assumes nothing.
+-- `sheets::to_form_2` meets its contract: what the sheet reads as decides.
 use borrow.Author.Needs.{needs}
 use Rattle.sheet.specs.Forms.{toForm2}
 use Rattle.analyser.specs.Sheets.{toForm2Result}

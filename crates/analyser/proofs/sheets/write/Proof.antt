@@ -1,4 +1,4 @@
--- `sheets::write` meets its contract: the writer's own says the same. Assumes nothing.
+-- `sheets::write` meets its contract: the writer's own says the same.
 use borrow.Author.Needs.{needs}
 use Rattle.analyser.proofs.sheets.write.Statement.{statement}
 use Rattle.analyser.proofs.sheets.write.Tie as tie

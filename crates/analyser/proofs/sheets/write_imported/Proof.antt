@@ -1,4 +1,4 @@
--- `sheets::write_imported` meets its contract: what importing comes to decides. Assumes nothing.
+-- `sheets::write_imported` meets its contract: what importing comes to decides.
 use borrow.Author.Needs.{needs}
 use Rattle.model.specs.Places.{gives}
 use Rattle.model.specs.Values.{headValueOf}

@@ -1,4 +1,4 @@
--- `sheets::write_joint` meets its contract: what joining comes to decides. Assumes nothing.
+-- `sheets::write_joint` meets its contract: what joining comes to decides.
 use mathlib.Core.Path.{ap}
 use mathlib.Core.List.{[]}
 use native.Mathlib.Omega.{arith}

@@ -1,4 +1,4 @@
--- `texts::listing` meets its contract: what the sheet reads as decides. Assumes nothing.
+-- `texts::listing` meets its contract: what the sheet reads as decides.
 use borrow.Author.Needs.{needs}
 use Rattle.listing.specs.Listing.{listingOf}
 use Rattle.model.specs.Places.{gives}

@@ -1,4 +1,4 @@
--- `texts::page` meets its contract: what the sheet reads as decides. Assumes nothing.
+-- `texts::page` meets its contract: what the sheet reads as decides.
 use borrow.Author.Needs.{needs}
 use Rattle.page.specs.Page.{pagesOf}
 use Rattle.model.specs.Places.{gives}

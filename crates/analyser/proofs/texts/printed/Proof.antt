@@ -1,4 +1,4 @@
--- `texts::printed` meets its contract: what the sheet reads as decides. Assumes nothing.
+-- `texts::printed` meets its contract: what the sheet reads as decides.
 use borrow.Author.Needs.{needs}
 use Rattle.listing.specs.Listing.{listingOf, refusedText}
 use Rattle.analyser.specs.Texts.{printedText}

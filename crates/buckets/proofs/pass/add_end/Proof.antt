@@ -1,4 +1,4 @@
--- `pass::add_end` meets its contract. Assumes nothing.
+-- `pass::add_end` meets its contract.
 use borrow.Author.Needs.{needs}
 use Rattle.buckets.proofs.pass.add_end.Statement.{statement}
 use Rattle.buckets.proofs.pass.add_end.Tie as tie

@@ -1,4 +1,4 @@
--- `pass::add_touch` meets its contract: the sums and products are within their bounds. Assumes nothing.
+-- `pass::add_touch` meets its contract: the sums and products are within their bounds.
 use borrow.Author.Needs.{needs}
 use Prim.Native.Nat.{_^_}
 use native.Mathlib.Omega.{arith}

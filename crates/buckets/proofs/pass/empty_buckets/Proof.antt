@@ -1,4 +1,4 @@
--- `pass::empty_buckets` meets its contract. Assumes nothing.
+-- `pass::empty_buckets` meets its contract.
 use borrow.Author.Needs.{needs}
 use Rattle.buckets.specs.Buckets.{allEmpty}
 use Rattle.buckets.proofs.pass.empty_buckets.Statement.{statement}

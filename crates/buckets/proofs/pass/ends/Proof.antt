@@ -1,4 +1,4 @@
--- `pass::ends` meets its contract. The invariant of its loop is `Ending`, the measure the segments that are left. Assumes nothing.
+-- `pass::ends` meets its contract. The invariant of its loop is `Ending`, the measure the segments that are left.
 use borrow.Author.Needs.{needs}
 use mathlib.Core.List.{List}
 use mathlib.Core.Path.{_≡_, _∙_}
@@ -56,7 +56,8 @@ add-end-requires : tie.Need-add-end-requires Inv-loop μ-loop
 add-end-requires c κs =
     let d = c .before in
     let l = d .before .before .before .before in
-    (omega (arith, l .before .loop .inv .roomy .each _ (d .bucket-of .ensures .0), l .loop-test .taken, entry l .pre .1 .0), touch-limited d)
+    let each = l .before .loop .inv .roomy .each _ (d .bucket-of .ensures .0) in
+    (omega (arith, each, l .loop-test .taken, entry l .pre .1 .0), touch-limited d)
 
 -- the turn of the loop
 abbrev turn : tie.After-add-end Inv-loop μ-loop → tie.In-loop Inv-loop μ-loop

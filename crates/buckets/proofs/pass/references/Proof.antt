@@ -1,4 +1,4 @@
--- `pass::references` meets its contract. The invariant of its loop is `Passing`, the measure the references that are left. Assumes nothing.
+-- `pass::references` meets its contract. The invariant of its loop is `Passing`, the measure the references that are left.
 use borrow.Author.Needs.{needs}
 use Prim.Native.Nat.{ℕ, _+_, _-_, _*_, _^_, _≤_, _<_}
 use mathlib.Core.List.{List, _++_}
@@ -143,8 +143,8 @@ loop-again c =
           (c .add-touch .ensures);
       passed = λ list of warm before at run is.
           rw same
-          (pass-step list _ _ _ _ (l .before .loop .inv .passed list of warm before at run is) run (in-run l before at) _ (here l warm before at)
-          (e .if1 .taken) _ lim
+          (pass-step list _ _ _ _ (l .before .loop .inv .passed list of warm before at run is) run (in-run l before at) _
+          (here l warm before at) (e .if1 .taken) _ lim
           (placed-is _ _ list _ _ _ _ (d .before .touch-of .ensures .1) (d .bucket-of .ensures .1 list of))
           _ (c .add-touch .ensures));
     }

@@ -1,4 +1,4 @@
--- `pass::tally` meets its contract: the pass starts with empty buckets and the table of the warm segments. Assumes nothing.
+-- `pass::tally` meets its contract: the pass starts with empty buckets and the table of the warm segments.
 use borrow.Author.Needs.{needs}
 use Prim.Native.Nat.{_^_}
 use mathlib.Core.List.{[]}

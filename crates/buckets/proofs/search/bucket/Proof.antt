@@ -1,4 +1,4 @@
--- `buckets::search::bucket` meets its contract. Assumes nothing.
+-- `buckets::search::bucket` meets its contract.
 use borrow.Author.Needs.{needs}
 use native.Mathlib.Omega.{arith}
 use Rattle.buckets.proofs.Prices.{prices-of}

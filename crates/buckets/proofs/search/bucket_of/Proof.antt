@@ -1,4 +1,4 @@
--- `buckets::search::bucket_of` meets its contract. Assumes nothing.
+-- `buckets::search::bucket_of` meets its contract.
 use borrow.Author.Needs.{needs}
 use mathlib.Core.Path.{refl}
 use native.Mathlib.Omega.{arith}

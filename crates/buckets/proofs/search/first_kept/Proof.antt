@@ -1,4 +1,4 @@
--- `buckets::search::first_kept` meets its contract: the last round leaves one place. Assumes nothing.
+-- `buckets::search::first_kept` meets its contract: the last round leaves one place.
 use borrow.Author.Needs.{needs}
 use native.Mathlib.Omega.{arith}
 use Rattle.buckets.proofs.Rounds.{found-one, found-next}

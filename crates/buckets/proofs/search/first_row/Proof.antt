@@ -1,4 +1,4 @@
--- `buckets::search::first_row` meets its contract. Assumes nothing.
+-- `buckets::search::first_row` meets its contract.
 use borrow.Author.Needs.{needs}
 use native.Mathlib.Omega.{arith}
 use Rattle.buckets.proofs.Prices.{found-row, found-none}

@@ -1,4 +1,4 @@
--- `buckets::search::load_prices` meets its contract. The invariant of its loop is `Pricing`, the measure the rows that are left. Assumes nothing.
+-- `buckets::search::load_prices` meets its contract. The invariant of its loop is `Pricing`, the measure the rows that are left.
 use Prim.Native.Nat.{_-_}
 use mathlib.Core.Path.{refl}
 use borrow.Author.Needs.{needs}

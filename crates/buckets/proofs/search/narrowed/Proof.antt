@@ -1,4 +1,4 @@
--- `buckets::search::narrowed` meets its contract: three looks leave a quarter of the rows. Assumes nothing.
+-- `buckets::search::narrowed` meets its contract: three looks leave a quarter of the rows.
 use borrow.Author.Needs.{needs}
 use Prim.Native.Nat.{_+_, _-_, _*_, _≤_}
 use native.Mathlib.Omega.{arith}

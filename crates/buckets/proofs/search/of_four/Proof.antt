@@ -1,4 +1,4 @@
--- `buckets::search::of_four` meets its contract: a round leaves 4 of 16 rows. Assumes nothing.
+-- `buckets::search::of_four` meets its contract: a round leaves 4 of 16 rows.
 use borrow.Author.Needs.{needs}
 use native.Mathlib.Omega.{arith}
 use Rattle.buckets.proofs.Rounds.{found-few, found-next}

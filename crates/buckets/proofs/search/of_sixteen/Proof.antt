@@ -1,4 +1,4 @@
--- `buckets::search::of_sixteen` meets its contract: a round leaves 16 of 64 rows. Assumes nothing.
+-- `buckets::search::of_sixteen` meets its contract: a round leaves 16 of 64 rows.
 use borrow.Author.Needs.{needs}
 use native.Mathlib.Omega.{arith}
 use Rattle.buckets.proofs.Rounds.{found-few, found-any, found-next}

@@ -1,4 +1,4 @@
--- `buckets::search::settled` meets its contract: four looks leave one place. Assumes nothing.
+-- `buckets::search::settled` meets its contract: four looks leave one place.
 use borrow.Author.Needs.{needs}
 use native.Mathlib.Omega.{arith}
 use Rattle.buckets.proofs.Rounds.{narrows-by-four}

@@ -1,4 +1,4 @@
--- `buckets::search::unkept` meets its contract. Assumes nothing.
+-- `buckets::search::unkept` meets its contract.
 use borrow.Author.Needs.{needs}
 use mathlib.Core.Path.{refl, _∙_}
 use Rattle.buckets.proofs.Rounds.{look-is}

@@ -1,4 +1,4 @@
--- `c_lists::record_numbers::idle` meets its contract. Assumes nothing.
+-- `c_lists::record_numbers::idle` meets its contract.
 use mathlib.Core.Path.{sym, _∙_}
 use native.Mathlib.Omega.{arith}
 use borrow.Author.Needs.{needs}

@@ -1,4 +1,4 @@
--- `c_lists::record_numbers::kind_number` meets its contract. Assumes nothing.
+-- `c_lists::record_numbers::kind_number` meets its contract.
 use borrow.Author.Needs.{needs}
 use Rattle.c_lists.proofs.record_numbers.kind_number.Statement.{statement}
 use Rattle.c_lists.proofs.record_numbers.kind_number.Tie as tie

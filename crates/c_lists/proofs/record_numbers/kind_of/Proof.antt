@@ -1,4 +1,4 @@
--- `c_lists::record_numbers::kind_of` meets its contract. Assumes nothing.
+-- `c_lists::record_numbers::kind_of` meets its contract.
 use borrow.Author.Tests.{eq-eqb, ne-eqb}
 use Rattle.c_lists.proofs.record_numbers.kind_of.Statement.{statement}
 use Rattle.c_lists.proofs.record_numbers.kind_of.Tie as tie

@@ -1,4 +1,4 @@
--- `c_lists::record_numbers::recorder_of` meets its contract. Assumes nothing.
+-- `c_lists::record_numbers::recorder_of` meets its contract.
 use mathlib.Core.Path.{refl}
 use borrow.Author.Needs.{needs}
 use Rattle.c_lists.specs.Recorders.{recorderIn}

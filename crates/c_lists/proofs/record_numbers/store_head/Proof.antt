@@ -1,4 +1,4 @@
--- `c_lists::record_numbers::store_head` meets its contract. Assumes nothing.
+-- `c_lists::record_numbers::store_head` meets its contract.
 use mathlib.Core.Path.{refl, ap}
 use Rattle.c_lists.specs.declared.tables.Prices.{Prices}
 use Rattle.c_lists.specs.Recorders.{listsOf}

@@ -1,4 +1,4 @@
--- `c_lists::record_numbers::store_taken` meets its contract. Assumes nothing.
+-- `c_lists::record_numbers::store_taken` meets its contract.
 use borrow.Author.Needs.{needs}
 use Rattle.c_lists.specs.Recorders.{listsOf}
 use Rattle.c_lists.proofs.record_numbers.store_taken.Statement.{statement}

@@ -1,4 +1,4 @@
--- `c_lists::recorder_list::bucket_of` meets its contract. Assumes nothing.
+-- `c_lists::recorder_list::bucket_of` meets its contract.
 use borrow.Author.Needs.{needs}
 use borrow.Author.Tests.{not-true, not-false}
 use mathlib.Core.Path.{refl}

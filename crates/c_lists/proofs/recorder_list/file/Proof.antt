@@ -1,4 +1,4 @@
--- `c_lists::recorder_list::file` meets its contract: where the sums leave room the touch is added. Assumes nothing.
+-- `c_lists::recorder_list::file` meets its contract: where the sums leave room the touch is added.
 use Prim.Native.Nat.{_-_, _^_}
 use borrow.Author.Needs.{needs}
 use native.Mathlib.Omega.{arith}

@@ -1,4 +1,4 @@
--- `c_lists::recorder_list::first_kept` meets its contract: three rounds leave one place. Assumes nothing.
+-- `c_lists::recorder_list::first_kept` meets its contract: three rounds leave one place.
 use borrow.Author.Needs.{needs}
 use Rattle.buckets.proofs.Rounds.{found-any, found-next}
 use Rattle.c_lists.proofs.recorder_list.first_kept.Statement.{statement}

@@ -1,4 +1,4 @@
--- `c_lists::recorder_list::has_room` meets its contract. Assumes nothing.
+-- `c_lists::recorder_list::has_room` meets its contract.
 use native.Mathlib.Omega.{arith}
 use borrow.Author.Needs.{needs}
 use Rattle.recorder.proofs.Telling.{tells-true, tells-false}

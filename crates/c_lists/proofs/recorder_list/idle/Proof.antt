@@ -1,4 +1,4 @@
--- `c_lists::recorder_list::idle` meets its contract. Assumes nothing.
+-- `c_lists::recorder_list::idle` meets its contract.
 use mathlib.Core.Path.{refl, _∙_}
 use borrow.Author.Needs.{needs}
 use native.Mathlib.Omega.{arith}

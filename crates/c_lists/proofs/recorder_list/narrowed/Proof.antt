@@ -1,4 +1,4 @@
--- `c_lists::recorder_list::narrowed` meets its contract: three looks leave a quarter of the rows. Assumes nothing.
+-- `c_lists::recorder_list::narrowed` meets its contract: three looks leave a quarter of the rows.
 use borrow.Author.Needs.{needs}
 use Prim.Native.Nat.{_+_, _-_, _*_, _≤_}
 use native.Mathlib.Omega.{arith}

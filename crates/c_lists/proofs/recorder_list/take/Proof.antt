@@ -1,4 +1,4 @@
--- `c_lists::recorder_list::take` meets its contract. Assumes nothing.
+-- `c_lists::recorder_list::take` meets its contract.
 use borrow.Author.Needs.{needs}
 use Rattle.c_lists.proofs.InPlace.{taken-is}
 use Rattle.c_lists.proofs.recorder_list.take.Statement.{statement}

@@ -1,5 +1,5 @@
 -- `c_lists::recorder_list::take_all` meets its contract. The loop's invariant: a list that stood for a sheet
--- stands for it with the references so far. The measure is what is left of them. Assumes nothing.
+-- stands for it with the references so far. The measure is what is left of them.
 use Prim.Native.Nat.{_+_, _-_, _≤_, min}
 use mathlib.Core.Path.{_≡_, refl, ap, _∙_}
 use native.Mathlib.Omega.{arith}

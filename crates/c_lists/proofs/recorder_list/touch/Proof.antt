@@ -1,4 +1,4 @@
--- `c_lists::recorder_list::touch` meets its contract. Assumes nothing.
+-- `c_lists::recorder_list::touch` meets its contract.
 use borrow.Author.Needs.{needs}
 use native.Mathlib.Omega.{arith}
 use Rattle.model.specs.declared.Refusal.the-variants.{OutOfRange, RecorderFull}

@@ -1,4 +1,4 @@
--- `c_lists::recorder_list::touch_all` meets its contract. Assumes nothing.
+-- `c_lists::recorder_list::touch_all` meets its contract.
 use mathlib.Core.Path.{sym, _∙_}
 use borrow.Author.Needs.{needs}
 use lib.ListN.{getD}

@@ -1,4 +1,4 @@
--- `c_lists::recorder_list::touch_now` meets its contract. Assumes nothing.
+-- `c_lists::recorder_list::touch_now` meets its contract.
 use borrow.Author.Needs.{needs}
 use native.Mathlib.Omega.{arith}
 use Rattle.buckets.proofs.Touches.{placed-limited}

@@ -1,4 +1,4 @@
--- `c_lists::recorder_list::unkept` meets its contract. Assumes nothing.
+-- `c_lists::recorder_list::unkept` meets its contract.
 use borrow.Author.Needs.{needs}
 use mathlib.Core.Path.{refl, _∙_}
 use Rattle.buckets.proofs.Rounds.{look-is}

@@ -1,5 +1,5 @@
 -- `tables::buckets_of` meets its contract. The loop's invariant: the first k buckets are stored. The measure is what is left of the
--- buckets. Assumes nothing.
+-- buckets.
 use Prim.Native.Nat.{_-_}
 use Rattle.buckets.specs.Buckets.{bucketCount}
 use Rattle.model.specs.Sums.{tabulate}

@@ -1,5 +1,4 @@
 -- `tables::rows_of` meets its contract. The loop's invariant: the first i rows are stored. The measure is what is left of the rows.
--- Assumes nothing.
 use Prim.Native.Nat.{_-_}
 use mathlib.Core.Path.{refl, sym, _∙_}
 use native.Mathlib.Omega.{arith}

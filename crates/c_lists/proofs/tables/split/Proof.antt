@@ -1,5 +1,5 @@
 -- `tables::split` meets its contract. The loop's invariant: the prices of the first i rows are stored. The measure is what is left of
--- the rows. Assumes nothing.
+-- the rows.
 use borrow.Author.Needs.{needs}
 use native.Mathlib.Omega.{arith}
 use Prim.Native.Nat.{_-_}

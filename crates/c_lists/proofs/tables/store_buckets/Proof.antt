@@ -1,5 +1,5 @@
 -- `tables::store_buckets` meets its contract. The loop's invariant: the first k buckets stand in the sums. The measure is what is left
--- of the buckets. Assumes nothing.
+-- of the buckets.
 use Prim.Native.Nat.{_-_}
 use native.Mathlib.Omega.{arith}
 use lib.ListN.{length-set}

@@ -1,5 +1,5 @@
 -- `address` meets its contract. The loop's invariant: the line from the head of `s` on is what is left of it after n digits of the
--- value. The measure is what is left of the length. Assumes nothing.
+-- value. The measure is what is left of the length.
 use Prim.Native.Nat.{_+_, _*_, _-_, _^_, _<_}
 use mathlib.Core.Path.{_≡_, sym, ap, _∙_}
 use native.Mathlib.Omega.{arith}

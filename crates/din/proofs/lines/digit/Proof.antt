@@ -1,4 +1,4 @@
--- `digit` meets its contract: how far a byte stands past the first of a range says whether it lies in it. Assumes nothing.
+-- `digit` meets its contract: how far a byte stands past the first of a range says whether it lies in it.
 use native.Mathlib.Omega.{arith}
 use borrow.Author.Needs.{needs}
 use Rattle.din.proofs.Digits.{decimal-digit, upper-digit, lower-digit, no-digit}

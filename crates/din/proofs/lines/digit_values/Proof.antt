@@ -1,5 +1,5 @@
 -- `digit_values` meets its contract. The loop's invariant: the values of the bytes below b are entered. The measure is what is left of
--- the bytes. Assumes nothing.
+-- the bytes.
 use Prim.Native.Nat.{_-_}
 use mathlib.Core.Path.{refl}
 use native.Mathlib.Omega.{arith}

@@ -1,4 +1,4 @@
--- `line` meets its contract: the label and the blank, and then the address behind them. Assumes nothing.
+-- `line` meets its contract: the label and the blank, and then the address behind them.
 use Prim.Native.Nat.{_+_, _≤_}
 use mathlib.Core.Path.{sym, ap, _∙_, subst}
 use native.Mathlib.Omega.{arith}

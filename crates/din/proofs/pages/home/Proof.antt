@@ -1,4 +1,4 @@
--- `home` meets its contract: the product fits, and the rest is the definition's. Assumes nothing.
+-- `home` meets its contract: the product fits, and the rest is the definition's.
 use borrow.Author.Needs.{needs}
 use Rattle.din.specs.inner.Held.{homeOf}
 use Rattle.din.proofs.pages.home.Statement.{statement}

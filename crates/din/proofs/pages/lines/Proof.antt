@@ -1,5 +1,5 @@
 -- `lines` meets its contract. The loop's invariant: the table, the counts and the touches hold the lines passed. The measure is what is
--- left of the bytes. Assumes nothing.
+-- left of the bytes.
 use Prim.Native.Nat.{_+_, _-_, _≤_, _<_}
 use mathlib.Core.Path.{sym, ap, _∙_, subst}
 use native.Mathlib.Omega.{arith}

@@ -1,4 +1,4 @@
--- `no_marks` meets its contract: the repeat is that of the definition. Assumes nothing.
+-- `no_marks` meets its contract: the repeat is that of the definition.
 use borrow.Author.Needs.{needs}
 use Rattle.model.specs.Values.{zeros}
 use Rattle.din.proofs.pages.no_marks.Statement.{statement}

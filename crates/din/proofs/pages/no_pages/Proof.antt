@@ -1,4 +1,4 @@
--- `no_pages` meets its contract: the repeat is that of the definition. Assumes nothing.
+-- `no_pages` meets its contract: the repeat is that of the definition.
 use borrow.Author.Needs.{needs}
 use Rattle.model.specs.Values.{zeros}
 use Rattle.din.proofs.pages.no_pages.Statement.{statement}

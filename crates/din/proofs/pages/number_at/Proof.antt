@@ -1,4 +1,4 @@
--- `number_at` meets its contract: each answer is the definition's. Assumes nothing.
+-- `number_at` meets its contract: each answer is the definition's.
 use mathlib.Core.Path.{refl}
 use borrow.Author.Needs.{needs}
 use borrow.Author.Tests.{eq-eqb, ne-eqb}

@@ -1,5 +1,5 @@
 -- `place_of` meets its contract. The loop's invariant: the places passed are not empty and have other pages. The measure is what is
--- left of the places. Assumes nothing.
+-- left of the places.
 use Prim.Native.Nat.{_-_}
 use native.Mathlib.Omega.{arith}
 use borrow.Author.Needs.{needs}

@@ -1,4 +1,4 @@
--- `refused` meets its contract: the answer is that of the definition. Assumes nothing.
+-- `refused` meets its contract: the answer is that of the definition.
 use borrow.Author.Needs.{needs}
 use Rattle.model.specs.Values.{idles}
 use Rattle.din.specs.inner.Held.{importedOf}

@@ -1,4 +1,4 @@
--- `trace` meets its contract: k within its range, and the lines. Assumes nothing.
+-- `trace` meets its contract: k within its range, and the lines.
 use mathlib.Core.Path.{sym, ap, _∙_}
 use borrow.Author.Needs.{needs}
 use Rattle.din.specs.inner.Held.{importedOf}

@@ -1,4 +1,4 @@
--- `exports::curving::segtrace_lru_plain` meets its contract: what was told of the answer of the misses. Assumes nothing.
+-- `exports::curving::segtrace_lru_plain` meets its contract: what was told of the answer of the misses.
 use borrow.Author.Needs.{needs}
 use Rattle.exports.proofs.Told.{place-call}
 use Rattle.exports.proofs.curving.segtrace_lru_plain.Statement.{statement}

@@ -1,4 +1,4 @@
--- `exports::importing::segtrace_import_din` meets its contract: what was told of the answer. Assumes nothing.
+-- `exports::importing::segtrace_import_din` meets its contract: what was told of the answer.
 use borrow.Author.Needs.{needs}
 use Rattle.exports.proofs.Told.{place-call}
 use Rattle.exports.proofs.importing.segtrace_import_din.Statement.{statement}

@@ -1,5 +1,4 @@
 -- `exports::lent_calls::all_figures` meets its contract: the verdict of the records decides, and their numbers are put at the front.
--- Assumes nothing.
 use mathlib.Core.Path.{refl}
 use native.Mathlib.Omega.{arith}
 use borrow.Author.Needs.{needs}

@@ -1,4 +1,4 @@
--- `exports::lent_calls::lru` meets its contract: what was told of the answer of the misses. Assumes nothing.
+-- `exports::lent_calls::lru` meets its contract: what was told of the answer of the misses.
 use borrow.Author.Needs.{needs}
 use Rattle.exports.proofs.Told.{lru-call}
 use Rattle.exports.proofs.lent_calls.lru.Statement.{statement}

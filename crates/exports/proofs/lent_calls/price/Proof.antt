@@ -1,4 +1,4 @@
--- `exports::lent_calls::price` meets its contract: the verdict of the price decides. Assumes nothing.
+-- `exports::lent_calls::price` meets its contract: the verdict of the price decides.
 use borrow.Author.Needs.{needs}
 use mathlib.Core.Path.{refl}
 use Rattle.exports.specs.Exported.{priceList}

@@ -1,4 +1,4 @@
--- `exports::lent_calls::size` meets its contract: the verdict of the sizing decides. Assumes nothing.
+-- `exports::lent_calls::size` meets its contract: the verdict of the sizing decides.
 use borrow.Author.Needs.{needs}
 use mathlib.Core.Path.{refl}
 use Rattle.exports.proofs.Told.{accepted-tells, refused-tells}

@@ -1,4 +1,4 @@
--- `exports::lent_calls::tell` meets its contract: the number of a refused answer is that of its refusal. Assumes nothing.
+-- `exports::lent_calls::tell` meets its contract: the number of a refused answer is that of its refusal.
 use Prim.Native.Nat.{ℕ}
 use mathlib.Core.Path.{_≡_, sym, ap, _∙_}
 use denote.Ref.{now}

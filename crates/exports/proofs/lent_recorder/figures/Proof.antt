@@ -1,4 +1,4 @@
--- `exports::lent_recorder::figures` meets its contract. Assumes nothing.
+-- `exports::lent_recorder::figures` meets its contract.
 use Rattle.exports.proofs.RecorderCalls.{figures-accepted, figures-refused}
 use borrow.Author.Needs.{needs}
 use Rattle.exports.proofs.lent_recorder.figures.Statement.{statement}

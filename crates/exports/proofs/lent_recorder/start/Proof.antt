@@ -1,4 +1,4 @@
--- `exports::lent_recorder::start` meets its contract. Assumes nothing.
+-- `exports::lent_recorder::start` meets its contract.
 use Rattle.exports.proofs.RecorderCalls.{start-accepted, start-refused}
 use borrow.Author.Needs.{needs}
 use Rattle.exports.proofs.lent_recorder.start.Statement.{statement}

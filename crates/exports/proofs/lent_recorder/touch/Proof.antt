@@ -1,4 +1,4 @@
--- `exports::lent_recorder::touch` meets its contract. Assumes nothing.
+-- `exports::lent_recorder::touch` meets its contract.
 use Rattle.exports.proofs.RecorderCalls.{touch-accepted, touch-refused}
 use borrow.Author.Needs.{needs}
 use Rattle.exports.proofs.lent_recorder.touch.Statement.{statement}

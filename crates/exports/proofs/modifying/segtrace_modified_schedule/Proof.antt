@@ -1,4 +1,4 @@
--- `exports::modifying::segtrace_modified_schedule` meets its contract: what was told of the schedule's answer. Assumes nothing.
+-- `exports::modifying::segtrace_modified_schedule` meets its contract: what was told of the schedule's answer.
 use borrow.Author.Needs.{needs}
 use Rattle.exports.proofs.Told.{place-call}
 use Rattle.exports.proofs.modifying.segtrace_modified_schedule.Statement.{statement}

@@ -1,4 +1,4 @@
--- `exports::operating::segtrace_points` meets its contract: what was told of the answer of the points. Assumes nothing.
+-- `exports::operating::segtrace_points` meets its contract: what was told of the answer of the points.
 use borrow.Author.Needs.{needs}
 use Rattle.exports.proofs.Told.{place-call}
 use Rattle.exports.proofs.operating.segtrace_points.Statement.{statement}

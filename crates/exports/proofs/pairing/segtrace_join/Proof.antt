@@ -1,4 +1,4 @@
--- `exports::pairing::segtrace_join` meets its contract: what was told of the answer. Assumes nothing.
+-- `exports::pairing::segtrace_join` meets its contract: what was told of the answer.
 use borrow.Author.Needs.{needs}
 use Rattle.exports.proofs.Told.{place-call}
 use Rattle.exports.proofs.pairing.segtrace_join.Statement.{statement}

@@ -1,4 +1,4 @@
--- `exports::recording::segtrace_recorder_idle` meets its contract: the verdict on the step and its number. Assumes nothing.
+-- `exports::recording::segtrace_recorder_idle` meets its contract: the verdict on the step and its number.
 use mathlib.Core.Path.{ap, _∙_}
 use borrow.Author.Needs.{needs}
 use Rattle.model.specs.Refusals.{verdictNumber}

@@ -1,4 +1,4 @@
--- `exports::windowing::segtrace_windows` meets its contract: what was told of the answer of the windows. Assumes nothing.
+-- `exports::windowing::segtrace_windows` meets its contract: what was told of the answer of the windows.
 use borrow.Author.Needs.{needs}
 use Rattle.exports.proofs.Told.{place-call}
 use Rattle.exports.proofs.windowing.segtrace_windows.Statement.{statement}

@@ -1,4 +1,4 @@
--- `figures::row_sums::load_of` meets its contract: the product is within 2 ^ 32. Assumes nothing.
+-- `figures::row_sums::load_of` meets its contract: the product is within 2 ^ 32.
 use Prim.Native.Nat.{_*_, _^_, _≤_}
 use native.Mathlib.Omega.{arith}
 use Rattle.model.proofs.Bounds.{product-within}

@@ -1,4 +1,4 @@
--- `figures::row_sums::mean` meets its contract: wsocc is below 2 ^ 53, and the divisor is not 0 since d is not. Assumes nothing.
+-- `figures::row_sums::mean` meets its contract: wsocc is below 2 ^ 53, and the divisor is not 0 since d is not.
 use Prim.Native.Nat.{_*_, _^_, _≤_}
 use native.Mathlib.Nat.{mul-pos}
 use native.Mathlib.Omega.{arith}

@@ -1,5 +1,4 @@
 -- `figures::row_sums::row_figures` meets its contract: each item is what the callee says, and the sums fit as `RowFits` says.
--- Assumes nothing.
 use Prim.Native.Nat.{_-_, _^_}
 use native.Mathlib.Omega.{arith}
 use borrow.Author.Needs.{needs}

@@ -1,4 +1,4 @@
--- `figures::row_sums::working_set` meets its contract: each total is of what the callees give. Assumes nothing.
+-- `figures::row_sums::working_set` meets its contract: each total is of what the callees give.
 use borrow.Author.Needs.{needs}
 use Rattle.figures.proofs.row_sums.working_set.Statement.{statement}
 use Rattle.figures.proofs.row_sums.working_set.Tie as tie

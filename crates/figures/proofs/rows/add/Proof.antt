@@ -1,4 +1,4 @@
--- `figures::rows::add` meets its contract. Assumes nothing.
+-- `figures::rows::add` meets its contract.
 use borrow.Author.Needs.{needs}
 use Rattle.model.proofs.Units.{memory-is, load-is}
 use Rattle.figures.proofs.rows.add.Statement.{statement}

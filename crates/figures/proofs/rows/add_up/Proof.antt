@@ -1,4 +1,4 @@
--- `figures::rows::add_up` meets its contract. The loop's invariant: the sum is that of the buckets passed. Assumes nothing.
+-- `figures::rows::add_up` meets its contract. The loop's invariant: the sum is that of the buckets passed.
 use Prim.Native.Nat.{suc, _-_, _≤_}
 use mathlib.Core.Path.{_≡_, _∙_, sym}
 use native.Mathlib.Numerals.{add-one}

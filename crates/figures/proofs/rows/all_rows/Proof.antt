@@ -1,5 +1,5 @@
 -- `figures::rows::all_rows` meets its contract. The loop's invariant: `kept` and `ends` are the sums of the buckets passed, and `out` has
--- the figures of the rows passed. Assumes nothing.
+-- the figures of the rows passed.
 use Prim.Native.Nat.{suc, _-_, _≤_, _<_}
 use mathlib.Core.List.{List}
 use mathlib.Core.Path.{_≡_, sym, _∙_}

@@ -1,4 +1,4 @@
--- `figures::rows::no_figures` meets its contract. Assumes nothing.
+-- `figures::rows::no_figures` meets its contract.
 use mathlib.Core.Path.{refl}
 use Rattle.model.specs.Sums.{tabulate}
 use Rattle.figures.specs.inner.Sweep.{noRowFigures}

@@ -1,4 +1,4 @@
--- `figures::rows::start_swap` meets its contract: a warm segment has the mark 0. Assumes nothing.
+-- `figures::rows::start_swap` meets its contract: a warm segment has the mark 0.
 use Prim.Native.Nat.{_*_, _^_, _≤_}
 use native.Mathlib.Omega.{arith}
 use borrow.Author.Tests.{eq-eqb, ne-eqb}

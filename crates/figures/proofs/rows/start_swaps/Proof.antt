@@ -1,5 +1,5 @@
 -- `figures::rows::start_swaps` meets its contract. The loop's invariant: the sums are those of the warm segments among the first i, and no
--- larger than i times what one adds. Assumes nothing.
+-- larger than i times what one adds.
 use Prim.Native.Nat.{_-_, _*_, _^_, _≤_, _<_}
 use mathlib.Core.Path.{_≡_, _∙_}
 use native.Mathlib.Omega.{arith}

@@ -1,4 +1,4 @@
--- `figures::rows::with_start` meets its contract. Assumes nothing.
+-- `figures::rows::with_start` meets its contract.
 use borrow.Author.Needs.{needs}
 use Rattle.model.proofs.Units.{load-is}
 use Rattle.figures.proofs.rows.with_start.Statement.{statement}

@@ -1,4 +1,4 @@
--- `both_at` meets its contract. Assumes nothing.
+-- `both_at` meets its contract.
 use borrow.Author.Tests.{eq-eqb, ne-eqb}
 use Rattle.join.proofs.joint_entries.both_at.Statement.{statement}
 use Rattle.join.proofs.joint_entries.both_at.Tie as tie

@@ -1,4 +1,4 @@
--- `both_touch` meets its contract: in none of the steps passed so far both touch. Assumes nothing.
+-- `both_touch` meets its contract: in none of the steps passed so far both touch.
 use Prim.Native.Nat.{_-_, _≤_, _<_}
 use mathlib.Core.Path.{_≡_, sym}
 use mathlib.Core.Bool.{false}

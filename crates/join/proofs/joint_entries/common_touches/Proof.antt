@@ -1,4 +1,4 @@
--- `common_touches` meets its contract: the entries of the steps passed so far stand at the front. Assumes nothing.
+-- `common_touches` meets its contract: the entries of the steps passed so far stand at the front.
 use Prim.Native.Nat.{ℕ, _-_, _≤_, _<_}
 use mathlib.Core.Path.{_≡_}
 use mathlib.Core.List.{List}

@@ -1,4 +1,4 @@
--- `entry_at` meets its contract. Assumes nothing.
+-- `entry_at` meets its contract.
 use mathlib.Core.Path.{sym}
 use borrow.Author.Needs.{needs}
 use denote.Ref.{now}

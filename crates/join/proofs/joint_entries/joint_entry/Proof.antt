@@ -1,4 +1,4 @@
--- `joint_entry` meets its contract, and the moved number fits. Assumes nothing.
+-- `joint_entry` meets its contract, and the moved number fits.
 use mathlib.Core.Logic.{⊎-elim}
 use native.Mathlib.Omega.{arith}
 use borrow.Author.Tests.{eq-eqb, ne-eqb}

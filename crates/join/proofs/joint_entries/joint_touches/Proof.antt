@@ -1,5 +1,4 @@
 -- `joint_touches` meets its contract: the entries of the steps passed so far stand at the front, at first those of the steps of both.
--- Assumes nothing.
 use Prim.Native.Nat.{ℕ, _-_, _≤_}
 use mathlib.Core.Path.{_≡_, sym, ap, _∙_}
 use mathlib.Core.List.{List}

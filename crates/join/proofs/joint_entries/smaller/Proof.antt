@@ -1,4 +1,4 @@
--- `smaller` meets its contract: the second where it is below the first, else the first. Assumes nothing.
+-- `smaller` meets its contract: the second where it is below the first, else the first.
 use native.Mathlib.Omega.{arith}
 use Rattle.join.proofs.joint_entries.smaller.Statement.{statement}
 use Rattle.join.proofs.joint_entries.smaller.Tie as tie

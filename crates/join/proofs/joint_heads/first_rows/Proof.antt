@@ -1,4 +1,4 @@
--- `first_rows` meets its contract: the rows passed so far stand at the front. Assumes nothing.
+-- `first_rows` meets its contract: the rows passed so far stand at the front.
 use Prim.Native.Nat.{_-_, _≤_}
 use mathlib.Core.Path.{_≡_, sym}
 use native.Mathlib.Omega.{arith}

@@ -1,4 +1,4 @@
--- `joint_head` meets its contract: the parts put together are those of the definition. Assumes nothing.
+-- `joint_head` meets its contract: the parts put together are those of the definition.
 use Prim.Native.Nat.{_≤_}
 use mathlib.Core.Path.{_≡_, sym}
 use native.Mathlib.Omega.{arith}

@@ -1,4 +1,4 @@
--- `joint_numbers` meets its contract: the numbers passed so far stand at the front. Assumes nothing.
+-- `joint_numbers` meets its contract: the numbers passed so far stand at the front.
 use Prim.Native.Nat.{ℕ, _-_, _≤_}
 use mathlib.Core.Path.{_≡_}
 use mathlib.Core.List.{List}

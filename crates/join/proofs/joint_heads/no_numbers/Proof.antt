@@ -1,4 +1,4 @@
--- `no_numbers` meets its contract: the repeat is that of the definition. Assumes nothing.
+-- `no_numbers` meets its contract: the repeat is that of the definition.
 use borrow.Author.Needs.{needs}
 use Rattle.model.specs.Values.{zeros}
 use Rattle.join.proofs.joint_heads.no_numbers.Statement.{statement}

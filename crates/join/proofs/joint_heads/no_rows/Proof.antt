@@ -1,4 +1,4 @@
--- `no_rows` meets its contract: the repeat is that of the definition. Assumes nothing.
+-- `no_rows` meets its contract: the repeat is that of the definition.
 use borrow.Author.Needs.{needs}
 use Rattle.model.specs.Values.{zeroRows}
 use Rattle.join.proofs.joint_heads.no_rows.Statement.{statement}

@@ -1,4 +1,4 @@
--- `number_at` meets its contract, and the moved number fits. Assumes nothing.
+-- `number_at` meets its contract, and the moved number fits.
 use Prim.Native.Nat.{_-_}
 use mathlib.Core.Path.{sym}
 use native.Mathlib.Omega.{arith}

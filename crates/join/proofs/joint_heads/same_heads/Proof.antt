@@ -1,4 +1,4 @@
--- `same_heads` meets its contract: kind, a and rows, one after the other. Assumes nothing.
+-- `same_heads` meets its contract: kind, a and rows, one after the other.
 use borrow.Author.Needs.{needs}
 use borrow.Author.Tests.{not-true, not-false}
 use Rattle.join.proofs.Heads.{heads-kind, heads-a, heads-rows}

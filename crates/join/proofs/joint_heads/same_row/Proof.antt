@@ -1,4 +1,4 @@
--- `same_row` meets its contract. Assumes nothing.
+-- `same_row` meets its contract.
 use borrow.Author.Tests.{eq-eqb, ne-eqb}
 use Rattle.join.proofs.joint_heads.same_row.Statement.{statement}
 use Rattle.join.proofs.joint_heads.same_row.Tie as tie

@@ -1,4 +1,4 @@
--- `same_rows` meets its contract: the rows are alike where those from row r on are. Assumes nothing.
+-- `same_rows` meets its contract: the rows are alike where those from row r on are.
 use Prim.Native.Nat.{_-_, _≤_}
 use mathlib.Core.Path.{_≡_, refl, sym, _∙_}
 use native.Mathlib.Omega.{arith}

@@ -1,4 +1,4 @@
--- `listing::of_sheet::sheet_listing` meets its contract: the listing is that of the sheet's value. Assumes nothing.
+-- `listing::of_sheet::sheet_listing` meets its contract: the listing is that of the sheet's value.
 use Prim.Native.Nat.{ℕ, _<_}
 use mathlib.Core.Path.{_≡_, sym, _∙_}
 use mathlib.Core.Logic.{inl, inr, ⊎-elim}

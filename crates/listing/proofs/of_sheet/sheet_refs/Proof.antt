@@ -1,5 +1,4 @@
 -- `listing::of_sheet::sheet_refs` meets its contract. The loop's invariant: `refs` counts the segments among the entries passed.
--- Assumes nothing.
 use Prim.Native.Nat.{_-_}
 use mathlib.Core.Path.{_≡_, ap, _∙_}
 use mathlib.Core.Logic.{inl, inr, ⊎-elim}

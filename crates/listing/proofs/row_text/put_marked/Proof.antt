@@ -1,4 +1,4 @@
--- `listing::row_text::put_marked` meets its contract: the row is put, and where the form has it modtotal= after it. Assumes nothing.
+-- `listing::row_text::put_marked` meets its contract: the row is put, and where the form has it modtotal= after it.
 use mathlib.Core.Path.{sym, ap, _∙_}
 use native.Mathlib.Omega.{arith}
 use borrow.Author.Needs.{needs}

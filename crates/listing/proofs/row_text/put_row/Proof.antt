@@ -1,4 +1,4 @@
--- `listing::row_text::put_row` meets its contract: the parts are put one after another. Assumes nothing.
+-- `listing::row_text::put_row` meets its contract: the parts are put one after another.
 use native.Mathlib.Omega.{arith}
 use borrow.Author.Needs.{needs}
 use Rattle.text.proofs.Putting.{put-then, put-same}

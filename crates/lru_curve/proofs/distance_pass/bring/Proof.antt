@@ -1,4 +1,4 @@
--- `lru_curve::distance_pass::bring` meets its contract: there is room for x. Assumes nothing.
+-- `lru_curve::distance_pass::bring` meets its contract: there is room for x.
 use native.Mathlib.Omega.{arith}
 use borrow.Author.Needs.{needs}
 use denote.Ref.{now}

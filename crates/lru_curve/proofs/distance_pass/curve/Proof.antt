@@ -1,5 +1,4 @@
--- `lru_curve::distance_pass::curve` meets its contract: the running sum is the number of misses with as many frames as are left. Assumes
--- nothing.
+-- `lru_curve::distance_pass::curve` meets its contract: the running sum is the number of misses with as many frames as are left.
 use native.Mathlib.Omega.{arith}
 use borrow.Author.Needs.{needs}
 use Rattle.lru_curve.proofs.Sums.{Summed, summed-start, summed-room, summed-next, summed-end}

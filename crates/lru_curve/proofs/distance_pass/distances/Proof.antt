@@ -1,5 +1,5 @@
 -- `lru_curve::distance_pass::distances` meets its contract: after each step the list is the recency list, and the counts are those of the
--- steps so far. Assumes nothing.
+-- steps so far.
 use Prim.Native.Nat.{_-_, _<_}
 use mathlib.Core.Path.{refl}
 use native.Mathlib.Omega.{arith}

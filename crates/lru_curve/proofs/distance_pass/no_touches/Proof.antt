@@ -1,4 +1,4 @@
--- `lru_curve::distance_pass::no_touches` meets its contract: all entries are 0. Assumes nothing.
+-- `lru_curve::distance_pass::no_touches` meets its contract: all entries are 0.
 use mathlib.Core.Path.{refl}
 use Rattle.model.specs.Values.{zeros}
 use Rattle.lru_curve.proofs.distance_pass.no_touches.Statement.{statement}

@@ -1,4 +1,4 @@
--- `lru_curve::frames::all_ones` meets its contract: the sizes passed are 1. Assumes nothing.
+-- `lru_curve::frames::all_ones` meets its contract: the sizes passed are 1.
 use Prim.Native.Nat.{_-_, _≤_}
 use mathlib.Core.Path.{_≡_, refl, sym, _∙_}
 use native.Mathlib.Omega.{arith}

@@ -1,4 +1,4 @@
--- `lru_curve::frames::ones_verdict` meets its contract: the sizes are tested, then the warm segments. Assumes nothing.
+-- `lru_curve::frames::ones_verdict` meets its contract: the sizes are tested, then the warm segments.
 use mathlib.Core.Path.{sym, _∙_}
 use borrow.Author.Needs.{needs}
 use borrow.Author.Tests.{not-true, not-false}

@@ -1,4 +1,4 @@
--- `lru_curve::plain_frames::curve` meets its contract: the first numbers are those of the frames simulated so far. Assumes nothing.
+-- `lru_curve::plain_frames::curve` meets its contract: the first numbers are those of the frames simulated so far.
 use Prim.Native.Nat.{_-_}
 use borrow.Author.Needs.{needs}
 use lib.ListN.{length}

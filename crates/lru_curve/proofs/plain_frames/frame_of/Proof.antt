@@ -1,4 +1,4 @@
--- `lru_curve::plain_frames::frame_of` meets its contract: the frames passed do not have the segment. Assumes nothing.
+-- `lru_curve::plain_frames::frame_of` meets its contract: the frames passed do not have the segment.
 use Prim.Native.Nat.{_-_, _≤_}
 use native.Mathlib.Numerals.{add-one}
 use native.Mathlib.Omega.{arith}

@@ -1,4 +1,4 @@
--- `lru_curve::plain_frames::simulate` meets its contract: after each step the frames in use have the memory's segments. Assumes nothing.
+-- `lru_curve::plain_frames::simulate` meets its contract: after each step the frames in use have the memory's segments.
 use Prim.Native.Nat.{ℕ, _-_, _≤_}
 use mathlib.Core.Path.{refl, sym, _∙_}
 use native.Mathlib.Omega.{arith}

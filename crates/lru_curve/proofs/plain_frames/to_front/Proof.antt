@@ -1,4 +1,4 @@
--- `lru_curve::plain_frames::to_front` meets its contract: what stood between stands one further. Assumes nothing.
+-- `lru_curve::plain_frames::to_front` meets its contract: what stood between stands one further.
 use mathlib.Core.Path.{_≡_, refl, _∙_}
 use native.Mathlib.Omega.{arith}
 use borrow.Author.Needs.{needs}

@@ -1,4 +1,4 @@
--- `lru_curve::plain_frames::used_after` meets its contract: its test is that of the definition. Assumes nothing.
+-- `lru_curve::plain_frames::used_after` meets its contract: its test is that of the definition.
 use native.Mathlib.Numerals.{add-one}
 use borrow.Author.Needs.{needs}
 use borrow.Author.Tests.{lt-ltb, le-ltb}

@@ -1,5 +1,4 @@
--- `lru_curve::recency_list::put_first` meets its contract: what is passed stands one further, and the last of it is in hand. Assumes
--- nothing.
+-- `lru_curve::recency_list::put_first` meets its contract: what is passed stands one further, and the last of it is in hand.
 use Prim.Native.Nat.{_+_, _-_, _≤_}
 use mathlib.Core.Path.{_≡_, refl, _∙_}
 use native.Mathlib.Omega.{arith}

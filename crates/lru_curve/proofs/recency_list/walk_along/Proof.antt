@@ -1,4 +1,4 @@
--- `lru_curve::recency_list::walk_along` meets its contract: the entries looked at so far are not x, and each is counted. Assumes nothing.
+-- `lru_curve::recency_list::walk_along` meets its contract: the entries looked at so far are not x, and each is counted.
 use Prim.Native.Nat.{ℕ, suc, _+_, _-_, _≤_}
 use mathlib.Core.Path.{_≡_, refl, ap, _∙_}
 use native.Mathlib.Numerals.{add-one}

@@ -1,4 +1,4 @@
--- `lru_curve::recency_list::walk_to` meets its contract: the first n entries are a list by themselves. Assumes nothing.
+-- `lru_curve::recency_list::walk_to` meets its contract: the first n entries are a list by themselves.
 use mathlib.Core.Path.{sym}
 use borrow.Author.Needs.{needs}
 use denote.Ref.{now}

@@ -1,5 +1,4 @@
 -- `lru_curve::recency_list::walk_turns` meets its contract: the turns passed do not have x, and each of their entries is counted.
--- Assumes nothing.
 use Prim.Native.Nat.{ℕ, _+_, _-_, _≤_}
 use mathlib.Core.Path.{_≡_, refl, ap, _∙_}
 use native.Mathlib.Omega.{arith}

@@ -1,4 +1,4 @@
--- `Head::empty` meets its contract: the arrays of zeros are those of the definition. Assumes nothing.
+-- `Head::empty` meets its contract: the arrays of zeros are those of the definition.
 use borrow.Author.Needs.{needs}
 use Rattle.model.specs.Values.{emptyHead, zeros, zeroRows}
 use Rattle.model.proofs.Head.empty.Statement.{statement}

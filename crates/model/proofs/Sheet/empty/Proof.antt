@@ -1,4 +1,4 @@
--- `Sheet::empty` meets its contract: the arrays of idle entries and of marks are those of the definition. Assumes nothing.
+-- `Sheet::empty` meets its contract: the arrays of idle entries and of marks are those of the definition.
 use mathlib.Core.Path.{ap}
 use borrow.Author.Needs.{needs}
 use Rattle.model.specs.Sheets.{mostSteps}

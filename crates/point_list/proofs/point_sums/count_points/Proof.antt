@@ -1,5 +1,4 @@
 -- `point_list::point_sums::count_points` meets its contract: the invariant of its loop is `Counting`, the measure the keys that are left.
--- Assumes nothing.
 use Prim.Native.Nat.{_-_}
 use mathlib.Core.Path.{_≡_, _∙_}
 use native.Mathlib.Omega.{arith}

@@ -1,4 +1,4 @@
--- `point_list::point_sums::differ` meets its contract: its test is that of the definition. Assumes nothing.
+-- `point_list::point_sums::differ` meets its contract: its test is that of the definition.
 use borrow.Author.Tests.{eq-eqb, ne-eqb}
 use Rattle.point_list.proofs.point_sums.differ.Statement.{statement}
 use Rattle.point_list.proofs.point_sums.differ.Tie as tie

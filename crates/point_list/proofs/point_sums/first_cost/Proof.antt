@@ -1,4 +1,4 @@
--- `point_list::point_sums::first_cost` meets its contract: its tests are those of the definition. Assumes nothing.
+-- `point_list::point_sums::first_cost` meets its contract: its tests are those of the definition.
 use lib.ListN.{getD}
 use denote.Ref.{now}
 use borrow.Author.Tests.{lt-ltb, le-ltb}

@@ -1,5 +1,4 @@
 -- `point_list::point_sums::points` meets its contract: a place too short for the numbers is refused and stays, else they stand at its head.
--- Assumes nothing.
 use Prim.Native.Nat.{_*_, _^_, _≤_, _<_}
 use native.Mathlib.Omega.{arith}
 use Rattle.point_list.proofs.Fine.{held-few, held-quotable}

@@ -1,4 +1,4 @@
--- `point_list::point_sums::put_point` meets its contract: the four places are within the list. Assumes nothing.
+-- `point_list::point_sums::put_point` meets its contract: the four places are within the list.
 use native.Mathlib.Omega.{arith}
 use lib.ListN.{length-set}
 use borrow.Author.Needs.{needs}

@@ -1,4 +1,4 @@
--- `pricing::byte_words::joined` meets its contract. Assumes nothing.
+-- `pricing::byte_words::joined` meets its contract.
 use Prim.Native.Nat.{_+_}
 use mathlib.Core.Path.{ap, _∙_}
 use native.Mathlib.Omega.{arith}

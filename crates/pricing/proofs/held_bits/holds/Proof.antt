@@ -1,4 +1,4 @@
--- `pricing::held_bits::holds` meets its contract: segment i is bit i % 8 of byte i / 8. Assumes nothing.
+-- `pricing::held_bits::holds` meets its contract: segment i is bit i % 8 of byte i / 8.
 use mathlib.Core.Path.{sym}
 use native.Mathlib.Omega.{arith}
 use Rattle.pricing.proofs.Held.{held-start, held-byte}

@@ -1,4 +1,4 @@
--- `pricing::held_bits::start_word` meets its contract. Assumes nothing.
+-- `pricing::held_bits::start_word` meets its contract.
 use borrow.Author.Tests.{eq-eqb, ne-eqb}
 use Rattle.pricing.proofs.held_bits.start_word.Statement.{statement}
 use Rattle.pricing.proofs.held_bits.start_word.Tie as tie

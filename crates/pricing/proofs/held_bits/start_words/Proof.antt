@@ -1,4 +1,4 @@
--- `pricing::held_bits::start_words` meets its contract: number m has the bytes from 8 × m on. Assumes nothing.
+-- `pricing::held_bits::start_words` meets its contract: number m has the bytes from 8 × m on.
 use Rattle.pricing.proofs.Held.{words-bits}
 use denote.Ref.{now}
 use borrow.Author.Needs.{needs}

@@ -1,4 +1,4 @@
--- `pricing::held_bits::word_at` meets its contract. Assumes nothing.
+-- `pricing::held_bits::word_at` meets its contract.
 use mathlib.Core.Path.{sym, _∙_}
 use Rattle.pricing.proofs.Held.{word-start, held-word}
 use borrow.Author.Needs.{needs}

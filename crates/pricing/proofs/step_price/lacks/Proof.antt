@@ -1,4 +1,4 @@
--- `pricing::step_price::lacks` meets its contract. Assumes nothing.
+-- `pricing::step_price::lacks` meets its contract.
 use borrow.Author.Needs.{needs}
 use borrow.Author.Tests.{lt-ltb, le-ltb}
 use Rattle.pricing.proofs.step_price.lacks.Statement.{statement}

@@ -1,4 +1,4 @@
--- `pricing::step_price::moved` meets its contract. Assumes nothing.
+-- `pricing::step_price::moved` meets its contract.
 use Prim.Native.Nat.{_≤_}
 use mathlib.Core.Path.{refl}
 use Rattle.model.specs.Costs.{unitCost}

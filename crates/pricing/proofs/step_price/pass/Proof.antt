@@ -1,4 +1,4 @@
--- `pricing::step_price::pass` meets its contract, case by case. Assumes nothing.
+-- `pricing::step_price::pass` meets its contract, case by case.
 use mathlib.Core.Path.{refl, ap, _∙_}
 use mathlib.Core.Bool.{not}
 use Rattle.pricing.proofs.Changing.{pass-leaves, pass-touched, pass-enters}

@@ -1,4 +1,4 @@
--- `pricing::step_price::pass_step` meets its contract. The loop's invariant: the segments of the first m words are passed. Assumes nothing.
+-- `pricing::step_price::pass_step` meets its contract. The loop's invariant: the segments of the first m words are passed.
 use Prim.Native.Nat.{_+_, _-_, _*_, _≤_}
 use mathlib.Core.Path.{_≡_}
 use native.Mathlib.Omega.{arith}

@@ -1,5 +1,5 @@
 -- `pricing::step_price::pass_word` meets its contract. The loop's invariant: the segments before i are passed, and old and new have the
--- other bits. Assumes nothing.
+-- other bits.
 use mathlib.Core.Path.{refl}
 use native.Mathlib.Numerals.{add-one}
 use lib.Bits.{bitXor}

@@ -1,4 +1,4 @@
--- `pricing::step_price::size_at` meets its contract. Assumes nothing.
+-- `pricing::step_price::size_at` meets its contract.
 use mathlib.Core.Path.{refl, sym}
 use denote.Ref.{now}
 use borrow.Author.Needs.{needs}

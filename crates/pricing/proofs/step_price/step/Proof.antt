@@ -1,4 +1,4 @@
--- `pricing::step_price::step` meets its contract. Assumes nothing.
+-- `pricing::step_price::step` meets its contract.
 use mathlib.Core.Path.{sym, _∙_}
 use native.Mathlib.Omega.{arith}
 use denote.Ref.{now}

@@ -1,4 +1,4 @@
--- `pricing::step_price::unit_at` meets its contract. Assumes nothing.
+-- `pricing::step_price::unit_at` meets its contract.
 use native.Mathlib.Omega.{arith}
 use lib.ListN.{getD}
 use Rattle.model.proofs.Bounds.{unit-within}

@@ -1,4 +1,4 @@
--- `read_sheet::form_line::form_bytes` meets its contract: forms 2, 3 and 4 have limits of their own. Assumes nothing.
+-- `read_sheet::form_line::form_bytes` meets its contract: forms 2, 3 and 4 have limits of their own.
 use borrow.Author.Tests.{eq-eqb, ne-eqb}
 use Rattle.read_sheet.proofs.form_line.form_bytes.Statement.{statement}
 use Rattle.read_sheet.proofs.form_line.form_bytes.Tie as tie

@@ -1,4 +1,4 @@
--- `read_sheet::form_line::form_line` meets its contract: the line is read where the bytes begin with its key. Assumes nothing.
+-- `read_sheet::form_line::form_line` meets its contract: the line is read where the bytes begin with its key.
 use mathlib.Core.Path.{refl}
 use native.Mathlib.Omega.{arith}
 use borrow.Author.Needs.{needs}

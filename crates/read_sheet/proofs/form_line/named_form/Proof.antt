@@ -1,4 +1,4 @@
--- `read_sheet::form_line::named_form` meets its contract: the number of the form line, or 1. Assumes nothing.
+-- `read_sheet::form_line::named_form` meets its contract: the number of the form line, or 1.
 use mathlib.Core.Path.{refl, sym, ap, _∙_}
 use borrow.Author.Needs.{needs}
 use Rattle.sheet.specs.Lines.{splitAt}

@@ -1,4 +1,4 @@
--- `read_sheet::form_line::too_long` meets its contract: the least limit, then that of the form. Assumes nothing.
+-- `read_sheet::form_line::too_long` meets its contract: the least limit, then that of the form.
 use borrow.Author.Needs.{needs}
 use Rattle.read_sheet.proofs.FormLines.{within-least, by-limit}
 use Rattle.read_sheet.proofs.form_line.too_long.Statement.{statement}

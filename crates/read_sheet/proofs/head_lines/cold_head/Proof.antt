@@ -1,4 +1,4 @@
--- `read_sheet::head_lines::cold_head` meets its contract: the sizes, and then the rows. Assumes nothing.
+-- `read_sheet::head_lines::cold_head` meets its contract: the sizes, and then the rows.
 use mathlib.Core.Path.{_≡_, refl, sym, ap, subst, _∙_}
 use Prim.Native.Nat.{_≤_}
 use native.Mathlib.Omega.{arith}

@@ -1,5 +1,4 @@
--- `read_sheet::head_lines::head_lines` meets its contract: the kind, a, and then the sizes, the rows and the warm segments. Assumes
--- nothing.
+-- `read_sheet::head_lines::head_lines` meets its contract: the kind, a, and then the sizes, the rows and the warm segments.
 use mathlib.Core.Path.{refl, sym, ap, _∙_}
 use Prim.Native.Nat.{_+_, _≤_}
 use native.Mathlib.Omega.{arith}

@@ -1,4 +1,4 @@
--- `read_sheet::head_lines::kind_for` meets its contract: the kind's line, and then whether the form is taken. Assumes nothing.
+-- `read_sheet::head_lines::kind_for` meets its contract: the kind's line, and then whether the form is taken.
 use mathlib.Core.Path.{sym, ap, _∙_}
 use native.Mathlib.Omega.{arith}
 use borrow.Author.Needs.{needs}

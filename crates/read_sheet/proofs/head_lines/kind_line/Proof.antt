@@ -1,4 +1,4 @@
--- `read_sheet::head_lines::kind_line` meets its contract: the line's value is read as a kind. Assumes nothing.
+-- `read_sheet::head_lines::kind_line` meets its contract: the line's value is read as a kind.
 use Prim.Native.Nat.{_≤_, _<_}
 use mathlib.Core.Path.{refl, sym, _∙_}
 use native.Mathlib.Omega.{arith}

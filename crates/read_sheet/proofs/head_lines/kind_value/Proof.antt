@@ -1,4 +1,4 @@
--- `read_sheet::head_lines::kind_value` meets its contract: the two words are compared in the definition's order. Assumes nothing.
+-- `read_sheet::head_lines::kind_value` meets its contract: the two words are compared in the definition's order.
 use mathlib.Core.Path.{sym, _∙_}
 use native.Mathlib.Omega.{arith}
 use borrow.Author.Needs.{needs}

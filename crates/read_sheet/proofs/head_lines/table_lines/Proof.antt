@@ -1,5 +1,4 @@
--- `read_sheet::head_lines::table_lines` meets its contract: the sizes and the rows, and then the warm segments of a later form. Assumes
--- nothing.
+-- `read_sheet::head_lines::table_lines` meets its contract: the sizes and the rows, and then the warm segments of a later form.
 use mathlib.Core.Path.{ap, subst}
 use Prim.Native.Nat.{_≤_}
 use native.Mathlib.Omega.{arith}

@@ -1,4 +1,4 @@
--- `read_sheet::row_lines::exceeds` meets its contract: the products are those of the definition and fit. Assumes nothing.
+-- `read_sheet::row_lines::exceeds` meets its contract: the products are those of the definition and fit.
 use Prim.Native.Nat.{_^_}
 use mathlib.Core.Path.{sym, ap}
 use native.Mathlib.Omega.{arith}

@@ -1,4 +1,4 @@
--- `read_sheet::row_lines::price_lines` meets its contract: the line rows=, and then so many rows. Assumes nothing.
+-- `read_sheet::row_lines::price_lines` meets its contract: the line rows=, and then so many rows.
 use mathlib.Core.Path.{refl}
 use native.Mathlib.Omega.{arith}
 use borrow.Author.Needs.{needs}

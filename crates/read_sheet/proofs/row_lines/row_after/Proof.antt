@@ -1,4 +1,4 @@
--- `read_sheet::row_lines::row_after` meets its contract: the test decides between the row and the refusal. Assumes nothing.
+-- `read_sheet::row_lines::row_after` meets its contract: the test decides between the row and the refusal.
 use mathlib.Core.Path.{sym, _∙_}
 use native.Mathlib.Omega.{arith}
 use borrow.Author.Needs.{needs}

@@ -1,4 +1,4 @@
--- `read_sheet::row_lines::row_beyond` meets its contract, one refusal for each case of the reading. Assumes nothing.
+-- `read_sheet::row_lines::row_beyond` meets its contract, one refusal for each case of the reading.
 use mathlib.Core.Path.{refl}
 use borrow.Author.Needs.{needs}
 use Rattle.read_sheet.proofs.row_lines.row_beyond.Statement.{statement}

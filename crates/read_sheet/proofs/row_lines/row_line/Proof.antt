@@ -1,4 +1,4 @@
--- `read_sheet::row_lines::row_line` meets its contract: the line's value is read as a row. Assumes nothing.
+-- `read_sheet::row_lines::row_line` meets its contract: the line's value is read as a row.
 use Prim.Native.Nat.{_≤_, _<_}
 use mathlib.Core.Path.{refl, sym, _∙_}
 use native.Mathlib.Omega.{arith}

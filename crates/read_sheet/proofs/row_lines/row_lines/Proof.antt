@@ -1,5 +1,5 @@
 -- `read_sheet::row_lines::row_lines` meets its contract. The loop's invariant: the rows of the lines passed stand at the front of `rows`,
--- and behind the n rows stand those of the start. Assumes nothing.
+-- and behind the n rows stand those of the start.
 use Prim.Native.Nat.{ℕ, _-_, _≤_}
 use mathlib.Core.List.{List}
 use mathlib.Core.Path.{sym, ap, _∙_}

@@ -1,4 +1,4 @@
--- `read_sheet::row_lines::row_of` meets its contract, one answer for each case of the first reading. Assumes nothing.
+-- `read_sheet::row_lines::row_of` meets its contract, one answer for each case of the first reading.
 use native.Mathlib.Omega.{arith}
 use borrow.Author.Needs.{needs}
 use Rattle.read_sheet.proofs.ReadRows.{number-in}

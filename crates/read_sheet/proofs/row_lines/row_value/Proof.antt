@@ -1,4 +1,4 @@
--- `read_sheet::row_lines::row_value` meets its contract: the two sides of the first "/" are read as the two prices. Assumes nothing.
+-- `read_sheet::row_lines::row_value` meets its contract: the two sides of the first "/" are read as the two prices.
 use mathlib.Core.Path.{sym, _∙_}
 use native.Mathlib.Omega.{arith}
 use borrow.Author.Needs.{needs}

@@ -1,4 +1,4 @@
--- `read_sheet::row_lines::row_with` meets its contract, one answer for each case of the reading. Assumes nothing.
+-- `read_sheet::row_lines::row_with` meets its contract, one answer for each case of the reading.
 use native.Mathlib.Omega.{arith}
 use borrow.Author.Needs.{needs}
 use Rattle.read_sheet.proofs.ReadRows.{number-in}

@@ -1,4 +1,4 @@
--- `read_sheet::warm_lines::hold_line` meets its contract: the line's number, and then whether it may stand there. Assumes nothing.
+-- `read_sheet::warm_lines::hold_line` meets its contract: the line's number, and then whether it may stand there.
 use mathlib.Core.Path.{refl}
 use native.Mathlib.Omega.{arith}
 use borrow.Author.Needs.{needs}

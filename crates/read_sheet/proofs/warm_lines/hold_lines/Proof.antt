@@ -1,5 +1,5 @@
 -- `read_sheet::warm_lines::hold_lines` meets its contract. The loop's invariant: the segments of the lines passed stand at the front of
--- `out`. Assumes nothing.
+-- `out`.
 use Prim.Native.Nat.{_-_}
 use mathlib.Core.Option.{none}
 use mathlib.Core.Path.{sym}

@@ -1,4 +1,4 @@
--- `read_sheet::warm_lines::warm_lines` meets its contract: the count, and then so many lines into the front of `out`. Assumes nothing.
+-- `read_sheet::warm_lines::warm_lines` meets its contract: the count, and then so many lines into the front of `out`.
 use mathlib.Core.Path.{refl, sym}
 use mathlib.Core.Option.{none}
 use Prim.Native.Nat.{_≤_}

@@ -1,4 +1,4 @@
--- `read_touches::short_touch::number_before` meets its contract: the byte after the digits is `mark`. Assumes nothing.
+-- `read_touches::short_touch::number_before` meets its contract: the byte after the digits is `mark`.
 use Prim.Native.Nat.{ℕ}
 use mathlib.Core.List.{List}
 use native.Mathlib.Omega.{arith}

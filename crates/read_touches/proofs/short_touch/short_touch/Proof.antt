@@ -1,5 +1,4 @@
--- `read_touches::short_touch::short_touch` meets its contract: the first number reaches up to "@", the step up to the line feed. Assumes
--- nothing.
+-- `read_touches::short_touch::short_touch` meets its contract: the first number reaches up to "@", the step up to the line feed.
 use Prim.Native.Nat.{_+_, _≤_, _<_}
 use mathlib.Core.Path.{_≡_, sym, _∙_}
 use mathlib.Core.Bool.{true}

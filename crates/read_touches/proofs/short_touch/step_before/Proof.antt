@@ -1,5 +1,4 @@
--- `read_touches::short_touch::step_before` meets its contract: the digits reach up to the line feed, or to the letter w before it. Assumes
--- nothing.
+-- `read_touches::short_touch::step_before` meets its contract: the digits reach up to the line feed, or to the letter w before it.
 use mathlib.Core.Bool.{Bool, false≢true}
 use mathlib.Core.List.{List}
 use mathlib.Core.Path.{_≡_}

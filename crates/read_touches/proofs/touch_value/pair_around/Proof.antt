@@ -1,4 +1,4 @@
--- `read_touches::touch_value::pair_around` meets its contract: the two sides of the first "@" are read as the two numbers. Assumes nothing.
+-- `read_touches::touch_value::pair_around` meets its contract: the two sides of the first "@" are read as the two numbers.
 use Prim.Native.Nat.{_+_, _≤_}
 use mathlib.Core.Path.{refl, sym, _∙_}
 use native.Mathlib.Omega.{arith}

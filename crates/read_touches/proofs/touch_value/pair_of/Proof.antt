@@ -1,4 +1,4 @@
--- `read_touches::touch_value::pair_of` meets its contract, one answer for each case of the two readings. Assumes nothing.
+-- `read_touches::touch_value::pair_of` meets its contract, one answer for each case of the two readings.
 use borrow.Author.Needs.{needs}
 use Rattle.read_touches.proofs.touch_value.pair_of.Statement.{statement}
 use Rattle.read_touches.proofs.touch_value.pair_of.Tie as tie

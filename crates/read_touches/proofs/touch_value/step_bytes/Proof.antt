@@ -1,5 +1,4 @@
--- `read_touches::touch_value::step_bytes` meets its contract: the first letter w is looked for, and counts at the end alone. Assumes
--- nothing.
+-- `read_touches::touch_value::step_bytes` meets its contract: the first letter w is looked for, and counts at the end alone.
 use native.Mathlib.Omega.{arith}
 use borrow.Author.Needs.{needs}
 use borrow.Author.Tests.{not-true, not-false}

@@ -1,4 +1,4 @@
--- `read_touches::touch_value::touch_line` meets its contract: the line's value is read as a touch. Assumes nothing.
+-- `read_touches::touch_value::touch_line` meets its contract: the line's value is read as a touch.
 use Prim.Native.Nat.{_≤_, _<_}
 use mathlib.Core.Path.{refl, sym, _∙_}
 use native.Mathlib.Omega.{arith}

@@ -1,4 +1,4 @@
--- `read_touches::touch_value::touch_value` meets its contract, one answer for each case of the pair. Assumes nothing.
+-- `read_touches::touch_value::touch_value` meets its contract, one answer for each case of the pair.
 use mathlib.Core.Path.{sym, _∙_}
 use native.Mathlib.Omega.{arith}
 use borrow.Author.Needs.{needs}

@@ -1,4 +1,4 @@
--- `Recorder::empty` meets its contract. Assumes nothing.
+-- `Recorder::empty` meets its contract.
 use mathlib.Core.Path.{refl, _∙_}
 use borrow.Author.Needs.{needs}
 use Rattle.model.specs.Values.{emptyHead}

@@ -1,4 +1,4 @@
--- `Recorder::figures` meets its contract, by its two answers. Assumes nothing.
+-- `Recorder::figures` meets its contract, by its two answers.
 use native.Mathlib.Omega.{arith}
 use borrow.Author.Needs.{needs}
 use Rattle.recorder.proofs.Answers.{no-such-row, figured}

@@ -1,4 +1,4 @@
--- `Recorder::idle` meets its contract, by its verdict. Assumes nothing.
+-- `Recorder::idle` meets its contract, by its verdict.
 use mathlib.Core.Path.{sym, _∙_}
 use native.Mathlib.Omega.{arith}
 use borrow.Author.Needs.{needs}

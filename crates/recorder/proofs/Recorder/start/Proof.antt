@@ -1,4 +1,4 @@
--- `Recorder::start` meets its contract. Assumes nothing.
+-- `Recorder::start` meets its contract.
 use mathlib.Core.Path.{_∙_}
 use borrow.Author.Needs.{needs}
 use Rattle.recorder.proofs.Answers.{start-stands}

@@ -1,4 +1,4 @@
--- `Recorder::touch` meets its contract, by its three answers. Assumes nothing.
+-- `Recorder::touch` meets its contract, by its three answers.
 use native.Mathlib.Omega.{arith}
 use borrow.Author.Needs.{needs}
 use Rattle.recorder.proofs.Answers.{out-of-range, full, accepted}

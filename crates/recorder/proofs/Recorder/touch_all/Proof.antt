@@ -1,4 +1,4 @@
--- `Recorder::touch_all` meets its contract, by the verdict on the references. Assumes nothing.
+-- `Recorder::touch_all` meets its contract, by the verdict on the references.
 use mathlib.Core.Path.{sym, _∙_}
 use borrow.Author.Needs.{needs}
 use Rattle.recorder.proofs.Answers.{verdict-found, all-refused, all-accepted}

@@ -1,4 +1,4 @@
--- `recorder::guards::file` meets its contract: where the sums leave room the touch is added. Assumes nothing.
+-- `recorder::guards::file` meets its contract: where the sums leave room the touch is added.
 use borrow.Author.Needs.{needs}
 use native.Mathlib.Omega.{arith}
 use Rattle.recorder.proofs.Telling.{told-false}

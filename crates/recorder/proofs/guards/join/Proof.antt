@@ -1,4 +1,4 @@
--- `recorder::guards::join` meets its contract: each sum has room. Assumes nothing.
+-- `recorder::guards::join` meets its contract: each sum has room.
 use borrow.Author.Needs.{needs}
 use Rattle.model.proofs.Units.{memory-is, load-is}
 use Rattle.recorder.proofs.guards.join.Statement.{statement}

@@ -1,5 +1,5 @@
 -- `recorder::guards::roomy` meets its contract. The loop's invariant: the buckets passed have room. The measure is what is left of the
--- buckets. Assumes nothing.
+-- buckets.
 use Prim.Native.Nat.{ℕ, _-_, _^_, _≤_, _<_}
 use mathlib.Core.Logic.{⊎-elim}
 use native.Mathlib.Omega.{arith}

@@ -1,5 +1,5 @@
 -- `recorder::guards::sum_first` meets its contract. The loop's invariant: where the sums hold at most 2,048 items, `all` is that of the
--- buckets passed. The measure is what is left of the buckets. Assumes nothing.
+-- buckets passed. The measure is what is left of the buckets.
 use Prim.Native.Nat.{ℕ, _-_, _≤_}
 use mathlib.Core.Path.{_≡_, refl, sym, _∙_}
 use native.Mathlib.Numerals.{add-one}

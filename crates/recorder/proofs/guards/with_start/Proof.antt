@@ -1,4 +1,4 @@
--- `recorder::guards::with_start` meets its contract: sums that hold at most 2,304 items leave room. Assumes nothing.
+-- `recorder::guards::with_start` meets its contract: sums that hold at most 2,304 items leave room.
 use native.Mathlib.Omega.{arith}
 use borrow.Author.Needs.{needs}
 use Rattle.model.proofs.Units.{load-is}

@@ -1,4 +1,4 @@
--- `recorder::reading::row_now` meets its contract. Assumes nothing.
+-- `recorder::reading::row_now` meets its contract.
 use borrow.Author.Needs.{needs}
 use Rattle.recorder.proofs.RowNow.{swept-stands}
 use Rattle.recorder.proofs.reading.row_now.Statement.{statement}

@@ -1,4 +1,4 @@
--- `recorder::row_guards::occupancy` meets its contract. Assumes nothing.
+-- `recorder::row_guards::occupancy` meets its contract.
 use mathlib.Core.Path.{_∙_}
 use borrow.Author.Needs.{needs}
 use Rattle.recorder.proofs.row_guards.occupancy.Statement.{statement}

@@ -1,4 +1,4 @@
--- `recorder::row_guards::row_of` meets its contract: sums from which no figure exceeds 64 bits pass each test. Assumes nothing.
+-- `recorder::row_guards::row_of` meets its contract: sums from which no figure exceeds 64 bits pass each test.
 use native.Mathlib.Omega.{arith}
 use borrow.Author.Needs.{needs}
 use Rattle.recorder.proofs.Fitting.{summable-of}

@@ -1,4 +1,4 @@
--- `recorder::row_guards::start_now` meets its contract: the sizes and warm segments lent are those that the head counts. Assumes nothing.
+-- `recorder::row_guards::start_now` meets its contract: the sizes and warm segments lent are those that the head counts.
 use mathlib.Core.Path.{_≡_, refl, sym, _∙_}
 use native.Mathlib.Omega.{arith}
 use borrow.Author.Needs.{needs}

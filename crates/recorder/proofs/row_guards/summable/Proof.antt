@@ -1,4 +1,4 @@
--- `recorder::row_guards::summable` meets its contract. Assumes nothing.
+-- `recorder::row_guards::summable` meets its contract.
 use native.Mathlib.Omega.{arith}
 use borrow.Author.Needs.{needs}
 use Rattle.recorder.proofs.Telling.{tells-false, failed, passed}

@@ -1,5 +1,5 @@
 -- `recorder::taking::acceptable` meets its contract. The loop's invariant: the verdict on all references is that on those left. The measure
--- is what is left of the references. Assumes nothing.
+-- is what is left of the references.
 use Prim.Native.Nat.{_-_}
 use native.Mathlib.Omega.{arith}
 use borrow.Author.Needs.{needs}

@@ -1,4 +1,4 @@
--- `recorder::taking::idle_verdict` meets its contract. Assumes nothing.
+-- `recorder::taking::idle_verdict` meets its contract.
 use mathlib.Core.Path.{refl}
 use borrow.Author.Tests.{lt-ltb, le-ltb}
 use Rattle.model.specs.Sheets.{mostSteps}

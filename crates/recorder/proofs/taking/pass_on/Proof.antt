@@ -1,4 +1,4 @@
--- `recorder::taking::pass_on` meets its contract: the rows and sizes lent are those of the sheet. Assumes nothing.
+-- `recorder::taking::pass_on` meets its contract: the rows and sizes lent are those of the sheet.
 use mathlib.Core.Path.{_≡_, sym}
 use native.Mathlib.Omega.{arith}
 use borrow.Author.Needs.{needs}

@@ -1,5 +1,5 @@
 -- `recorder::taking::take_all` meets its contract: the pass goes on from a recorder that passes the test, which every recorder that stands
--- for a sheet does. Assumes nothing.
+-- for a sheet does.
 use Prim.Native.Nat.{_+_, _≤_, min}
 use mathlib.Core.Path.{refl, ap, _∙_}
 use native.Mathlib.Omega.{arith}

@@ -1,4 +1,4 @@
--- `recorder::taking::take_one` meets its contract: it makes one step of the pass. Assumes nothing.
+-- `recorder::taking::take_one` meets its contract: it makes one step of the pass.
 use mathlib.Core.Path.{refl}
 use native.Mathlib.Omega.{arith}
 use borrow.Author.Needs.{needs}

@@ -1,4 +1,4 @@
--- `billing::sheet_bill` meets its contract: the row is tested, then the tariff, then the row's figures are billed. Assumes nothing.
+-- `billing::sheet_bill` meets its contract: the row is tested, then the tariff, then the row's figures are billed.
 use mathlib.Core.Path.{sym, _∙_}
 use native.Mathlib.Omega.{arith}
 use borrow.Author.Needs.{needs}

@@ -1,5 +1,5 @@
 -- `sizing::sheet_size` meets its contract. The loop's invariant: the first i rows are within the ceiling, and `row` is the lowest of them
--- with the least load. The measure is the rows that are left. Assumes nothing.
+-- with the least load. The measure is the rows that are left.
 use Prim.Native.Nat.{_-_, _<_}
 use mathlib.Core.Path.{_∙_}
 use mathlib.Core.Logic.{inl, inr, ⊎-elim}

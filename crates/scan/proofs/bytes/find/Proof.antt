@@ -1,4 +1,4 @@
--- `scan::bytes::find` meets its contract. The loop's invariant: none of the bytes passed is `c`. Assumes nothing.
+-- `scan::bytes::find` meets its contract. The loop's invariant: none of the bytes passed is `c`.
 use Prim.Native.Nat.{ℕ, _-_, _≤_, _<_}
 use mathlib.Core.Path.{_≡_}
 use mathlib.Core.List.{List}

@@ -1,4 +1,4 @@
--- `scan::bytes::has_key` meets its contract: fewer bytes than the key has do not start with it. Assumes nothing.
+-- `scan::bytes::has_key` meets its contract: fewer bytes than the key has do not start with it.
 use mathlib.Core.Path.{sym}
 use borrow.Author.Needs.{needs}
 use lib.Seq.{length-take-le}

@@ -1,4 +1,4 @@
--- `scan::bytes::same` meets its contract: the lengths are compared, then the first four bytes, and then the others. Assumes nothing.
+-- `scan::bytes::same` meets its contract: the lengths are compared, then the first four bytes, and then the others.
 use mathlib.Core.Path.{sym, _∙_}
 use native.Mathlib.Omega.{arith}
 use borrow.Author.Needs.{needs}

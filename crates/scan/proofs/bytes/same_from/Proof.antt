@@ -1,4 +1,4 @@
--- `scan::bytes::same_from` meets its contract. The loop's invariant: what is left compares as the whole does. Assumes nothing.
+-- `scan::bytes::same_from` meets its contract. The loop's invariant: what is left compares as the whole does.
 use Prim.Native.Nat.{_-_}
 use mathlib.Core.Path.{sym}
 use borrow.Author.Needs.{needs}

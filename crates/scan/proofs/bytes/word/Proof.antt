@@ -1,4 +1,4 @@
--- `scan::bytes::word` meets its contract: four bytes fit 32 bits. Assumes nothing.
+-- `scan::bytes::word` meets its contract: four bytes fit 32 bits.
 use native.Mathlib.Omega.{arith}
 use borrow.Author.Needs.{needs}
 use Rattle.scan.proofs.bytes.word.Statement.{statement}

@@ -1,4 +1,4 @@
--- `scan::numbers::after` meets its contract, case by case. Assumes nothing.
+-- `scan::numbers::after` meets its contract, case by case.
 use mathlib.Core.Path.{sym, ap}
 use native.Mathlib.Omega.{arith}
 use borrow.Author.Needs.{needs}

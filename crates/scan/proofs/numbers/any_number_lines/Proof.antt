@@ -1,5 +1,4 @@
 -- `scan::numbers::any_number_lines` meets its contract. The loop's invariant: the numbers of the lines passed stand at the front of `out`.
--- Assumes nothing.
 use Prim.Native.Nat.{_-_}
 use mathlib.Core.Path.{sym}
 use native.Mathlib.Omega.{arith}

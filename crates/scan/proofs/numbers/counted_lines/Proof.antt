@@ -1,4 +1,4 @@
--- `scan::numbers::counted_lines` meets its contract: the count, and then so many lines into the front of `out`. Assumes nothing.
+-- `scan::numbers::counted_lines` meets its contract: the count, and then so many lines into the front of `out`.
 use mathlib.Core.Path.{refl, sym}
 use Prim.Native.Nat.{_≤_}
 use native.Mathlib.Omega.{arith}

@@ -1,4 +1,4 @@
--- `scan::numbers::number_line` meets its contract: the line's value is read as a number. Assumes nothing.
+-- `scan::numbers::number_line` meets its contract: the line's value is read as a number.
 use Prim.Native.Nat.{_≤_, _<_}
 use mathlib.Core.Path.{sym, _∙_}
 use native.Mathlib.Omega.{arith}

@@ -1,4 +1,4 @@
--- `scan::numbers::number_lines` meets its contract: the short lines at the front, and the lines behind them. Assumes nothing.
+-- `scan::numbers::number_lines` meets its contract: the short lines at the front, and the lines behind them.
 use Prim.Native.Nat.{_+_, _≤_}
 use mathlib.Core.Path.{ap}
 use native.Mathlib.Omega.{arith}

@@ -1,4 +1,4 @@
--- `scan::numbers::number_value` meets its contract, one answer for each case of the reading. Assumes nothing.
+-- `scan::numbers::number_value` meets its contract, one answer for each case of the reading.
 use native.Mathlib.Omega.{arith}
 use borrow.Author.Needs.{needs}
 use Rattle.scan.proofs.NumberLines.{number-value}

@@ -1,4 +1,4 @@
--- `scan::numbers::short_line` meets its contract: the digits after the key reach up to the line feed. Assumes nothing.
+-- `scan::numbers::short_line` meets its contract: the digits after the key reach up to the line feed.
 use mathlib.Core.Path.{_≡_, refl, sym, _∙_}
 use mathlib.Core.Bool.{true}
 use native.Mathlib.Omega.{arith}

@@ -1,5 +1,4 @@
 -- `scan::numbers::short_lines` meets its contract. The loop's invariant: the numbers of the lines passed stand at the front of `out`.
--- Assumes nothing.
 use Prim.Native.Nat.{ℕ, _-_}
 use mathlib.Core.List.{List}
 use native.Mathlib.Omega.{arith}

@@ -1,4 +1,4 @@
--- `scan::numbers::value_line` meets its contract: the key comes first, and the value stands between it and the line feed. Assumes nothing.
+-- `scan::numbers::value_line` meets its contract: the key comes first, and the value stands between it and the line feed.
 use mathlib.Core.Path.{sym, _∙_}
 use native.Mathlib.Omega.{arith}
 use borrow.Author.Needs.{needs}

@@ -1,4 +1,4 @@
--- `start_mask` meets its contract: the mask has the bits of the warm segments passed so far. Assumes nothing.
+-- `start_mask` meets its contract: the mask has the bits of the warm segments passed so far.
 use Prim.Native.Nat.{ℕ, _-_, _*_, _/_, _%_, _^_}
 use mathlib.Core.Path.{_≡_, refl, ap, _∙_}
 use native.Mathlib.Omega.{arith}

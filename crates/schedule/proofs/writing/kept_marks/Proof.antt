@@ -1,4 +1,4 @@
--- `kept_marks` meets its contract: the invariant of its loop is `Marked`, the measure the steps that are left. Assumes nothing.
+-- `kept_marks` meets its contract: the invariant of its loop is `Marked`, the measure the steps that are left.
 use Prim.Native.Nat.{_-_, _<_}
 use mathlib.Core.Path.{refl, _∙_}
 use native.Mathlib.Omega.{arith}

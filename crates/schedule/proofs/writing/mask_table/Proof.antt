@@ -1,5 +1,4 @@
 -- `mask_table` meets its contract: after i turns the masks of the segments below i are in the table. The measure is what is left of 256.
--- Assumes nothing.
 use Prim.Native.Nat.{_-_, _*_, _%_, _^_, _≤_}
 use mathlib.Core.Path.{_≡_, sym, _∙_}
 use native.Mathlib.Omega.{arith}

@@ -1,5 +1,4 @@
 -- `masked` meets its contract: what is taken off is within the byte, and the sum is within the union of byte and mask.
--- Assumes nothing.
 use lib.Bits.{and-le-l, or-lt, or-add-and}
 use native.Mathlib.Omega.{arith}
 use mathlib.Core.Path.{refl}

@@ -1,4 +1,4 @@
--- `no_marks` meets its contract. Assumes nothing.
+-- `no_marks` meets its contract.
 use Rattle.schedule.specs.inner.Writing.{noMarks}
 use mathlib.Core.Path.{refl}
 use Rattle.schedule.proofs.writing.no_marks.Statement.{statement}

@@ -1,4 +1,4 @@
--- `no_masks` meets its contract. Assumes nothing.
+-- `no_masks` meets its contract.
 use Rattle.schedule.specs.inner.Writing.{noMasks}
 use mathlib.Core.Path.{refl}
 use Rattle.schedule.proofs.writing.no_masks.Statement.{statement}

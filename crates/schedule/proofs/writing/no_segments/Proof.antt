@@ -1,4 +1,4 @@
--- `no_segments` meets its contract. Assumes nothing.
+-- `no_segments` meets its contract.
 use Rattle.schedule.specs.inner.Writing.{noSegments}
 use mathlib.Core.Path.{refl}
 use Rattle.schedule.proofs.writing.no_segments.Statement.{statement}

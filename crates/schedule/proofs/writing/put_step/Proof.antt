@@ -1,4 +1,4 @@
--- `put_step` meets its contract: the invariant of its loop is `Copied`, the measure the bytes that are left. Assumes nothing.
+-- `put_step` meets its contract: the invariant of its loop is `Copied`, the measure the bytes that are left.
 use Prim.Native.Nat.{_-_}
 use mathlib.Core.Path.{_≡_}
 use native.Mathlib.Omega.{arith}

@@ -1,4 +1,4 @@
--- `write_sheet::segment_of` meets its contract. Assumes nothing.
+-- `write_sheet::segment_of` meets its contract.
 use borrow.Author.Tests.{lt-ltb, le-ltb}
 use Rattle.schedule.proofs.writing.segment_of.Statement.{statement}
 use Rattle.schedule.proofs.writing.segment_of.Tie as tie

@@ -1,4 +1,4 @@
--- `touch_kept` meets its contract: the products are within the bounds of the prices, and the test picks the case. Assumes nothing.
+-- `touch_kept` meets its contract: the products are within the bounds of the prices, and the test picks the case.
 use Prim.Native.Nat.{_-_}
 use native.Mathlib.Omega.{arith}
 use borrow.Author.Tests.{le-leb, lt-leb}

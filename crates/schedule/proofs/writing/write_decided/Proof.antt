@@ -1,4 +1,4 @@
--- `write_decided` meets its contract: the invariant of its loop is `Filling`, the measure the steps that are left. Assumes nothing.
+-- `write_decided` meets its contract: the invariant of its loop is `Filling`, the measure the steps that are left.
 use native.Mathlib.Omega.{arith}
 use denote.Ref.{now}
 use borrow.Author.Needs.{needs}

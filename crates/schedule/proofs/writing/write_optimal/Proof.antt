@@ -1,4 +1,4 @@
--- `write_optimal` meets its contract: the schedule by the marks of the kept touches is the optimal one. Assumes nothing.
+-- `write_optimal` meets its contract: the schedule by the marks of the kept touches is the optimal one.
 use Prim.Native.Nat.{_*_}
 use mathlib.Core.Path.{refl, sym, ap, _∙_}
 use mathlib.Core.List.{_++_}

@@ -1,4 +1,4 @@
--- `find` meets its contract: the invariant of its loop is `Finding`, the measure the steps that are left. Assumes nothing.
+-- `find` meets its contract: the invariant of its loop is `Finding`, the measure the steps that are left.
 use Prim.Native.Nat.{_-_}
 use mathlib.Core.Path.{refl, _∙_}
 use native.Mathlib.Omega.{arith}

@@ -1,4 +1,4 @@
--- `no_decisions` meets its contract. Assumes nothing.
+-- `no_decisions` meets its contract.
 use mathlib.Core.Path.{refl}
 use Rattle.store_plan.specs.inner.Decisions.{noDecisions}
 use Rattle.store_plan.proofs.mod_pass.no_decisions.Statement.{statement}

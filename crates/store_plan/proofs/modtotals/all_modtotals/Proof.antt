@@ -1,4 +1,4 @@
--- `store_plan::modtotals::all_modtotals` meets its contract: the rows are those of the sheet's value. Assumes nothing.
+-- `store_plan::modtotals::all_modtotals` meets its contract: the rows are those of the sheet's value.
 use mathlib.Core.Path.{sym, _∙_}
 use native.Mathlib.Omega.{arith}
 use borrow.Author.Needs.{needs}

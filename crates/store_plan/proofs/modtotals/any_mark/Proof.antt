@@ -1,4 +1,4 @@
--- `store_plan::modtotals::any_mark` meets its contract. The loop's invariant: what the marks left say decides. Assumes nothing.
+-- `store_plan::modtotals::any_mark` meets its contract. The loop's invariant: what the marks left say decides.
 use Prim.Native.Nat.{_-_}
 use mathlib.Core.Path.{_≡_, refl, sym, _∙_}
 use borrow.Author.Needs.{needs}

@@ -1,4 +1,4 @@
--- `store_plan::modtotals::first_modtotals` meets its contract. The loop's invariant: the modtotals of the rows passed. Assumes nothing.
+-- `store_plan::modtotals::first_modtotals` meets its contract. The loop's invariant: the modtotals of the rows passed.
 use Prim.Native.Nat.{_-_, _≤_}
 use mathlib.Core.Path.{_≡_, ap, _∙_}
 use native.Mathlib.Omega.{arith}

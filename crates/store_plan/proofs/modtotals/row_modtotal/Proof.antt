@@ -1,5 +1,4 @@
 -- `store_plan::modtotals::row_modtotal` meets its contract: what the pass gives is added, and nothing where no touch modifies.
--- Assumes nothing.
 use Prim.Native.Nat.{_+_}
 use mathlib.Core.Path.{_≡_, sym, _∙_}
 use native.Mathlib.Omega.{arith}

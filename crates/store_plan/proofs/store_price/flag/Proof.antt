@@ -1,4 +1,4 @@
--- `flag` meets its contract: the test picks the case. Assumes nothing.
+-- `flag` meets its contract: the test picks the case.
 use Rattle.store_plan.proofs.store_price.flag.Statement.{statement}
 use Rattle.store_plan.proofs.store_price.flag.Tie as tie
 

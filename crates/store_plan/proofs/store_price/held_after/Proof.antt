@@ -1,4 +1,4 @@
--- `held_after` meets its contract: segment i is bit i % 8 of byte i / 8 of the last step. Assumes nothing.
+-- `held_after` meets its contract: segment i is bit i % 8 of byte i / 8 of the last step.
 use denote.Ref.{now}
 use borrow.Author.Needs.{needs}
 use Rattle.store_plan.specs.inner.Passing.{heldAfter}

@@ -1,4 +1,4 @@
--- `modified` meets its contract: the test picks the case. Assumes nothing.
+-- `modified` meets its contract: the test picks the case.
 use mathlib.Core.Path.{sym, _∙_}
 use mathlib.Core.Bool.{and-true, and-false}
 use denote.Ref.{now}

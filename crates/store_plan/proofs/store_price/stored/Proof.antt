@@ -1,4 +1,4 @@
--- `stored` meets its contract: the tests pick the case. Assumes nothing.
+-- `stored` meets its contract: the tests pick the case.
 use mathlib.Core.Bool.{and-false}
 use borrow.Author.Needs.{needs}
 use Rattle.store_plan.proofs.store_price.stored.Statement.{statement}

@@ -1,4 +1,4 @@
--- `stored_load` meets its contract: the invariant of its loop is `Storing`, the measure the steps that are left. Assumes nothing.
+-- `stored_load` meets its contract: the invariant of its loop is `Storing`, the measure the steps that are left.
 use Prim.Native.Nat.{_-_}
 use mathlib.Core.Path.{refl}
 use mathlib.Core.Bool.{_||_}

@@ -1,4 +1,4 @@
--- `Tariff::bill` meets its contract: each part is charged by its started thousands, then the minimum is tested. Assumes nothing.
+-- `Tariff::bill` meets its contract: each part is charged by its started thousands, then the minimum is tested.
 use borrow.Author.Needs.{needs}
 use native.Mathlib.Omega.{arith}
 use Rattle.tariff.proofs.Charges.{ranges-hold, charge-within, bill-raised, bill-charged}

@@ -1,4 +1,4 @@
--- `Tariff::in_range` meets its contract, test by test. Assumes nothing.
+-- `Tariff::in_range` meets its contract, test by test.
 use borrow.Author.Tests.{le-leb, lt-leb}
 use Rattle.tariff.specs.Tariff.{largestRate}
 use Rattle.tariff.proofs.Tariff.in_range.Statement.{statement}

@@ -1,4 +1,4 @@
--- `vectors::lists::numbers` is safe and ends: each number is one of the list. Assumes nothing.
+-- `vectors::lists::numbers` is safe and ends: each number is one of the list.
 use Prim.Native.Nat.{_-_, _≤_}
 use lib.ListN.{length}
 use borrow.Author.Needs.{needs}

@@ -1,4 +1,4 @@
--- `vectors::show::digits` is safe: a number of 64 bits has at most 20 digits. Assumes nothing.
+-- `vectors::show::digits` is safe: a number of 64 bits has at most 20 digits.
 use mathlib.Core.Path.{sym}
 use native.Mathlib.Omega.{arith}
 use lib.Seq.{length-take-le}

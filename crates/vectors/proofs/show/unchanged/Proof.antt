@@ -1,4 +1,4 @@
--- `vectors::show::unchanged` is safe and ends: the count is at most the bytes passed. Assumes nothing.
+-- `vectors::show::unchanged` is safe and ends: the count is at most the bytes passed.
 use Prim.Native.Nat.{_-_, _≤_}
 use mathlib.Core.Logic.{⊎-elim}
 use lib.ListN.{length}

@@ -1,4 +1,4 @@
--- `vectors::text::put` is safe and ends: the bytes that are put are counted within 64 bits, and each is of the text. Assumes nothing.
+-- `vectors::text::put` is safe and ends: the bytes that are put are counted within 64 bits, and each is of the text.
 use Prim.Native.Nat.{ℕ, _+_, _*_, _-_, _%_, _≤_, _<_}
 use mathlib.Core.Path.{_≡_, refl}
 use native.Mathlib.Nat.{mul-le-mul, mod-lt}

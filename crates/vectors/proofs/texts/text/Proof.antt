@@ -1,4 +1,4 @@
--- `vectors::texts::text` is safe: what is printed lies within the place. Assumes nothing.
+-- `vectors::texts::text` is safe: what is printed lies within the place.
 use mathlib.Core.Path.{sym}
 use native.Mathlib.Omega.{arith}
 use lib.Seq.{length-take-le}

@@ -1,4 +1,4 @@
--- `window_list::window_pass::count` meets its contract: its test is that of the definition. Assumes nothing.
+-- `window_list::window_pass::count` meets its contract: its test is that of the definition.
 use Prim.Native.Nat.{_+_, _-_}
 use native.Mathlib.Omega.{arith}
 use borrow.Author.Needs.{needs}

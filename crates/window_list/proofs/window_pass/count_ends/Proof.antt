@@ -1,5 +1,5 @@
 -- `window_list::window_pass::count_ends` meets its contract: the invariant of its loop is that the ends of the segments so far are counted,
--- the measure the segments that are left. Assumes nothing.
+-- the measure the segments that are left.
 use Prim.Native.Nat.{_-_, _≤_}
 use mathlib.Core.Path.{_≡_, refl, ap, _∙_}
 use native.Mathlib.Omega.{arith}

@@ -1,5 +1,4 @@
 -- `window_list::window_pass::count_reuses` meets its contract: the invariant of its loop is `Passing`, the measure the steps that are left.
--- Assumes nothing.
 use Prim.Native.Nat.{_-_, _≤_}
 use mathlib.Core.Path.{_≡_, refl}
 use mathlib.Core.Logic.{⊎-elim}

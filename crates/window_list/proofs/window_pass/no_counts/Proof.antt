@@ -1,4 +1,4 @@
--- `window_list::window_pass::no_counts` meets its contract. Assumes nothing.
+-- `window_list::window_pass::no_counts` meets its contract.
 use mathlib.Core.Path.{refl}
 use Rattle.window_list.specs.inner.Counts.{noCounts}
 use Rattle.window_list.proofs.window_pass.no_counts.Statement.{statement}

@@ -1,5 +1,5 @@
 -- `window_list::window_pass::windows` meets its contract: a place too short for the list is refused and stays, else the list stands at its
--- head. Assumes nothing.
+-- head.
 use native.Mathlib.Omega.{arith}
 use denote.Ref.{now}
 use borrow.Author.Needs.{needs}

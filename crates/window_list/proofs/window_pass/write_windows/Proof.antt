@@ -1,5 +1,5 @@
 -- `window_list::window_pass::write_windows` meets its contract: the invariant of its loop is `Filling`, the measure the windows that are
--- left. Assumes nothing.
+-- left.
 use Prim.Native.Nat.{_+_, _-_, _≤_}
 use mathlib.Core.Path.{_≡_, sym}
 use native.Mathlib.Omega.{arith}

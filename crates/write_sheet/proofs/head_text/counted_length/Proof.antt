@@ -1,4 +1,4 @@
--- `write_sheet::head_text::counted_length` meets its contract: the two lengths are added. Assumes nothing.
+-- `write_sheet::head_text::counted_length` meets its contract: the two lengths are added.
 use native.Mathlib.Omega.{arith}
 use borrow.Author.Needs.{needs}
 use lib.ListN.{length, length-append}

@@ -1,5 +1,5 @@
 -- `write_sheet::head_text::head_length` meets its contract: the counts are cut off at the arrays' lengths, which changes no value, and the
--- lengths of the parts are added. Assumes nothing.
+-- lengths of the parts are added.
 use mathlib.Core.Path.{_≡_, sym, ap, _∙_}
 use native.Mathlib.Omega.{arith}
 use borrow.Author.Needs.{needs}

@@ -1,4 +1,4 @@
--- `write_sheet::head_text::kind_length` meets its contract, a kind at a time. Assumes nothing.
+-- `write_sheet::head_text::kind_length` meets its contract, a kind at a time.
 use native.Mathlib.Omega.{arith}
 use borrow.Author.Needs.{needs}
 use mathlib.Core.Path.{_≡_, refl}

@@ -1,5 +1,5 @@
 -- `write_sheet::head_text::numbers_length` meets its contract. The loop's invariant: `sum` is the length of the lines of the numbers
--- passed. Assumes nothing.
+-- passed.
 use Prim.Native.Nat.{_-_}
 use native.Mathlib.Omega.{arith}
 use borrow.Author.Needs.{needs}

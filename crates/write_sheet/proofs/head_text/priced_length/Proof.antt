@@ -1,4 +1,4 @@
--- `write_sheet::head_text::priced_length` meets its contract: the two lengths are added. Assumes nothing.
+-- `write_sheet::head_text::priced_length` meets its contract: the two lengths are added.
 use native.Mathlib.Omega.{arith}
 use borrow.Author.Needs.{needs}
 use Rattle.text.proofs.Lengths.{length-of}

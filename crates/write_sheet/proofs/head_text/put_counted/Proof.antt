@@ -1,4 +1,4 @@
--- `write_sheet::head_text::put_counted` meets its contract: the count's line is put, and then the numbers' lines. Assumes nothing.
+-- `write_sheet::head_text::put_counted` meets its contract: the count's line is put, and then the numbers' lines.
 use native.Mathlib.Omega.{arith}
 use borrow.Author.Needs.{needs}
 use lib.ListN.{length, length-append}

@@ -1,5 +1,5 @@
 -- `write_sheet::head_text::put_head` meets its contract: the counts are cut off at the arrays' lengths, which changes no value, and the
--- parts are put one after another. Assumes nothing.
+-- parts are put one after another.
 use Prim.Native.Nat.{_+_}
 use mathlib.Core.Path.{_≡_, sym, ap, _∙_}
 use native.Mathlib.Omega.{arith}

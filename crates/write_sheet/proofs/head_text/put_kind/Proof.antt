@@ -1,4 +1,4 @@
--- `write_sheet::head_text::put_kind` meets its contract, a kind at a time: the line is the text that is put. Assumes nothing.
+-- `write_sheet::head_text::put_kind` meets its contract, a kind at a time: the line is the text that is put.
 use borrow.Author.Needs.{needs}
 use mathlib.Core.Path.{_≡_}
 use Rattle.model.specs.declared.Kind.the-variants.{Time, Space}

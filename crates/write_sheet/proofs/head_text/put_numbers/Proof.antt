@@ -1,5 +1,4 @@
 -- `write_sheet::head_text::put_numbers` meets its contract. The loop's invariant: the lines of the numbers passed are put from `at` on.
--- Assumes nothing.
 use Prim.Native.Nat.{_-_}
 use native.Mathlib.Omega.{arith}
 use borrow.Author.Needs.{needs}

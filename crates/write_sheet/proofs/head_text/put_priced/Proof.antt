@@ -1,4 +1,4 @@
--- `write_sheet::head_text::put_priced` meets its contract: the count's line is put, and then the rows' lines. Assumes nothing.
+-- `write_sheet::head_text::put_priced` meets its contract: the count's line is put, and then the rows' lines.
 use native.Mathlib.Omega.{arith}
 use borrow.Author.Needs.{needs}
 use mathlib.Core.Path.{sym}

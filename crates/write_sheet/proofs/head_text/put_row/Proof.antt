@@ -1,4 +1,4 @@
--- `write_sheet::head_text::put_row` meets its contract: the key is put, then h and "/", then d and the line feed. Assumes nothing.
+-- `write_sheet::head_text::put_row` meets its contract: the key is put, then h and "/", then d and the line feed.
 use mathlib.Core.Path.{_≡_}
 use mathlib.Core.List.{[], _∷_, _++_, append-assoc}
 use native.Mathlib.Omega.{arith}

@@ -1,5 +1,4 @@
 -- `write_sheet::head_text::put_rows` meets its contract. The loop's invariant: the lines of the rows passed are put from `at` on.
--- Assumes nothing.
 use mathlib.Core.Path.{_≡_}
 use Prim.Native.Nat.{_-_}
 use native.Mathlib.Omega.{arith}

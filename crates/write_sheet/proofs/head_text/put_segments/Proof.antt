@@ -1,4 +1,4 @@
--- `write_sheet::head_text::put_segments` meets its contract: the lines are put one part after another. Assumes nothing.
+-- `write_sheet::head_text::put_segments` meets its contract: the lines are put one part after another.
 use native.Mathlib.Omega.{arith}
 use borrow.Author.Needs.{needs}
 use Rattle.write_sheet.specs.inner.Heads.{segmentsText}

@@ -1,4 +1,4 @@
--- `write_sheet::head_text::put_warm` meets its contract: nothing is put before form 3. Assumes nothing.
+-- `write_sheet::head_text::put_warm` meets its contract: nothing is put before form 3.
 use mathlib.Core.Path.{sym, ap, _∙_}
 use native.Mathlib.Omega.{arith}
 use borrow.Author.Needs.{needs}

@@ -1,4 +1,4 @@
--- `write_sheet::head_text::row_length` meets its contract: a price has at most five digits. Assumes nothing.
+-- `write_sheet::head_text::row_length` meets its contract: a price has at most five digits.
 use borrow.Author.Needs.{needs}
 use native.Mathlib.Omega.{arith}
 use Rattle.decimal.proofs.Written.{written-length}

@@ -1,5 +1,4 @@
 -- `write_sheet::head_text::rows_length` meets its contract. The loop's invariant: `sum` is the length of the lines of the rows passed.
--- Assumes nothing.
 use mathlib.Core.Path.{_≡_}
 use Prim.Native.Nat.{_-_}
 use native.Mathlib.Omega.{arith}

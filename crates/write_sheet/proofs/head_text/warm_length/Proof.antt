@@ -1,4 +1,4 @@
--- `write_sheet::head_text::warm_length` meets its contract: a sheet has lines of warm segments from form 3 on. Assumes nothing.
+-- `write_sheet::head_text::warm_length` meets its contract: a sheet has lines of warm segments from form 3 on.
 use mathlib.Core.Path.{sym, ap, _∙_}
 use native.Mathlib.Omega.{arith}
 use borrow.Author.Needs.{needs}

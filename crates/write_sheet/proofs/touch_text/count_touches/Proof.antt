@@ -1,5 +1,5 @@
 -- `write_sheet::touch_text::count_touches` meets its contract. The loop's invariant: `count` is the number of touches of the entries
--- passed. Assumes nothing.
+-- passed.
 use mathlib.Core.Path.{_≡_, refl}
 use mathlib.Core.Bool.{Bool}
 use mathlib.Core.List.{List}

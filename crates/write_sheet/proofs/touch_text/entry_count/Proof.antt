@@ -1,4 +1,4 @@
--- `write_sheet::touch_text::entry_count` meets its contract: an idle entry has no touch, any other has one. Assumes nothing.
+-- `write_sheet::touch_text::entry_count` meets its contract: an idle entry has no touch, any other has one.
 use mathlib.Core.Path.{sym, ap, _∙_}
 use native.Mathlib.Omega.{arith}
 use borrow.Author.Needs.{needs}

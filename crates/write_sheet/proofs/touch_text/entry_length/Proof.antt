@@ -1,4 +1,4 @@
--- `write_sheet::touch_text::entry_length` meets its contract: an idle entry has no line. Assumes nothing.
+-- `write_sheet::touch_text::entry_length` meets its contract: an idle entry has no line.
 use mathlib.Core.Path.{sym, ap, _∙_}
 use native.Mathlib.Omega.{arith}
 use borrow.Author.Needs.{needs}

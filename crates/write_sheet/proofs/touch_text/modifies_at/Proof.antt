@@ -1,4 +1,4 @@
--- `write_sheet::touch_text::modifies_at` meets its contract: a step beyond the marks has none. Assumes nothing.
+-- `write_sheet::touch_text::modifies_at` meets its contract: a step beyond the marks has none.
 use mathlib.Core.Path.{sym}
 use mathlib.Core.Bool.{false}
 use borrow.Author.Needs.{needs}

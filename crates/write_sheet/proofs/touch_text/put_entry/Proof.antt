@@ -1,4 +1,4 @@
--- `write_sheet::touch_text::put_entry` meets its contract: nothing is put for an idle entry. Assumes nothing.
+-- `write_sheet::touch_text::put_entry` meets its contract: nothing is put for an idle entry.
 use mathlib.Core.Path.{sym, ap, _∙_}
 use native.Mathlib.Omega.{arith}
 use borrow.Author.Needs.{needs}

@@ -1,4 +1,4 @@
--- `write_sheet::touch_text::put_steps` meets its contract: the counts are put, and then the lines of the touches. Assumes nothing.
+-- `write_sheet::touch_text::put_steps` meets its contract: the counts are put, and then the lines of the touches.
 use mathlib.Core.Path.{ap}
 use native.Mathlib.Omega.{arith}
 use borrow.Author.Needs.{needs}

@@ -1,5 +1,5 @@
 -- `write_sheet::touch_text::put_touch` meets its contract: the key is put, then the segment and "@", then the step and the letter w with
--- the line feed behind it, or the line feed alone. Assumes nothing.
+-- the line feed behind it, or the line feed alone.
 use Prim.Native.Nat.{ℕ}
 use mathlib.Core.Path.{_≡_, ap}
 use mathlib.Core.Bool.{Bool, true, false, cond}

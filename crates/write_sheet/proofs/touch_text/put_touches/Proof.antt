@@ -1,5 +1,4 @@
 -- `write_sheet::touch_text::put_touches` meets its contract. The loop's invariant: the lines of the entries passed are put from `at` on.
--- Assumes nothing.
 use Prim.Native.Nat.{_-_}
 use native.Mathlib.Omega.{arith}
 use borrow.Author.Needs.{needs}

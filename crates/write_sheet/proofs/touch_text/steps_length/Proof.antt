@@ -1,4 +1,4 @@
--- `write_sheet::touch_text::steps_length` meets its contract: the three lengths are added. Assumes nothing.
+-- `write_sheet::touch_text::steps_length` meets its contract: the three lengths are added.
 use mathlib.Core.Path.{ap}
 use native.Mathlib.Omega.{arith}
 use borrow.Author.Needs.{needs}

@@ -1,4 +1,4 @@
--- `write_sheet::touch_text::touch_length` meets its contract: a segment has at most five digits, a step at most 20. Assumes nothing.
+-- `write_sheet::touch_text::touch_length` meets its contract: a segment has at most five digits, a step at most 20.
 use Prim.Native.Nat.{_≤_}
 use mathlib.Core.Bool.{cond}
 use native.Mathlib.Omega.{arith}

@@ -1,5 +1,5 @@
 -- `write_sheet::touch_text::touches_length` meets its contract. The loop's invariant: `sum` is the length of the lines of the entries
--- passed. Assumes nothing.
+-- passed.
 use Prim.Native.Nat.{_-_}
 use native.Mathlib.Omega.{arith}
 use borrow.Author.Needs.{needs}

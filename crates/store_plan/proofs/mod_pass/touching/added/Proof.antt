@@ -1,4 +1,4 @@
--- `added` meets its contract: the tests pick the case. Assumes nothing.
+-- `added` meets its contract: the tests pick the case.
 use native.Mathlib.Omega.{arith}
 use borrow.Author.Needs.{needs}
 use borrow.Author.Tests.{eq-eqb, ne-eqb}

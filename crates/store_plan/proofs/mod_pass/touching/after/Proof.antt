@@ -1,4 +1,4 @@
--- `after` meets its contract: the test picks the case. Assumes nothing.
+-- `after` meets its contract: the test picks the case.
 use Rattle.store_plan.proofs.mod_pass.touching.after.Statement.{statement}
 use Rattle.store_plan.proofs.mod_pass.touching.after.Tie as tie
 

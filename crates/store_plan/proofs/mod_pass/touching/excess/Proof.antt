@@ -1,4 +1,4 @@
--- `excess` meets its contract: the products are within the bounds of the prices, and the tests pick the case. Assumes nothing.
+-- `excess` meets its contract: the products are within the bounds of the prices, and the tests pick the case.
 use Prim.Native.Nat.{_-_, _*_}
 use mathlib.Core.Path.{_≡_}
 use native.Mathlib.Omega.{arith}

@@ -1,4 +1,4 @@
--- `joins` meets its contract: the test picks the case. Assumes nothing.
+-- `joins` meets its contract: the test picks the case.
 use borrow.Author.Needs.{needs}
 use borrow.Author.Tests.{eq-eqb, ne-eqb}
 use Rattle.store_plan.proofs.mod_pass.touching.joins.Statement.{statement}

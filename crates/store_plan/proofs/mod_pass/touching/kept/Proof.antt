@@ -1,4 +1,4 @@
--- `kept` meets its contract: the test picks the case. Assumes nothing.
+-- `kept` meets its contract: the test picks the case.
 use mathlib.Core.Path.{refl}
 use borrow.Author.Tests.{le-leb, lt-leb}
 use Rattle.store_plan.proofs.mod_pass.touching.kept.Statement.{statement}

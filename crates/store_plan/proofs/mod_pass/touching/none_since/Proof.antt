@@ -1,4 +1,4 @@
--- `none_since` meets its contract. Assumes nothing.
+-- `none_since` meets its contract.
 use mathlib.Core.Path.{refl}
 use Rattle.store_plan.specs.inner.Touches.{noneSince}
 use Rattle.store_plan.proofs.mod_pass.touching.none_since.Statement.{statement}

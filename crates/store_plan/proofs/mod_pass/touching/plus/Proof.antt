@@ -1,4 +1,4 @@
--- `plus` meets its contract: the test picks the case. Assumes nothing.
+-- `plus` meets its contract: the test picks the case.
 use borrow.Author.Needs.{needs}
 use borrow.Author.Tests.{eq-eqb, ne-eqb}
 use Rattle.store_plan.proofs.mod_pass.touching.plus.Statement.{statement}

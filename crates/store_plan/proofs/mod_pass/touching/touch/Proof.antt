@@ -1,4 +1,4 @@
--- `touch` meets its contract: what its parts give. Assumes nothing.
+-- `touch` meets its contract: what its parts give.
 use mathlib.Core.Path.{refl}
 use native.Mathlib.Omega.{arith}
 use borrow.Author.Needs.{needs}
