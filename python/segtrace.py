@@ -175,7 +175,7 @@ def _path():
     for place in places:
         if os.path.exists(place):
             return place
-    raise OSError(f'no library at {" or ".join(places)}: make it by tools/shared-library of the repository, or name it by SEGTRACE_LIBRARY')
+    raise OSError(f'no library {" or ".join(places)}: make it by tools/shared-library of the repository, or name one by SEGTRACE_LIBRARY')
 
 
 @functools.lru_cache(maxsize=None)
@@ -286,8 +286,8 @@ def to_form_1(sheet):
 
 def join(first, second):
     """Two sheets of form 2 or 3 with the same kind, a and row lines as one of form 3 on the same clock, the second's segments after the
-    first's. The first sheet's refusals, where any other form is 4, then the second's; 20 where kind, a or a row line differs, 21 where both
-    touch at one step, 22 where together they have more than 256 segments.
+    first's. The first sheet's refusals, where any other form is 4, then the second's; 20 where kind, a or a row line differs, 21 where
+    both touch at one step, 22 where together they have more than 256 segments.
 
     >>> one = b'form=2\\nkind=time\\na=0\\nsegs=1\\nsize=1\\nrows=1\\nrow=1/1\\nsteps=2\\nrefs=1\\nref=0@1\\n'
     >>> join(one, one.replace(b'@1', b'@2'))[-23:]
@@ -298,8 +298,8 @@ def join(first, second):
 
 def import_din(trace, k, sheet):
     """A din trace as a sheet of form 1 of kind time, a=0 and sizes 1, with the rows of a sheet. Each page of 2 to the power k bytes is a
-    segment, numbered by first appearance. The sheet's refusals; 23 where k is not from 8 to 24; then, line by line, 24 for a malformed line
-    and 25 for a 2,049th line or a 257th page.
+    segment, numbered by first appearance. The sheet's refusals; 23 where k is not from 8 to 24; then, line by line, 24 for a malformed
+    line and 25 for a 2,049th line or a 257th page.
 
     >>> import_din(b'2 80481a0\\n1 bffff2d4\\n2 80481a4\\n', 12, SMALL)[-18:]
     b'ref=0\\nref=1\\nref=0\\n'
@@ -354,8 +354,8 @@ def optimal_schedule(sheet, row):
 
 
 def modified_schedule(sheet, row):
-    """The schedule of the least total with stores counted, of a row of a sheet of form 4: as optimal_schedule has it. The sheet's refusals,
-    where any other form is 4; 7.
+    """The schedule of the least total with stores counted, of a row of a sheet of form 4: as optimal_schedule has it. The sheet's
+    refusals, where any other form is 4; 7.
 
     >>> fourth = b'form=4\\n' + SMALL[:-24].replace(b'refs=4', b'warm=0\\nsteps=3\\nrefs=2') + b'ref=1@1w\\nref=1@3w\\n'
     >>> list(modified_schedule(fourth, 1)[::32]), price(fourth, 1, modified_schedule(fourth, 1))

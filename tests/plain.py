@@ -219,7 +219,8 @@ def listing(sheet):
     lines = [f'refs={len(s.refs)}'] + [f'steps={s.steps}'] * (s.form > 1) + [f'segs={len(s.sizes)}', f'rows={len(s.rows)}']
     for h, d in s.rows:
         lines += [f'{name}={x}' for name, x in zip(NAMES, figures_of(s, h, d))]
-        lines += [f'modtotal={sum(best[0] for best in stays(s, h, d).values())}'] * (s.form == 4)
+        if s.form == 4:
+            lines.append(f'modtotal={sum(best[0] for best in stays(s, h, d).values())}')
     return '\n'.join(lines) + '\n'
 
 
