@@ -1,5 +1,7 @@
 // The buckets of a sheet: one per row and the last. The single pass over the references fills them.
 // What they hold is written in specs/; nothing is assumed.
+#![tactic(auto)]
+
 pub mod pass;
 pub mod search;
 
@@ -7,7 +9,7 @@ use model::{LoadUnits, MemoryUnits, Sheet};
 
 // A bucket: how many touches it holds, their sizes, retentions and swap costs added, the last two also with each item multiplied by
 // its size.
-#[derive(Drop)]
+#[derive(Clone, Copy)]
 pub struct Bucket {
     pub count: u64,
     pub volume: u64,
@@ -23,7 +25,7 @@ impl Bucket {
 }
 
 // What the pass hands over: a bucket per row and the last, for touches and for end intervals.
-#[derive(Drop)]
+#[derive(Clone, Copy)]
 pub struct Tally {
     pub buckets: [Bucket; Tally::BUCKETS],
     pub ends: [Bucket; Tally::BUCKETS],

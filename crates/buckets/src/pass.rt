@@ -11,7 +11,7 @@ use crate::{Bucket, Tally};
 use model::{Kind, LoadUnits, MemoryUnits, PriceRow, Sheet};
 
 // A touch: whether it is a reuse, the segment's size, the two costs, and the bucket that it goes to. A first touch has retention 0.
-#[derive(Drop)]
+#[derive(Clone, Copy)]
 pub struct Touch {
     pub reuse: bool,
     pub size: u16,
@@ -20,7 +20,7 @@ pub struct Touch {
 }
 
 // What the pass over the references has: the buckets and the table of last touches.
-#[derive(Drop)]
+#[derive(Clone, Copy)]
 pub struct Passed {
     pub buckets: [Bucket; Tally::BUCKETS],
     pub last: [u16; Sheet::MAX_SEGS],

@@ -10,7 +10,7 @@ use crate::Tally;
 use model::{LoadUnits, MemoryUnits, PriceRow, Sheet};
 
 // The two costs of a reuse: its retention, if it is kept, and its swap cost, if it is not.
-#[derive(Drop)]
+#[derive(Clone, Copy)]
 pub struct Reuse {
     pub retention: MemoryUnits,
     pub swap: LoadUnits,

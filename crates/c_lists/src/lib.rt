@@ -1,5 +1,7 @@
 // Figures, rows of prices and buckets as lists of numbers, as programs in C and other languages hold them.
 // What the numbers are is written in specs/; nothing is assumed.
+#![tactic(auto)]
+
 pub mod record_numbers;
 pub mod recorder_list;
 pub mod tables;

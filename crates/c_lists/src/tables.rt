@@ -11,7 +11,7 @@ use buckets::{Bucket, Tally};
 use model::{LoadUnits, MemoryUnits, PriceRow, Sheet};
 
 // The prices of rows, apart: of a load unit, and of a memory unit.
-#[derive(Drop)]
+#[derive(Clone, Copy)]
 pub struct Prices {
     pub h: [u16; Sheet::MAX_ROWS],
     pub d: [u16; Sheet::MAX_ROWS],

@@ -1,5 +1,7 @@
 // The converters between form 1 and form 2 of a sheet (request F-3), on a sheet by value: its text in the other form, into a lent place.
 // What they leave there is written in crate `sheet`. Nothing is assumed.
+#![tactic(auto)]
+
 ghost use Rattle.std.specs.Prelude.{◌≡◌};
 ghost use Rattle.sheet.specs.Forms.{in_form, some_idle, to_form_2, to_form_1};
 ghost use Rattle.model.specs.Places.{PlaceLeft};

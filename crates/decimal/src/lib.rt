@@ -1,11 +1,13 @@
 // Decimal numbers in bytes: reading one within bounds, and writing one.
 // What a number and its digits are is written in specs/. Nothing is assumed.
+#![tactic(auto)]
+
 ghost use Rattle.std.specs.Prelude.{◌≡◌, ◌&&◌, ◌++◌, ◌+◌, ◌*◌, ◌-◌, ◌/◌, ◌%◌, ◌≤◌, ◌<◌, min, length, take, drop, set};
 ghost use Rattle.decimal.specs.Decimal.{is_digit, all_digits, is_number, written, reading_of};
 ghost use Rattle.decimal.specs.inner.FrontNumber.{FrontNumber};
 
 // What reading a number within bounds gives.
-#[derive(Drop)]
+#[derive(Clone, Copy)]
 pub enum Reading {
     // The bytes are not a number.
     NotNumber,
@@ -68,7 +70,7 @@ pub fn read(s: &[u8], lo: u32, hi: u32) -> Reading
 }
 
 // A number at the front of bytes: how many digits it has, 0 where there is none, and its value.
-#[derive(Drop)]
+#[derive(Clone, Copy)]
 pub struct Run {
     pub length: usize,
     pub value: u32,

@@ -1,5 +1,7 @@
 // The import of din traces: the pages that the lines of a trace touch as the segments of a sheet, with the rows of a head that was read.
 // What the answer means is written in specs/; nothing is assumed.
+#![tactic(auto)]
+
 mod lines;
 mod pages;
 

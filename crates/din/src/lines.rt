@@ -6,7 +6,7 @@ ghost use Rattle.din.specs.Lines.{trace_lines, digit_of};
 ghost use Rattle.din.specs.inner.FirstLine.{first_of, first_after, first_at, NextWithin};
 
 // The address of a line and the place of what follows the line, or that the line is malformed.
-#[derive(Drop)]
+#[derive(Clone, Copy)]
 pub enum LineAt {
     Address(u32, usize),
     Malformed,

@@ -11,7 +11,7 @@ use model::{Refusal, Sheet, Verdict};
 
 // Whether the trace was taken; how many segments and steps the sheet has, and the segment that each step touches, at the front of
 // `Sheet::IDLE`. Refused, it has no segments and no steps.
-#[derive(Drop)]
+#[derive(Clone, Copy)]
 pub struct Imported {
     pub verdict: Verdict,
     pub segs: usize,

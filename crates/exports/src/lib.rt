@@ -1,6 +1,8 @@
 // The analyser's calls for programs in C and other languages, as include/segtrace.h declares them: on numbers, slices and lists of
 // numbers. Each returns 0 or the number of the refusal; refused, it leaves all that it was lent as it was.
 // What each returns and leaves is written in specs/; nothing is assumed.
+#![tactic(auto)]
+
 pub mod curving;
 pub mod importing;
 mod lent_calls;

@@ -1,5 +1,7 @@
 // The figures of all rows of a sheet from one pass over its references, that of crate `buckets`.
 // Every item is the definition's of crate `model`; nothing is assumed.
+#![tactic(auto)]
+
 pub mod row_sums;
 pub mod rows;
 

@@ -17,7 +17,7 @@ fn load_of(a: u8, misses: u64, missed: u64) -> LoadUnits
 }
 
 // The working set of a row: wsmem, and the same with each item multiplied by its size.
-#[derive(Drop)]
+#[derive(Clone, Copy)]
 pub struct WorkingSet {
     pub memory: u64,
     pub space: u64,

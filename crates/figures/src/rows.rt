@@ -53,7 +53,7 @@ fn add_up(buckets: [Bucket; Tally::BUCKETS]) -> Bucket
 }
 
 // The swap costs of the warm segments, added, and the same with each multiplied by its size.
-#[derive(Drop)]
+#[derive(Clone, Copy)]
 pub struct StartSwaps {
     pub swap: LoadUnits,
     pub swapz: LoadUnits,

@@ -1,5 +1,7 @@
 // Two sheets as one on the same clock, for two aligners in one memory.
 // What the joint sheet is, and which sheets do not join, is written in specs/ of crate `joint`; nothing is assumed.
+#![tactic(auto)]
+
 mod joint_entries;
 mod joint_heads;
 

@@ -1,5 +1,7 @@
 // The listing as text: its lines one after the other into the lent place, or first into a local one where the lent place may be too short.
 // What the text is stands in specs/Listing.antt, and its parts in specs/Parts.antt. Nothing is assumed.
+#![tactic(auto)]
+
 pub mod of_sheet;
 pub mod row_text;
 

@@ -14,7 +14,7 @@ use model::Sheet;
 const ENTRIES: usize = Sheet::MAX_SEGS + 1;
 
 // What the pass counts: the touches at each distance, that at distance p + 1 at place p, the first touches, and the entries looked at.
-#[derive(Drop)]
+#[derive(Clone, Copy)]
 pub struct Counts {
     pub at: [u64; Sheet::MAX_SEGS],
     pub first: u64,

@@ -1,5 +1,7 @@
 // The misses of an accepted sheet with 1, 2, .., segs frames, by either engine, into a lent place.
 // What is answered, and what the misses are, is written in crate `replacement`; nothing is assumed.
+#![tactic(auto)]
+
 mod distance_pass;
 pub mod frames;
 mod plain_frames;

@@ -5,7 +5,7 @@ ghost use Rattle.lru_curve.specs.inner.Entries.{walk_of, moved};
 
 // What a walk up to a segment gives: how many entries stand before it, all of them where the list does not have it, and how many entries
 // were looked at.
-#[derive(Drop)]
+#[derive(Clone, Copy)]
 pub struct Walk {
     pub before: usize,
     pub looked: u64,

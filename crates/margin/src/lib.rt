@@ -1,5 +1,7 @@
 // The margin of one reference of an accepted sheet at one of its rows.
 // What is answered, and what a margin is, is written in crate `model`; nothing is assumed.
+#![tactic(auto)]
+
 ghost use Rattle.std.specs.Prelude.{◌≡◌, ◌&&◌, ℕ, ◌≤◌, ◌<◌, eqb, length, get_or};
 ghost use Rattle.model.specs.Sheets.{SheetValue, most_segs, most_steps, listed, run_of, trace_of, row_at, RunWithin};
 ghost use Rattle.model.specs.Traces.{Trace, unreferenced};
@@ -11,7 +13,7 @@ ghost use Rattle.margin.specs.inner.Times.{time_of, untouched_time, left_after, 
 use model::{Kind, MarginAnswer, PriceRow, Refusal, Sheet, Verdict};
 
 // The unreferenced time of a segment: whether it was touched before, and the steps since its last touch, 0 where it was not.
-#[derive(Drop)]
+#[derive(Clone, Copy)]
 struct Unreferenced {
     reuse: bool,
     time: u16,

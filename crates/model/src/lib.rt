@@ -1,5 +1,7 @@
 // A sheet by value with its limits, the cost rules of the segment trace analyser as functions on numbers, and the numbers of its refusals.
 // What each means is written in specs/; nothing is assumed.
+#![tactic(auto)]
+
 ghost use Rattle.std.specs.Prelude.{◌≡◌, [], ◌+◌, ◌-◌, ◌*◌, ◌≤◌, ◌<◌, ◌^◌};
 ghost use Rattle.model.specs.Costs.{swap_cost, unit_cost, retention, keeps, total_cost, margin_of};
 ghost use Rattle.model.specs.LastTouches.{start_table};
@@ -13,26 +15,26 @@ ghost use Rattle.model.specs.Refusals.{number_of, verdict_number};
 ghost use Rattle.model.specs.Values.{sheet_limits, empty_head, empty_sheet};
 
 // What a memory unit is: a reference by itself (time), or the size of the segment (space).
-#[derive(Drop)]
+#[derive(Clone, Copy)]
 pub enum Kind {
     Time,
     Space,
 }
 
 // An amount in memory units.
-#[derive(Drop)]
+#[derive(Clone, Copy)]
 pub struct MemoryUnits(pub u64);
 
 // An amount in load units.
-#[derive(Drop)]
+#[derive(Clone, Copy)]
 pub struct LoadUnits(pub u64);
 
 // A priced amount: memory units at the price d, or load units at the price h. Two of them can be compared.
-#[derive(Drop)]
+#[derive(Clone, Copy)]
 pub struct Priced(pub u64);
 
 // A row of a sheet: h is the price of one load unit, d that of one memory unit. Its threshold is h/d.
-#[derive(Drop)]
+#[derive(Clone, Copy)]
 pub struct PriceRow {
     pub h: u16,
     pub d: u16,
@@ -40,7 +42,7 @@ pub struct PriceRow {
 
 // The head of a sheet: kind, a, the first `segs` sizes, the first `rows` price rows and the first `warm` of `holds`, the warm segments.
 // In a head that was read, what stands beyond the counts is 0.
-#[derive(Drop)]
+#[derive(Clone, Copy)]
 pub struct Head {
     pub kind: Kind,
     pub a: u8,
@@ -55,7 +57,7 @@ pub struct Head {
 // A sheet by value: its form, its head, for each of the first `steps` steps the segment that it touches or `Sheet::IDLE`, and for each of
 // the first `marked` steps whether the touch modifies it: of all steps in form 4, of none in the others. In a sheet that was read, what
 // stands beyond the counts is `Sheet::IDLE` and false.
-#[derive(Drop)]
+#[derive(Clone, Copy)]
 pub struct Sheet {
     pub form: u8,
     pub head: Head,
@@ -66,7 +68,7 @@ pub struct Sheet {
 }
 
 // The limits of a sheet, as `Sheet::limits` hands them out.
-#[derive(Drop)]
+#[derive(Clone, Copy)]
 pub struct SheetLimits {
     pub form: u8,
     pub bytes: usize,
@@ -162,7 +164,7 @@ impl Head {
 }
 
 // The figures of a row, the eleven items that the listing prints. wsmem and wsocc carry the factor d.
-#[derive(Drop)]
+#[derive(Clone, Copy)]
 pub struct RowFigures {
     pub h: u64,
     pub d: u64,
@@ -202,7 +204,7 @@ impl RowFigures {
 }
 
 // Why a call refuses, a name for each number of the lists in documents 01 and 02.
-#[derive(Drop)]
+#[derive(Clone, Copy)]
 pub enum Refusal {
     SheetTooLong,
     LineMalformed,
@@ -235,14 +237,14 @@ pub enum Refusal {
 }
 
 // Whether a call was carried out, or why it was refused.
-#[derive(Drop)]
+#[derive(Clone, Copy)]
 pub enum Verdict {
     Accepted,
     Refused(Refusal),
 }
 
 // What a call that writes into a lent place answers: whether it wrote, and how much, 0 where it refused.
-#[derive(Drop)]
+#[derive(Clone, Copy)]
 pub struct PlaceAnswer {
     pub verdict: Verdict,
     pub length: usize,
@@ -261,7 +263,7 @@ impl PlaceAnswer {
 }
 
 // The figures of a row, all zero where the call is refused.
-#[derive(Drop)]
+#[derive(Clone, Copy)]
 pub struct FiguresAnswer {
     pub verdict: Verdict,
     pub figures: RowFigures,
@@ -280,7 +282,7 @@ impl FiguresAnswer {
 }
 
 // The margin of a reference, signed; 0 where the call is refused.
-#[derive(Drop)]
+#[derive(Clone, Copy)]
 pub struct MarginAnswer {
     pub verdict: Verdict,
     pub margin: i64,
@@ -299,7 +301,7 @@ impl MarginAnswer {
 }
 
 // The row that sizing gives; 0 where the call is refused.
-#[derive(Drop)]
+#[derive(Clone, Copy)]
 pub struct SizingAnswer {
     pub verdict: Verdict,
     pub row: usize,
@@ -318,7 +320,7 @@ impl SizingAnswer {
 }
 
 // What pricing a schedule gives: its memory, load and total, all zero where it is refused.
-#[derive(Drop)]
+#[derive(Clone, Copy)]
 pub struct PriceAnswer {
     pub verdict: Verdict,
     pub memory: MemoryUnits,

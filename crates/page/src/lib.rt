@@ -1,6 +1,8 @@
 // The page for the binder as text: its lines one after the other into the lent place.
 // What the text is stands in specs/Page.antt. That every field fits its column is asked of the figures, and proved of every accepted sheet;
 // nothing is assumed.
+#![tactic(auto)]
+
 ghost use Rattle.std.specs.Prelude.{◌≡◌, [], ◌∷◌, ◌++◌, map, ℕ, ◌+◌, ◌*◌, ◌-◌, ◌≤◌, ◌<◌, length, get_or, take, drop, replicate};
 ghost use Rattle.model.specs.Sheets.{most_rows};
 ghost use Rattle.decimal.specs.Decimal.{written};

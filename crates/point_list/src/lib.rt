@@ -1,5 +1,7 @@
 // Every operating point of an accepted sheet into a lent place.
 // What is answered, and what the points are, is written in crate `points`; nothing is assumed.
+#![tactic(auto)]
+
 mod point_sort;
 mod point_sums;
 

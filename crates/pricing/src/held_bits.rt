@@ -7,7 +7,7 @@ ghost use Rattle.pricing.specs.inner.Held.{start_word, start_bit, held_of};
 use schedule::Schedule;
 
 // What is held before step 1, segment i at bit i % 64 of number i / 64.
-#[derive(Drop)]
+#[derive(Clone, Copy)]
 pub struct StartWords {
     pub first: u64,
     pub second: u64,

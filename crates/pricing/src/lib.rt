@@ -1,5 +1,7 @@
 // Checking and pricing a schedule handed in: one pass over its steps that keeps the costs of those priced so far. What a price is is
 // written in crate `model`; nothing is assumed.
+#![tactic(auto)]
+
 mod byte_words;
 mod held_bits;
 mod step_price;

@@ -12,14 +12,14 @@ use crate::held_bits::StartWords;
 use model::{Kind, LoadUnits, MemoryUnits, Refusal, Sheet};
 
 // What the segments passed so far show of a step: whether an untouched one entered, and the cost of those that left.
-#[derive(Drop)]
+#[derive(Clone, Copy)]
 struct Changes {
     others: bool,
     left: MemoryUnits,
 }
 
 // What the steps priced so far come to: the cost for one step of what is held now, the memory and the load.
-#[derive(Drop)]
+#[derive(Clone, Copy)]
 pub struct Costs {
     pub held: MemoryUnits,
     pub memory: MemoryUnits,
@@ -27,7 +27,7 @@ pub struct Costs {
 }
 
 // What pricing one step more gives: the refusal, or the costs.
-#[derive(Drop)]
+#[derive(Clone, Copy)]
 pub enum Stepped {
     Faulty(Refusal),
     Priced(Costs),

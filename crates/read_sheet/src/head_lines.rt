@@ -13,7 +13,7 @@ use scan::numbers::{LinesRead, NumberAt, ValueAt};
 use scan::{bytes, numbers};
 
 // A kind and the place of what follows its line, or the refusal.
-#[derive(Drop)]
+#[derive(Clone, Copy)]
 enum KindAt {
     Kind(Kind, usize),
     Refused(Refusal),
@@ -21,7 +21,7 @@ enum KindAt {
 
 // What was read of a head whose sizes and warm segments stand in the slices that were lent: how many there are of each, the rest of the
 // head, and the place of what follows its lines, or the refusal.
-#[derive(Drop)]
+#[derive(Clone, Copy)]
 pub struct HeadRead {
     pub lines: LinesRead,
     pub kind: Kind,

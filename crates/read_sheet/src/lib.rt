@@ -1,5 +1,7 @@
 // Reading a sheet: any bytes to the sheet that they stand for, or the refusal; its form, its head, and then the entries of its steps. Each
 // function reads from the head of the bytes that it is lent, and gives the place of what follows. Nothing is assumed.
+#![tactic(auto)]
+
 mod form_line;
 mod head_lines;
 mod row_lines;
@@ -26,7 +28,7 @@ use sheet::SheetAnswer;
 
 // What was read of a sheet whose lists stand in the slices that were lent: its form, the rest of its head, how many steps there are, and
 // the place of what follows, or the refusal.
-#[derive(Drop)]
+#[derive(Clone, Copy)]
 struct SheetRead {
     lines: LinesRead,
     form: u8,

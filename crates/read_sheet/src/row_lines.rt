@@ -17,21 +17,21 @@ use scan::numbers::{LinesRead, NumberAt, ValueAt};
 use scan::{bytes, numbers};
 
 // The row before, where there is one.
-#[derive(Drop)]
+#[derive(Clone, Copy)]
 enum Previous {
     Nothing,
     Row(PriceRow),
 }
 
 // A row and the place of what follows its line, or the refusal.
-#[derive(Drop)]
+#[derive(Clone, Copy)]
 enum RowAt {
     Row(PriceRow, usize),
     Refused(Refusal),
 }
 
 // So many rows at the front of rows 0/0, and the place of what follows their lines, or the refusal.
-#[derive(Drop)]
+#[derive(Clone, Copy)]
 pub struct RowsRead {
     pub lines: LinesRead,
     pub count: usize,

@@ -1,6 +1,8 @@
 // Reading the lines ref= of a sheet of form 2 on, segment and step and in form 4 perhaps the letter w, into the entries and the marks of
 // its steps; `letters` says that the form has the letter. Each function reads from the head of the bytes that it is lent, and gives the
 // place of what follows. Nothing is assumed.
+#![tactic(auto)]
+
 mod short_touch;
 mod touch_value;
 
@@ -17,7 +19,7 @@ use short_touch::short_touch;
 use touch_value::TouchAt;
 
 // How many lines of touches were read, the place of what follows them, and the step of the last touch, 0 where there is none.
-#[derive(Drop)]
+#[derive(Clone, Copy)]
 struct TouchesRead {
     count: usize,
     next: usize,

@@ -11,7 +11,7 @@ use decimal::Run;
 use scan::bytes;
 
 // A touch of a short line and the place of what follows the line, or the place 0 where the line is of another form.
-#[derive(Drop)]
+#[derive(Clone, Copy)]
 pub struct TouchShort {
     pub segment: u16,
     pub step: usize,
@@ -20,7 +20,7 @@ pub struct TouchShort {
 }
 
 // The step at the end of a short line, whether the letter w follows it, and the place of what follows the line, or the place 0.
-#[derive(Drop)]
+#[derive(Clone, Copy)]
 struct StepShort {
     step: u32,
     modifies: bool,

@@ -15,7 +15,7 @@ use scan::{bytes, numbers};
 
 // Two numbers around "@" and whether the letter w follows them; or one of them is no number; or the first, or else the second, lies outside
 // its range.
-#[derive(Drop)]
+#[derive(Clone, Copy)]
 pub enum Pair {
     Numbers(u32, u32, bool),
     Malformed,
@@ -24,7 +24,7 @@ pub enum Pair {
 }
 
 // A touch, its segment, its step and whether it modifies, and the place of what follows its line, or the refusal.
-#[derive(Drop)]
+#[derive(Clone, Copy)]
 pub enum TouchAt {
     Touch(u16, usize, bool, usize),
     Refused(Refusal),

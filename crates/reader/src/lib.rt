@@ -1,5 +1,7 @@
 // A reader goes along a sheet line by line and shows the key and the value of each line as a part of the sheet itself. The functions over
 // a `Reader` are thin: the work is done on the slice and the place. What they show is written in specs/; nothing is assumed.
+#![tactic(auto)]
+
 ghost use Rattle.std.specs.Prelude.{◌≡◌, leb, length, drop};
 ghost use Rattle.sheet.specs.Lines.{split_at};
 ghost use Rattle.reader.specs.Along.{left_after};
@@ -8,7 +10,7 @@ ghost use Rattle.reader.specs.Parts.{part_before, part_after, line_of, line_key,
 use scan::bytes;
 
 // A place in a sheet.
-#[derive(Drop)]
+#[derive(Clone, Copy)]
 pub struct Reader<'a> {
     pub src: &'a [u8],
     pub at: usize,

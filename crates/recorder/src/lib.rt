@@ -1,5 +1,7 @@
 // The recorder: a sheet's head that takes references and idle steps one by one, and hands out the figures of a row at any moment.
 // What a recorder stands for is written in specs/Recorders.antt; nothing is assumed.
+#![tactic(auto)]
+
 mod guards;
 pub mod reading;
 mod row_guards;
@@ -15,7 +17,7 @@ use buckets::{Bucket, Tally};
 use model::{FiguresAnswer, Head, MemoryUnits, Refusal, RowFigures, Sheet, Verdict};
 
 // A recorder by value: the head of its sheet, how many steps were taken, the table of last touches, the buckets, Q and V.
-#[derive(Drop)]
+#[derive(Clone, Copy)]
 pub struct Recorder {
     pub head: Head,
     pub steps: usize,
@@ -75,7 +77,7 @@ impl Recorder {
 
 // What a touch answers, of one reference or of several, and an idle step: the recorder with them taken, or the refusal and the recorder
 // as it was.
-#[derive(Drop)]
+#[derive(Clone, Copy)]
 pub struct TouchAnswer {
     pub verdict: Verdict,
     pub recorder: Recorder,

@@ -1,5 +1,7 @@
 // The row figures in a lent list of row records, one for each row, with the eleven items that the listing prints.
 // What the call answers and leaves in the list is written in specs/; nothing is assumed.
+#![tactic(auto)]
+
 ghost use Rattle.std.specs.Prelude.{◌≡◌, ◌<◌, get_or};
 ghost use Rattle.model.specs.Sheets.{most_rows};
 ghost use Rattle.model.specs.Rows.{zero_figures};
@@ -11,7 +13,7 @@ ghost use Rattle.row_records.specs.Held.{zero_list, no_records, records_for, rec
 use model::{PlaceAnswer, Refusal, RowFigures, Sheet, Verdict};
 
 // The records to be written: the answer, whose length is how many they are, and the figures of every row, zeros where there is none.
-#[derive(Drop)]
+#[derive(Clone, Copy)]
 pub struct Records {
     pub answer: PlaceAnswer,
     pub figures: [RowFigures; Sheet::MAX_ROWS],

@@ -1,5 +1,7 @@
 // What is asked of the rows of an accepted sheet: the figures of every row or of one, the row for a ceiling, and the bill of a row.
 // What is answered is written in crates `model` and `tariff`; nothing is assumed.
+#![tactic(auto)]
+
 pub mod billing;
 pub mod sizing;
 

@@ -14,42 +14,42 @@ use decimal::Reading;
 use model::Refusal;
 
 // The place of the value of a line: its first byte, and the line feed after it. Or the line is not there.
-#[derive(Drop)]
+#[derive(Clone, Copy)]
 pub enum ValueAt {
     Value(usize, usize),
     Missing,
 }
 
 // A number and the place of what follows its line, or the refusal.
-#[derive(Drop)]
+#[derive(Clone, Copy)]
 pub enum NumberAt {
     Number(u32, usize),
     Refused(Refusal),
 }
 
 // The place of what follows lines that were read, or the refusal.
-#[derive(Drop)]
+#[derive(Clone, Copy)]
 pub enum LinesRead {
     Done(usize),
     Refused(Refusal),
 }
 
 // How many lines with a number were counted, and the place of what follows them, or the refusal.
-#[derive(Drop)]
+#[derive(Clone, Copy)]
 pub struct CountedAt {
     pub lines: LinesRead,
     pub count: usize,
 }
 
 // The number of a short line and the place of what follows the line, or the place 0 where the line is of another form.
-#[derive(Drop)]
+#[derive(Clone, Copy)]
 struct Short {
     value: u32,
     next: usize,
 }
 
 // How many lines were read, and the place of what follows them.
-#[derive(Drop)]
+#[derive(Clone, Copy)]
 struct Front {
     count: usize,
     at: usize,

@@ -1,5 +1,7 @@
 // Schedules: their shape, and writing them, the optimal one of a row among them.
 // What a schedule is and costs is written in crate `model`; nothing is assumed.
+#![tactic(auto)]
+
 pub mod starting;
 pub mod writing;
 
@@ -9,7 +11,7 @@ ghost use Rattle.model.specs.Sheets.{most_steps};
 use model::Sheet;
 
 // The shape of a schedule of so many steps: 32 bytes a step, segment i at bit i % 8 of byte i / 8.
-#[derive(Drop)]
+#[derive(Clone, Copy)]
 pub struct Schedule {
     pub steps: usize,
 }

@@ -1,6 +1,8 @@
 // The program: a sheet on standard input, its listing on standard output, or `refused=` and the number of the refusal. It only reads and
 // writes; what it prints is that of `analyser::texts::printed`. Where the input cannot be read or the output not written it says so on
 // standard error, and prints nothing where the input cannot be read. The contracts of the C library's functions are assumed.
+#![tactic(auto)]
+
 ghost use Rattle.std.specs.Prelude.{◌+◌, ◌≤◌, length};
 ghost use Rattle.io.specs.Counts.{IsPrefixLen};
 
@@ -8,7 +10,7 @@ use libc::{STDIN_FILENO, STDOUT_FILENO};
 use model::Sheet;
 
 // What reading comes to: how many bytes, and whether a read failed.
-#[derive(Drop)]
+#[derive(Clone, Copy)]
 struct Input {
     length: usize,
     failed: bool,

@@ -1,5 +1,7 @@
 // What is asked of the schedules of an accepted sheet: the optimal one of a row, written, in form 4 that of the least total with stores
 // counted, and the price of one handed in. What is answered is written in crate `stores`; nothing is assumed.
+#![tactic(auto)]
+
 ghost use Rattle.std.specs.Prelude.{◌≡◌, ◌++◌, ℕ, ◌*◌, ◌≤◌, ltb, length, drop};
 ghost use Rattle.model.specs.Places.{PlaceLeft};
 ghost use Rattle.model.specs.Sheets.{SheetValue, run_of, RunWithin, marks_of};

@@ -1,5 +1,7 @@
 // The schedule of the least total with stores counted: which touches it holds their segments for, decided in a pass over the references and
 // one back from the last step, and writing it. What it holds is written in crate `stores`; nothing is assumed.
+#![tactic(auto)]
+
 pub mod mod_pass;
 pub mod modtotals;
 pub mod store_price;

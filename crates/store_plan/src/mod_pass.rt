@@ -11,7 +11,7 @@ use touching::{none_since, touch};
 
 // For each step whether its touch is a kept reuse, and whether, modifying, it belongs to the stay of the modifying touch before; and what
 // all modifying touches add to opttotal: modtotal less opttotal.
-#[derive(Drop)]
+#[derive(Clone, Copy)]
 pub struct Found {
     pub kept: [bool; Sheet::MAX_STEPS],
     pub joined: [bool; Sheet::MAX_STEPS],

@@ -1,5 +1,7 @@
 // The loading tariff: what a run is billed for the memory and the load of a row.
 // What it means is written in specs/; nothing is assumed.
+#![tactic(auto)]
+
 ghost use Rattle.std.specs.Prelude.{true, ◌≡◌, ◌<◌, ◌^◌};
 ghost use Rattle.tariff.specs.Billing.{no_bill};
 ghost use Rattle.tariff.specs.Tariff.{tariff_in_range, started_thousands, bill_of};
@@ -7,11 +9,11 @@ ghost use Rattle.tariff.specs.Tariff.{tariff_in_range, started_thousands, bill_o
 use model::{LoadUnits, MemoryUnits, Refusal, Verdict};
 
 // An amount in cents.
-#[derive(Drop)]
+#[derive(Clone, Copy)]
 pub struct Cents(pub u64);
 
 // A bill; 0 where the call is refused.
-#[derive(Drop)]
+#[derive(Clone, Copy)]
 pub struct BillAnswer {
     pub verdict: Verdict,
     pub cents: Cents,
@@ -30,7 +32,7 @@ impl BillAnswer {
 }
 
 // Cents for each started 1,000 memory units and for each started 1,000 load units, and the least that a bill comes to.
-#[derive(Drop)]
+#[derive(Clone, Copy)]
 pub struct Tariff {
     pub memory_rate: u64,
     pub load_rate: u64,

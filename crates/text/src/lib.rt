@@ -1,5 +1,7 @@
 // Writing lines: a text, the digits of a number, and the line of a number, each from an index of the lent place on.
 // What a place becomes is written in specs/; nothing is assumed.
+#![tactic(auto)]
+
 ghost use Rattle.std.specs.Prelude.{[], ◌∷◌, ◌++◌, ◌+◌, ◌≤◌, length};
 ghost use Rattle.decimal.specs.Decimal.{written};
 ghost use Rattle.model.specs.Places.{gives, PlaceLeft};

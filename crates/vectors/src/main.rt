@@ -1,5 +1,7 @@
 // A test program: answers of the public calls, compared with what the documents say and not proved. The file stdin has the sheets and the
 // calls, as its first lines explain; the file stdout has the answers. The contracts of the C library's functions are assumed.
+#![tactic(auto)]
+
 mod lists;
 mod parts;
 mod show;

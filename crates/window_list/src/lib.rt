@@ -1,5 +1,7 @@
 // wsocc of an accepted sheet at every window from 1 to the number of its steps, by the window recursion, into a lent place.
 // What is answered, and what the recursion is, is written in crate `windows`; nothing is assumed.
+#![tactic(auto)]
+
 mod window_pass;
 
 ghost use Rattle.std.specs.Prelude.{◌≡◌};

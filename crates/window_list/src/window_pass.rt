@@ -14,7 +14,7 @@ use model::{PlaceAnswer, Refusal, Sheet, Verdict};
 const LENGTHS: usize = Sheet::MAX_STEPS + 2;
 
 // What the pass over the steps gives beside the counts: how many touches there are, and the table of last touches.
-#[derive(Drop)]
+#[derive(Clone, Copy)]
 struct Passed {
     touches: u64,
     last: [u16; Sheet::MAX_SEGS],

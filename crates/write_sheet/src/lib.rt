@@ -1,5 +1,7 @@
 // Writing a sheet: the length of its text first, then the text part after part, each from an index of the lent place on.
 // What the text is stands in specs/Writing.antt, and what a place becomes in the crates text and model. Nothing is assumed.
+#![tactic(auto)]
+
 mod head_text;
 mod touch_text;
 

@@ -6,7 +6,7 @@ use model::{Kind, PriceRow, Priced, Sheet};
 
 // What a touch gives: the excess since the last modifying touch of its segment, 0 for none and else one more; what it adds to opttotal;
 // whether it is a kept reuse; and whether, modifying, it belongs to the stay of the modifying touch before.
-#[derive(Drop)]
+#[derive(Clone, Copy)]
 pub struct Touched {
     pub since: u64,
     pub added: Priced,

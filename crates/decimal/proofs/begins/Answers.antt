@@ -4,12 +4,10 @@ use mathlib.Core.Bool.{Bool, true, false, not, ◌&&◌}
 use mathlib.Core.List.{List, [], ◌∷◌}
 use Prim.Native.Nat.{ℕ}
 use native.Mathlib.Omega.{arith}
-use borrow.Author.Rules.{rules}
 use lib.Dec.{eqb}
 use lib.ListN.{length, get_or}
 use Rattle.decimal.specs.Decimal.{is_digit, all_digits, is_number}
-use Rattle.decimal.proofs.begins.Statement.{statement}
-use Rattle.decimal.proofs.begins.Tie as tie
+use Rattle.decimal.proofs.begins.Goals as goal
 
 -- no byte: no number
 none : (s : List ℕ) → length s ≡ 0 → is_number s ≡ false
@@ -37,14 +35,11 @@ more [] z o = absurd (z refl)
 more (b ∷ []) z o = absurd (o refl)
 more (b ∷ c ∷ s) z o = refl
 
-returns : tie.Need-returns
-returns c = none _ c.if1.true
+pub returns-then-s-eq0 : goal.returns-then-s-eq0
+returns-then-s-eq0 c = none _ c.if-s-eq0.true
 
-returns-2 : tie.Need-returns-2
-returns-2 c = one _ c.if2.true
+pub returns-then-s-eq1 : goal.returns-then-s-eq1
+returns-then-s-eq1 c = one _ c.if-s-eq1.true
 
-returns-3 : tie.Need-returns-3
-returns-3 c = more _ c.before.before.if1.false c.before.if2.false
-
-pub begins-spec : {M : Type 1} → statement M
-begins-spec = tie.close (tie.spec returns returns-2 (λ c. search rules) returns-3)
+pub returns : goal.returns
+returns c = more _ c.if-s-eq0.false c.if-s-eq1.false
