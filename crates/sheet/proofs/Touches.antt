@@ -1,7 +1,7 @@
 -- The touches of a sheet of form 2 on: how their lines are read and written, and that touches, and entries with their marks, say the same.
 -- `letters` says that the form has the letter w.
 use Prim.Native.Nat.{ℕ, zero, suc, ◌+◌, ◌-◌, ◌≤◌, ◌<◌}
-use mathlib.Core.Path.{◌≡◌, refl, sym, ap, ◌∙◌}
+use mathlib.Core.Path.{◌≡◌, refl, sym, ap, ◌∙◌, subst}
 use mathlib.Core.Logic.{◌⊎◌, inl, inr, ⊎_elim}
 use mathlib.Core.Bool.{Bool, true, false, cond, ◌&&◌, false≢true}
 use mathlib.Core.List.{List, [], ◌∷◌, ◌++◌, append_assoc, append-nil}
@@ -189,7 +189,7 @@ module _ {A : Type 0} (blank : A) (f : Touch → A) where
       let here : p ++ (replicate (x.step - suc (step_of prev)) blank ++ (f x ∷ rest)) ≡ q ++ (f x ∷ rest) =
       sym (append_assoc p (replicate (x.step - suc (step_of prev)) blank) (f x ∷ rest)) in
       let beyond : (q ++ (f x ∷ [])) ++ rest ≡ q ++ (f x ∷ rest) = append_assoc q (f x ∷ []) rest in
-      rw here (
+      subst (λ (s : List A). (get_or s (x.step - 1) blank ≡ f x) × Each (λ _ y. get_or s (y.step - 1) blank ≡ f y) (some x) xs) (sym here) (
         get_or_at q (f x) rest blank (x.step - 1) l,
         rw beyond at (placed_at letters segs steps xs (some x) (q ++ (f x ∷ [])) m c),
       )

@@ -1,0 +1,24 @@
+-- `write_sheet::head_text::put_kind` meets its contract, a kind at a time: the line is the text that is put.
+use mathlib.Core.Path.{◌≡◌}
+use Rattle.model.specs.declared.Kind.TheVariants.{Time, Space}
+use Rattle.write_sheet.proofs.head_text.put_kind.Goals as goal
+
+pub put-requires : goal.put-requires
+put-requires c =
+    let e : c.args.kind ≡ Time = cc in
+    rw e at c.requires
+
+pub put-requires-in-Space : goal.put-requires-in-Space
+put-requires-in-Space c =
+    let e : c.args.kind ≡ Space = cc in
+    rw e at c.requires
+
+pub returns-in-Time : goal.returns-in-Time
+returns-in-Time c =
+    let e : c.args.kind ≡ Time = cc in
+    rw e c.put.ensures
+
+pub returns-in-Space : goal.returns-in-Space
+returns-in-Space c =
+    let e : c.args.kind ≡ Space = cc in
+    rw e c.put-in-Space.ensures
