@@ -6,7 +6,7 @@ import re
 
 DEFINES = re.compile(r'^(?:abbrev pub|unfoldable pub|abbrev|unfoldable|pub record|pub data|record|data) ([^\s(:]+)')
 USES = re.compile(r'use ([^\s{;]+?)\.\{([^}]*)\}')
-WORD = re.compile(r"[A-Za-z][\w'·-]*")
+WORD = re.compile(r"[A-Za-z][\w'-]*")
 CALL = re.compile(r'^(?:    )?pub (?:extern "C" )?fn (\w+)', re.M)
 # The crates with public calls; of `exports` those whose name begins with segtrace_, of `recorder` those of lib.rt.
 DOORS = ('analyser', 'recorder', 'reader', 'row_records', 'exports')
@@ -18,20 +18,21 @@ def read(path):
 
 
 def layers():
-    """The layers of crates.txt in order: heading, and of each crate its name and the names that it uses."""
+    """The layers of crates.txt in order: heading, and of each crate its name and the names that it uses. Between the name and the colon may
+    stand what the crate is, as `exports staticlib:`."""
     found = []
     for line in read('crates.txt').split('\n')[1:]:
         if line.startswith('# '):
             found.append((line[2:], []))
         elif ':' in line:
             name, uses = line.split(':')
-            found[-1][1].append((name, uses.split()))
+            found[-1][1].append((name.split()[0], uses.split()))
     return found
 
 
 def specs_path(module, crate):
     """The file of a module that a `use` line names, seen from a crate; None where it is none of ours, or made from the code."""
-    m = re.match(r'Rattle·(\w+?)(?:·specs)?\.specs\.(?!declared)([\w.]+)$', module)
+    m = re.match(r'Rattle\.(\w+)\.specs\.(?!declared)([\w.]+)$', module)
     if not m:
         return None
     path = f'crates/{m[1]}/specs/{m[2].replace(".", "/")}.antt'

@@ -52,3 +52,6 @@ returns c =
     let i = c.loop-i.invariant in
     let e = pass_whole _ _ _ (numbers-repeat _ _ _) _ _ _ _ _ _ _ i.passed (omega arith) (omega (arith, i.whole)) in
     record { same = sym e; within = i.passed.place }
+
+pub slice_bounds-number_line-start : goal.slice_bounds-number_line-start
+slice_bounds-number_line-start c = slice_bounds-number_line-count c

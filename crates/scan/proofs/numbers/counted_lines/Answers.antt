@@ -10,21 +10,21 @@ use Rattle.scan.proofs.Stages.{stage-refused, counted-reads}
 use Rattle.scan.proofs.NumberLines.{number-bounds}
 use Rattle.scan.proofs.NumbersRead.{number_read, number-place, number-refused}
 use Rattle.scan.proofs.Tails.{tail-place}
-use Rattle.scan.proofs.numbers.counted_lines.Goals.{In-Number-2}
+use Rattle.scan.proofs.numbers.counted_lines.Goals.{In-Number}
 use Rattle.scan.proofs.numbers.counted_lines.Goals as goal
 
 -- the count is within the length of `out`
-counted-within : (c : In-Number-2) → c.in-Number.n ≤ length c.args.out.now
+counted-within : (c : In-Number) → c.in-Number.n ≤ length c.args.out.now
 counted-within c = (number-bounds _ _ _ _ _ _ (number_read c.number_line.ensures c.in-Number.is)).1
 
 pub slice_bounds-number_lines-count : goal.slice_bounds-number_lines-count
 slice_bounds-number_lines-count c = number-place c.number_line.ensures c.in-Number.is
 
 pub slice_bounds-number_lines-end-in-Number : goal.slice_bounds-number_lines-end-in-Number
-slice_bounds-number_lines-end-in-Number c = omega (arith, counted-within (goal.at.slice_bounds-number_lines-end-in-Number c).In-Number-2)
+slice_bounds-number_lines-end-in-Number c = omega (arith, counted-within (goal.at.slice_bounds-number_lines-end-in-Number c).In-Number)
 
 pub slice_bounds-number_lines-end-in-Number-2 : goal.slice_bounds-number_lines-end-in-Number-2
-slice_bounds-number_lines-end-in-Number-2 c = sym (length-take-le _ _ (omega (arith, counted-within (goal.at.slice_bounds-number_lines-end-in-Number-2 c).In-Number-2)))
+slice_bounds-number_lines-end-in-Number-2 c = sym (length-take-le _ _ (omega (arith, counted-within (goal.at.slice_bounds-number_lines-end-in-Number-2 c).In-Number)))
 
 pub after-requires : goal.after-requires
 after-requires c =
@@ -44,5 +44,8 @@ pub returns-in-Number : goal.returns-in-Number
 returns-in-Number c =
     let r = c.number_line.ensures in
     counted-reads _ _ _ _ _ c.number_lines-lines.result _ c.number_lines-lines.new.out _ (number_read r c.in-Number.is)
-    (number-place r c.in-Number.is) (counted-within (goal.at.returns-in-Number c).In-Number-2) c.number_lines-lines.auto.1.1.1.1.0 c.number_lines-lines.ensures
+    (number-place r c.in-Number.is) (counted-within (goal.at.returns-in-Number c).In-Number) c.number_lines-lines.auto.out c.number_lines-lines.ensures
     c.after.ensures
+
+pub slice_bounds-number_lines-start : goal.slice_bounds-number_lines-start
+slice_bounds-number_lines-start c = slice_bounds-number_lines-count c

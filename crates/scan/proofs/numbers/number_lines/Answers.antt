@@ -6,11 +6,11 @@ use lib.ListN.{length}
 use Rattle.scan.specs.inner.AtPlace.{lines_next}
 use Rattle.scan.proofs.ShortLines.{rest-stop, rest-done}
 use Rattle.scan.proofs.Tails.{tail-place}
-use Rattle.scan.proofs.numbers.number_lines.Goals.{In-Done-2}
+use Rattle.scan.proofs.numbers.number_lines.Goals.{In-Done}
 use Rattle.scan.proofs.numbers.number_lines.Goals as goal
 
 -- what follows the lines lies within the bytes
-within : (c : In-Done-2)
+within : (c : In-Done)
     → c.short_lines-front.result.at + c.in-Done.next ≤ length c.args.s.now
 within c =
     tail-place c.args.s.now c.short_lines-front.result.at c.in-Done.next
@@ -18,7 +18,7 @@ within c =
     (omega (arith, c.any_number_lines.ensures.within, ap lines_next c.in-Done.is))
 
 pub overflow_add-result : goal.overflow_add-result
-overflow_add-result c = omega (arith, within (goal.at.overflow_add-result c).In-Done-2)
+overflow_add-result c = omega (arith, within c)
 
 pub returns-in-Refused : goal.returns-in-Refused
 returns-in-Refused c =
@@ -30,4 +30,4 @@ pub returns-in-Done : goal.returns-in-Done
 returns-in-Done c =
     let f = c.short_lines-front.ensures in
     let e = rest-done _ _ _ _ _ _ _ _ _ _ f c.any_number_lines.ensures.same _ c.in-Done.is in
-    record { same = e; within = within (goal.at.returns-in-Done c).In-Done-2 }
+    record { same = e; within = within c }

@@ -33,3 +33,21 @@ returns c =
 
 pub returns-then-not-has_key : goal.returns-then-not-has_key
 returns-then-not-has_key c = another-at refl
+
+pub slice_bounds-front-start : goal.slice_bounds-front-start
+slice_bounds-front-start c = slice_bounds-front-count c
+
+pub returns-then-length-eq0 : goal.returns-then-length-eq0
+returns-then-length-eq0 c = another-at refl
+
+pub returns-then-s-end : goal.returns-then-s-end
+returns-then-s-end c = another-at refl
+
+pub returns-then-s-end-ne10 : goal.returns-then-s-end-ne10
+returns-then-s-end-ne10 c = another-at refl
+
+pub returns-then-value-lo : goal.returns-then-value-lo
+returns-then-value-lo c = another-at refl
+
+pub returns-then-hi-value : goal.returns-then-hi-value
+returns-then-hi-value c = another-at refl

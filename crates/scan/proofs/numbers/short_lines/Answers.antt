@@ -50,3 +50,6 @@ shape_of-out c = c.loop-i.invariant.whole
 
 pub returns : goal.returns
 returns c = gives c.loop-i.invariant
+
+pub slice_bounds-short_line-start : goal.slice_bounds-short_line-start
+slice_bounds-short_line-start c = slice_bounds-short_line-count c

@@ -26,3 +26,6 @@ returns c =
     let e = sym c.has_key.ensures ∙ not-false _ c.if-not-has_key.false-raw in
     let v = no-feed _ _ c.requires _ e c.find.ensures.split c.if-end-s.false in
     record { same = sym v; within = tt }
+
+pub slice_bounds-find-start : goal.slice_bounds-find-start
+slice_bounds-find-start c = slice_bounds-find-count c

@@ -15,7 +15,7 @@ use Rattle.write_sheet.proofs.head_text.head_length.Goals as goal
 -- how long the arrays are
 lengths : (s : Start)
     → (length s.args.head.sizes ≡ 256) × (length s.args.head.prices ≡ 64) × (length s.args.head.holds ≡ 256)
-lengths s = (search rules, simp length-map at s.well_formed.1.0.1.1.1.1.1.1.1.0.1.0.1, search rules)
+lengths s = (search rules, search rules, search rules)
 
 pub returns : goal.returns
 returns c =

@@ -18,7 +18,7 @@ use Rattle.write_sheet.proofs.head_text.put_head.Goals as goal
 -- how long the arrays are
 lengths : (s : Start)
     → (length s.args.head.sizes ≡ 256) × (length s.args.head.prices ≡ 64) × (length s.args.head.holds ≡ 256)
-lengths s = (search rules, simp length-map at s.well_formed.1.0.1.1.1.1.1.1.1.0.1.0.1, search rules)
+lengths s = (search rules, search rules, search rules)
 
 -- the head whose counts are cut off
 abbrev clampedAt : After-least-warm → HeadValue
@@ -29,7 +29,7 @@ clampedAt r =
 -- it is the head's value
 same : (r : After-least-warm) → clampedAt r ≡ head_value_of r.args.head
 same r =
-    let lengths' : (length r.args.head.sizes ≡ 256) × (length r.args.head.prices ≡ 64) × (length r.args.head.holds ≡ 256) = (search rules, simp length-map at r.well_formed.1.0.1.1.1.1.1.1.1.0.1.0.1, search rules) in
+    let lengths' : (length r.args.head.sizes ≡ 256) × (length r.args.head.prices ≡ 64) × (length r.args.head.holds ≡ 256) = (search rules, search rules, search rules) in
     let (l₁, l₂, l₃) = lengths' in
     head-clamped _ _ _ _ l₁ l₂ l₃
     r.least-segs.ensures r.least-rows.ensures r.least-warm.ensures
