@@ -9,9 +9,17 @@ use Rattle.din.specs.Lines.{digit_of}
 use Rattle.din.proofs.DigitValues.{value_of}
 use Rattle.din.proofs.FirstLines.{along-start, along-end, along-empty, along-feed}
 use Rattle.din.proofs.FirstLines.{along-full, along-none, along-fits, along-next}
-use Rattle.din.proofs.lines.address.Invariants.{byte, value}
 use Rattle.din.proofs.lines.address.Goals.{Else-d-eq16, Else-n-eq-MAX_DIGITS}
 use Rattle.din.proofs.lines.address.Goals as goal
+
+-- the byte is one of the table
+byte : (c : Else-n-eq-MAX_DIGITS) → get_or c.args.s.now c.loop-n.n 0 < 256
+byte c = omega (arith, c.type_inv.s c.loop-n.n)
+
+-- and this is its value
+value : (c : Else-n-eq-MAX_DIGITS) → get_or c.args.values.now (get_or c.args.s.now c.loop-n.n 0) 0
+    ≡ digit_of (get_or c.args.s.now c.loop-n.n 0)
+value c = value_of _ c.requires _ (byte c)
 
 -- the value with one digit more
 fits : (c : Else-d-eq16) → c.loop-n.value * 16 + get_or c.args.values.now (get_or c.args.s.now c.loop-n.n 0) 0 < 2 ^ 32

@@ -11,7 +11,7 @@ use Rattle.din.specs.inner.Held.{table_places}
 use Rattle.din.proofs.Table.{found_below}
 use Rattle.din.proofs.Going.{going_start, going_room, going_end, going_malformed}
 use Rattle.din.proofs.Going.{going_small, going_many_segs, going_many_steps, going_next}
-use Rattle.din.proofs.pages.lines.Goals.{After-number_at-segment, After-place_of-place, In-Address-unread}
+use Rattle.din.proofs.pages.lines.Goals.{After-number_at-segment, After-place_of-place, In-Address}
 use Rattle.din.proofs.pages.lines.Goals as goal
 
 -- the place lies in the table
@@ -27,12 +27,12 @@ segment-small c =
     (ap (first_at _) (sym c.in-Address.is) ∙ c.line.ensures.result_value) _ c.place_of-place.ensures _ c.number_at-segment.ensures
 
 -- the place after the line
-next-within : (c : In-Address-unread) → (1 ≤ c.in-Address.next)
+next-within : (c : In-Address) → (1 ≤ c.in-Address.next)
     × (c.in-Address.next ≤ length (tail c.args.bytes.now c.loop-at.at))
 next-within c = subst (NextWithin _) c.in-Address.is c.line.ensures.next_within
 
 -- lies within the bytes
-next_place : (c : In-Address-unread) → c.loop-at.at + c.in-Address.next ≤ length c.args.bytes.now
+next_place : (c : In-Address) → c.loop-at.at + c.in-Address.next ≤ length c.args.bytes.now
 next_place c =
     tail-place c.args.bytes.now c.loop-at.at c.in-Address.next c.loop-at.invariant.place
     (next-within c).1
@@ -110,17 +110,17 @@ overflow_add-steps c =
     omega (arith, g.few_steps, g.steps_are)
 
 pub overflow_add-at : goal.overflow_add-at
-overflow_add-at c = omega (arith, next_place c.before)
+overflow_add-at c = omega (arith, next_place (goal.at.overflow_add-at c).In-Address)
 
 pub loop-at-smaller : goal.loop-at-smaller
 loop-at-smaller c =
-    omega (arith, (next-within c.before).0, next_place c.before)
+    omega (arith, (next-within (goal.at.loop-at-smaller c).In-Address).0, next_place (goal.at.loop-at-smaller c).In-Address)
 
 pub loop-at-preserved : goal.loop-at-preserved
 loop-at-preserved c =
     going_next _ _ _ _ _ _ _ _ c.loop-at.invariant _ c.in-Address.next
     (ap (first_at _) (sym c.in-Address.is) ∙ c.line.ensures.result_value) _ c.place_of-place.ensures _ c.number_at-segment.ensures c.if-segment-eq-MAX_SEGS.false
-    c.if-steps-eq-MAX_STEPS.false (next-within c.before).1 _ c.larger-segs.ensures
+    c.if-steps-eq-MAX_STEPS.false (next-within (goal.at.loop-at-preserved c).In-Address).1 _ c.larger-segs.ensures
 
 pub returns : goal.returns
 returns c = going_end _ _ _ _ _ _ _ _ c.loop-at.invariant c.loop-at-test.false _ c.larger.ensures

@@ -68,6 +68,18 @@ returns c =
       within = omega (arith, second-within (goal.at.returns c).Else-m-eq0);
     }
 
+pub returns-then-not-has_key : goal.returns-then-not-has_key
+returns-then-not-has_key c = another-at c.another_form.ensures
+
+pub slice_bounds-number_before-count : goal.slice_bounds-number_before-count
+slice_bounds-number_before-count c = long c
+
+pub slice_bounds-number_before-start : goal.slice_bounds-number_before-start
+slice_bounds-number_before-start c = long c
+
+pub returns-then-k-eq0 : goal.returns-then-k-eq0
+returns-then-k-eq0 c = another-at c.another_form-then-k-eq0.ensures
+
 pub overflow_add-at-2 : goal.overflow_add-at-2
 overflow_add-at-2 c = omega (arith, first-within c)
 

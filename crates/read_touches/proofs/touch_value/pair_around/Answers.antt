@@ -20,8 +20,8 @@ overflow_add-end c = omega (arith, within c)
 pub slice_bounds-read-end : goal.slice_bounds-read-end
 slice_bounds-read-end c = sym (length-take-le _ _ (omega arith))
 
-pub slice_bounds-read-end : goal.slice_bounds-read-end
-slice_bounds-read-end c = omega (arith, within c)
+pub slice_bounds-read-end-then-k-v : goal.slice_bounds-read-end-then-k-v
+slice_bounds-read-end-then-k-v c = omega (arith, within (goal.at.slice_bounds-read-end-then-k-v c).After-step_bytes)
 
 pub returns-then-k-v : goal.returns-then-k-v
 returns-then-k-v c =

@@ -4,6 +4,7 @@ use native.Mathlib.Omega.{arith}
 use borrow.Author.Rules.{rules}
 use lib.ListN.{length}
 use lib.Seq.{length-take-le}
+use Rattle.std.proofs.Common.{◌≡◌, length, length-take}
 use Rattle.recorder.proofs.RowNow.{ends-stand}
 use Rattle.recorder.proofs.reading.ends_now.Goals.{Start}
 use Rattle.recorder.proofs.reading.ends_now.Goals as goal
@@ -26,7 +27,8 @@ memory_prices-ds-requires c = (omega (arith, c.least-rows.ensures))
 
 pub ends-requires : goal.ends-requires
 ends-requires c =
-    record { hs_len = search rules; sizes_len_bound = omega (arith, (sym (length-take-le _ _ ((omega (arith, sizes-length (goal.at.ends-requires c).Start, c.least-segs.ensures))))), c.least-segs.ensures, (search rules)) }
+    let whole : length c.args.recorder.last ≡ 256 = search rules in
+    record { hs_len = search rules; sizes_len_bound = simp length-take (omega (arith, c.least-segs.ensures, whole)) }
 
 pub returns : goal.returns
 returns c =

@@ -4,6 +4,7 @@ use native.Mathlib.Omega.{arith}
 use borrow.Author.Rules.{rules}
 use lib.ListN.{length}
 use lib.Seq.{length-take-le}
+use Rattle.std.proofs.Common.{length-take}
 use Rattle.recorder.proofs.row_guards.start_now.Goals.{Start}
 use Rattle.recorder.proofs.row_guards.start_now.Goals as goal
 
@@ -29,7 +30,7 @@ slice_bounds-start_swaps-end-2 c = sym (length-take-le _ _ ((omega (arith, c.lea
 
 pub start_swaps-requires : goal.start_swaps-requires
 start_swaps-requires c =
-    omega (arith, (sym (length-take-le _ _ ((omega (arith, c.least-segs.ensures, sizes-length (goal.at.start_swaps-requires c).Start))))), c.least-segs.ensures)
+    simp length-take (omega (arith, c.least-segs.ensures))
 
 pub returns : goal.returns
 returns c =

@@ -4,6 +4,7 @@ use native.Mathlib.Omega.{arith}
 use borrow.Author.Rules.{rules}
 use lib.ListN.{length}
 use lib.Seq.{length-take-le}
+use Rattle.std.proofs.Common.{length-take}
 use Rattle.buckets.proofs.Prices.{loads_many, memories_many}
 use Rattle.recorder.proofs.Stepping.{passed_on}
 use Rattle.recorder.proofs.taking.pass_on.Goals.{Start}
@@ -29,7 +30,7 @@ pub references-requires : goal.references-requires
 references-requires c =
     record { hs_len = (loads_many _ _ c.load_prices-hs.ensures, memories_many _ _ c.memory_prices-ds.ensures); passable = record {
         roomy = c.requires.roomy;
-        few_segs = omega (arith, (sym (length-take-le _ _ ((omega (arith, sizes-length (goal.at.references-requires c).Start, c.least-segs.ensures))))), c.least-segs.ensures);
+        few_segs = simp length-take (omega (arith, c.least-segs.ensures));
         few_steps = c.requires.few_steps;
       } }
 
