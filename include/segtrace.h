@@ -1,5 +1,5 @@
 /*
- * The segment trace analyser as a library: link libexports.a, which `rt staticlib exports` makes.
+ * The segment trace analyser as a library: link libexports.a, which `tools/build archive` makes.
  *
  * Every call returns 0, or the number of the refusal (docs/GUIDE.md lists them; where several apply, the first that the call's
  * comment names). A refused call writes nothing: every lent place, number and recorder is as it was. No call keeps a pointer or

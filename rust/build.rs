@@ -10,7 +10,7 @@ fn main() {
     let archive = Path::new(&directory).join("libexports.a");
     println!("cargo:rerun-if-changed={}", archive.display());
     if !archive.exists() {
-        eprintln!("{} is missing: run `rt staticlib exports`, or set SEGTRACE_LIB_DIR", archive.display());
+        eprintln!("{} is missing: run `tools/build archive`, or set SEGTRACE_LIB_DIR", archive.display());
         std::process::exit(1);
     }
     println!("cargo:rustc-link-search=native={directory}");

@@ -50,7 +50,6 @@ pub after-requires : goal.after-requires
 after-requires c =
     omega (
       arith,
-      c.ranges,
       tail-place c.args.s.now (c.in-Kind.first + c.in-Number.second)
           (lines_next c.table_lines-found.result.lines)
           (place (goal.at.after-requires c).In-Number) c.table_lines-found.ensures.within,

@@ -1,5 +1,6 @@
 -- `read_sheet::row_lines::row_of` meets its contract, one answer for each case of the first reading.
 use native.Mathlib.Omega.{arith}
+use Rattle.read_sheet.specs.inner.RowsAtPlace.{before}
 use Rattle.read_sheet.proofs.ReadRows.{number-in}
 use Rattle.read_sheet.proofs.row_lines.row_of.Goals as goal
 
@@ -12,7 +13,7 @@ returns-in-NotNumber c = record { same = λ s. rw c.in-NotNumber.is; within = om
 pub returns-in-OutOfRange : goal.returns-in-OutOfRange
 returns-in-OutOfRange c =
     let r = c.row_beyond.ensures in
-    record { same = λ s. rw c.in-OutOfRange.is (r.same _ s _); within = omega (arith, r.no_place) }
+    record { same = λ s. rw c.in-OutOfRange.is (r.same (before c.args.prev) s _); within = omega (arith, r.no_place) }
 
 pub returns-in-Number : goal.returns-in-Number
 returns-in-Number c =

@@ -29,7 +29,7 @@ plus-load-requires c =
     let next = storing_touch a.a a.sizes.now a.refs.now (marks_of a.marks.now) a.schedule.now
     c.requires.sizes_len_bound.0 c.requires.sizes_len_bound.1 l.flags l.load.0 l.t l.invariant c.loop-t-test.true i c.stored.result.0
     c.modified-m.result
-    (marks_of a.marks.now l.t || c.modified-m.result) refl c.if-i-sizes.true (omega (arith, c.fits))
+    (marks_of a.marks.now l.t || c.modified-m.result) refl c.if-i-sizes.true (omega arith)
     (omega (arith, c.type_inv.sizes i)) c.modified-m.ensures c.stored.ensures refl
     in
     omega (arith, next.load_within, next.within, c.requires.sizes_len_bound.1)
@@ -42,7 +42,7 @@ loop-t-preserved-then-i-sizes c =
     rw c.plus-load.ensures
     (storing_touch a.a a.sizes.now a.refs.now (marks_of a.marks.now) a.schedule.now c.requires.sizes_len_bound.0 c.requires.sizes_len_bound.1
     l.flags l.load.0 l.t l.invariant c.loop-t-test.true i c.stored.result.0 c.modified-m.result
-    c.flag.result refl c.if-i-sizes.true (omega (arith, c.fits))
+    c.flag.result refl c.if-i-sizes.true (omega arith)
     (omega (arith, c.type_inv.sizes i)) c.modified-m.ensures c.stored.ensures
     c.flag.ensures)
 

@@ -1,0 +1,38 @@
+-- `listing::of_sheet::sheet_listing` meets its contract: the listing is that of the sheet's value.
+use Prim.Native.Nat.{ℕ, ◌<◌}
+use mathlib.Core.Path.{◌≡◌, sym, ◌∙◌}
+use mathlib.Core.Logic.{inl, inr, ⊎_elim}
+use mathlib.Core.Bool.{true}
+use borrow.Author.Tests.{leb-true}
+use lib.Dec.{leb}
+use lib.ListN.{get_or}
+use Rattle.model.specs.Values.{value_of}
+use Rattle.stores.specs.Rows.{row_modtotal}
+use Rattle.listing.proofs.SheetListing.{totals-of, listing-of, listing-fits}
+use Rattle.listing.proofs.of_sheet.sheet_listing.Goals.{Joined-has_modtotal}
+use Rattle.listing.proofs.of_sheet.sheet_listing.Goals as goal
+
+-- the modtotals handed on, where the form has them
+totals : (j : Joined-has_modtotal) → leb 4 j.args.s.form ≡ true → (r : ℕ) → r < j.args.s.head.rows
+    → get_or j.if-has_modtotal.totals r 0 ≡ row_modtotal (value_of j.args.s) r
+totals j =
+    totals-of j.args.s j.requires j.if-has_modtotal.totals j.has_modtotal.result j.has_modtotal.ensures
+    (⊎_elim (λ w. inl (w.2 ∙ w.1.ensures)) (λ w. inr w.0.left) j.if-has_modtotal.branch)
+
+pub all_modtotals-totals-requires : goal.all_modtotals-totals-requires
+all_modtotals-totals-requires c =
+    let form = leb-true 4 c.args.s.form (sym c.has_modtotal.ensures ∙ c.if-has_modtotal.true) in
+    (c.requires, form, c.all_figures-all.ensures)
+
+pub write-requires : goal.write-requires
+write-requires c =
+    (
+      c.requires.rows_within,
+      rw (c.all_figures-all.ensures, c.sheet_refs-refs.ensures, listing-of c.args.s c.requires c.if-has_modtotal.totals (totals (goal.at.write-requires c).Joined-has_modtotal))
+          (listing-fits c.args.s c.requires),
+    )
+
+pub returns : goal.returns
+returns c =
+    rw (c.all_figures-all.ensures, c.sheet_refs-refs.ensures, listing-of c.args.s c.requires c.if-has_modtotal.totals (totals (goal.at.returns c).Joined-has_modtotal))
+    at c.write.ensures
