@@ -1,4 +1,3 @@
-pub mod Arrays
 pub mod Examples
 pub mod Found
 pub mod Fronts
