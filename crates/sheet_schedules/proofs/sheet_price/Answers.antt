@@ -42,9 +42,10 @@ of-sheet : (c : After-with_stores-arg-1) → let x = c.args.s in
     PlainOf (value_of x) c.args.row x.head.a (get_or x.head.prices c.args.row (record { h = 0; d = 0 }))
     (take x.head.segs x.head.sizes) (take x.steps x.touches) (take x.marked x.marks) c.args.schedule.now
     c.price-plain.result
+unfolding value_of head_value_of
 of-sheet c =
-    let plain' : c.price-plain.result ≡ price_answer (trace_of (value_of c.args.s)) (row_at (value_of c.args.s) c.args.row).h (row_at (value_of c.args.s) c.args.row).d c.args.schedule.now = rw (row_of c.args.s c.requires c.args.row (there')) c.price-plain.ensures in
     let there' : c.args.row < c.args.s.head.rows = omega (arith, c.if-s-row.false) in
+    let plain' : c.price-plain.result ≡ price_answer (trace_of (value_of c.args.s)) (row_at (value_of c.args.s) c.args.row).h (row_at (value_of c.args.s) c.args.row).d c.args.schedule.now = rw (row_of c.args.s c.requires c.args.row (there')) c.price-plain.ensures in
     sheet-plain c.args.s c.requires (omega (arith, c.if-s-eq0.false)) c.args.row
     (there') c.args.schedule.now (plain')
 

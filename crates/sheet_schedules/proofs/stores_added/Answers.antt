@@ -11,7 +11,8 @@ within c = plain-within c.requires.by_index.2 c.requires.verdict_value
 
 pub stored_load-stores-requires : goal.stored_load-stores-requires
 stored_load-stores-requires c =
-    parts_within c.requires.by_index.2 c.requires.verdict_value
+    let parts = parts_within c.requires.by_index.2 c.requires.verdict_value in
+    record { sizes_len_bound = parts.0; marks_len = parts.1 }
 
 pub overflow_add-load : goal.overflow_add-load
 overflow_add-load c = omega (arith, within (goal.at.overflow_add-load c).After-stored_load-stores, c.stored_load-stores.ensures.result_bound)

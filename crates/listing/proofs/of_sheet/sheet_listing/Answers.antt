@@ -1,7 +1,7 @@
 -- `listing::of_sheet::sheet_listing` meets its contract: the listing is that of the sheet's value.
 use Prim.Native.Nat.{ℕ, ◌<◌}
 use mathlib.Core.Path.{◌≡◌, sym, ◌∙◌}
-use mathlib.Core.Logic.{inl, inr, ⊎_elim}
+use mathlib.Core.Logic.{inl, inr}
 use mathlib.Core.Bool.{true}
 use borrow.Author.Tests.{leb-true}
 use lib.Dec.{leb}
@@ -9,7 +9,7 @@ use lib.ListN.{get_or}
 use Rattle.model.specs.Values.{value_of}
 use Rattle.stores.specs.Rows.{row_modtotal}
 use Rattle.listing.proofs.SheetListing.{totals-of, listing-of, listing-fits}
-use Rattle.listing.proofs.of_sheet.sheet_listing.Goals.{Joined-has_modtotal}
+use Rattle.listing.proofs.of_sheet.sheet_listing.Goals.{Joined-has_modtotal, then-has_modtotal, else-has_modtotal}
 use Rattle.listing.proofs.of_sheet.sheet_listing.Goals as goal
 
 -- the modtotals handed on, where the form has them
@@ -17,7 +17,10 @@ totals : (j : Joined-has_modtotal) → leb 4 j.args.s.form ≡ true → (r : ℕ
     → get_or j.if-has_modtotal.totals r 0 ≡ row_modtotal (value_of j.args.s) r
 totals j =
     totals-of j.args.s j.requires j.if-has_modtotal.totals j.has_modtotal.result j.has_modtotal.ensures
-    (⊎_elim (λ w. inl (w.2 ∙ w.1.ensures)) (λ w. inr w.0.left) j.if-has_modtotal.branch)
+    (elim j.if-has_modtotal.branch [
+      | then-has_modtotal w ↦ inl (w.totals-is ∙ w.all_modtotals-totals.ensures)
+      | else-has_modtotal w ↦ inr w.if-has_modtotal.false
+    ])
 
 pub all_modtotals-totals-requires : goal.all_modtotals-totals-requires
 all_modtotals-totals-requires c =

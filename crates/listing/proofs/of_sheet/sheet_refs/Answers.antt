@@ -1,8 +1,9 @@
 -- `listing::of_sheet::sheet_refs` meets its contract. The loop's invariant: `refs` counts the segments among the entries passed.
 use mathlib.Core.Path.{◌≡◌, ap, ◌∙◌}
-use mathlib.Core.Logic.{inl, inr, ⊎_elim}
+use mathlib.Core.Logic.{inl, inr}
 use native.Mathlib.Omega.{arith}
 use Rattle.listing.proofs.Counting.{touches_by, counted_none, counted_next, counted-all}
+use Rattle.listing.proofs.of_sheet.sheet_refs.Goals.{then-touches-t, else-touches-t}
 use Rattle.listing.proofs.of_sheet.sheet_refs.Goals as goal
 
 pub loop-t-init : goal.loop-t-init
@@ -11,7 +12,10 @@ loop-t-init c = counted_none _ _ _
 pub loop-t-preserved : goal.loop-t-preserved
 loop-t-preserved c =
     counted_next _ _ _ c.loop-t.t c.loop-t.refs _ c.loop-t.invariant c.loop-t-test.true
-    (⊎_elim (λ w. inl (w.0.taken, w.1)) (λ w. inr (w.0.left, w.1)) c.if-touches-t.branch)
+    (elim c.if-touches-t.branch [
+      | then-touches-t w ↦ inl (w.if-touches-t.true, w.refs-is)
+      | else-touches-t w ↦ inr (w.if-touches-t.false, w.refs-is)
+    ])
 
 pub returns : goal.returns
 returns c =
