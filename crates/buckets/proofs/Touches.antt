@@ -18,7 +18,7 @@ use Rattle.model.specs.Sheets.{most_rows}
 use Rattle.model.proofs.Units.{memory_is, load_is}
 use Rattle.buckets.specs.Buckets.{bucket_of, filed, bucket_after, ended, end_bucket}
 use Rattle.buckets.specs.FirstRow.{last_bucket}
-use Rattle.buckets.specs.inner.Pass.{costs_of, touch_of, unplaced, Limited}
+use Rattle.buckets.specs.inner.Pass.{touch_of, unplaced, Limited}
 use Rattle.buckets.specs.inner.Search.{time_since, touch_bucket, Searchable}
 use Rattle.buckets.specs.declared.pass.Touch.{Touch}
 use Rattle.buckets.proofs.Filling.{gathered, bucket_over}

@@ -10,7 +10,7 @@ use lib.Dec.{eqb, ltb}
 use lib.ListN.{take}
 use borrow.Author.Tests.{lt-ltb, le-ltb, ltb-true, ltb-false, eqb-true}
 use Rattle.model.specs.Figures.{is_reuse}
-use Rattle.model.specs.Traces.{Trace, segs, entry, touched, over_segments, later, unreferenced}
+use Rattle.model.specs.Traces.{Trace, segs, entry, over_segments, later, unreferenced}
 use Rattle.model.proofs.Sums.{sum-le, sum_lt, sum-eq, sum-add, sum-at, sum-zero}
 use Rattle.model.proofs.Touches.{unreferenced-none, unreferenced-touched, unreferenced-later}
 use Rattle.replacement.specs.Memory.{has}

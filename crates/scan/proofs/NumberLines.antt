@@ -3,7 +3,7 @@ use Prim.Native.Nat.{ℕ, ◌≤◌}
 use mathlib.Core.Path.{◌≡◌, refl}
 use mathlib.Core.List.{List}
 use native.Mathlib.Omega.{arith}
-use Rattle.decimal.specs.Decimal.{value, reading_of}
+use Rattle.decimal.specs.Decimal.{reading_of}
 use Rattle.decimal.specs.declared.Reading.{Reading}
 use Rattle.decimal.specs.declared.Reading.TheVariants.{NotNumber, OutOfRange as Beyond, Number}
 use Rattle.decimal.proofs.Readings.{reading-number}

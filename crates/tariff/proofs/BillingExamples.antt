@@ -1,7 +1,7 @@
 -- Which number the bill of a row gets: 7, then 18.
 use Prim.Native.Nat.{ℕ}
 use mathlib.Core.Path.{◌≡◌, refl}
-use mathlib.Core.List.{List, [], ◌∷◌}
+use mathlib.Core.List.{[], ◌∷◌}
 use Rattle.model.specs.Refusals.{verdict_number}
 use Rattle.model.specs.Sheets.{SheetValue}
 use Rattle.model.specs.declared.Kind.TheVariants.{Time}

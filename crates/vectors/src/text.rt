@@ -1,4 +1,20 @@
-// The number of a line, and its text as bytes.
+// The number of a line, its text as bytes, and where a byte stands in it.
+ghost use Rattle.std.specs.Prelude.{◌≤◌, length};
+
+// The first place from `at` on, and before `end`, that has the byte; `end` where none has.
+pub fn find(s: &[u8], at: usize, end: usize, byte: u8) -> usize
+    requires { (at ≤ end) × (end ≤ length s.now) }
+    ensures { (at ≤ result) × (result ≤ end) }
+{
+    let mut i = at;
+    while i < end {
+        if s[i] == byte {
+            return i;
+        }
+        i += 1;
+    }
+    i
+}
 
 // The number after the last blank. One of more than 64 bits comes out wrong.
 pub fn number(head: &[u8]) -> u64 {
@@ -6,7 +22,7 @@ pub fn number(head: &[u8]) -> u64 {
     let mut i: usize = 0;
     while i < head.len() {
         let b = head[i];
-        n = std::num::wrapping_add_u64(n % 1844674407370955162 * 10, (b % 16) as u64);
+        n = (n % 1844674407370955162 * 10).wrapping_add((b % 16) as u64);
         if b == 32 {
             n = 0;
         }

@@ -1,35 +1,34 @@
 // Texts that a call writes, printed whole before the refusal and the length.
-// The contracts of the C library's functions are assumed.
 use crate::show::placed;
-use libc::STDOUT_FILENO;
 use model::PlaceAnswer;
+use std::io::{self, Print, Stdout};
 
 // The front of a place, as long as an answer says, and the answer.
-fn text(answer: PlaceAnswer, place: &[u8]) {
+fn text(out: &Stdout, answer: PlaceAnswer, place: &[u8]) -> io::Result<()> {
     let n = answer.length;
     if n <= place.len() {
-        io::write_all(STDOUT_FILENO, &place[..n]);
+        out.write_all(&place[..n])?;
     }
-    placed(answer);
+    placed(out, answer)
 }
 
 // The listing of a sheet.
-pub fn listing(sheet: &[u8]) {
-    let mut place = io::large_buffer();
+pub fn listing(out: &Stdout, sheet: &[u8]) -> io::Result<()> {
+    let mut place = [0u8; 65536];
     let answer = analyser::texts::listing(sheet, &mut place);
-    text(answer, &place);
+    text(out, answer, &place)
 }
 
 // Two sheets as one.
-pub fn join(first: &[u8], second: &[u8]) {
-    let mut place = io::large_buffer();
+pub fn join(out: &Stdout, first: &[u8], second: &[u8]) -> io::Result<()> {
+    let mut place = [0u8; 65536];
     let answer = analyser::sheets::join(first, second, &mut place);
-    text(answer, &place);
+    text(out, answer, &place)
 }
 
 // A din trace as a sheet with the rows of another.
-pub fn import(trace: &[u8], k: u64, sheet: &[u8]) {
-    let mut place = io::large_buffer();
+pub fn import(out: &Stdout, trace: &[u8], k: u64, sheet: &[u8]) -> io::Result<()> {
+    let mut place = [0u8; 65536];
     let answer = analyser::sheets::import_din(trace, k, sheet, &mut place);
-    text(answer, &place);
+    text(out, answer, &place)
 }

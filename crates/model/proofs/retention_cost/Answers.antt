@@ -3,8 +3,6 @@ use Rattle.model.specs.declared.Kind.TheVariants.{Time, Space}
 use native.Mathlib.Omega.{arith}
 use Prim.Native.Nat.{◌^◌}
 use Rattle.model.proofs.Bounds.{product-within}
-use Rattle.model.proofs.retention_cost.Reads as reads
-use Rattle.model.proofs.retention_cost.Lts as lts
 use Rattle.model.proofs.retention_cost.Goals as goal
 
 -- src/lib.rt:81:35

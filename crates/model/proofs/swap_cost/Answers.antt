@@ -1,8 +1,6 @@
 use native.Mathlib.Omega.{arith}
 use Prim.Native.Nat.{◌*◌, ◌^◌, ◌≤◌}
 use Rattle.model.proofs.Bounds.{product-within}
-use Rattle.model.proofs.swap_cost.Reads as reads
-use Rattle.model.proofs.swap_cost.Lts as lts
 use Rattle.model.proofs.swap_cost.Goals.{Start}
 use Rattle.model.proofs.swap_cost.Goals as goal
 

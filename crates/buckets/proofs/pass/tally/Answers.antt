@@ -40,11 +40,14 @@ passed c =
 
 pub references-passed-requires : goal.references-passed-requires
 references-passed-requires c =
-    let run = c.requires.2 in record { hs_len = search rules; passable = record {
+    let run = c.requires.2 in record {
+      hs_len = search rules;
+      passable = record {
         roomy = rw c.empty_buckets-empty.ensures (roomy-more _ 0 (2 ^ 60) (omega arith) roomy-start);
         few_segs = run.segs_within;
         few_steps = omega (arith, run.steps_within);
-      } }
+      };
+    }
 
 pub ends-ended-requires : goal.ends-ended-requires
 ends-ended-requires c =

@@ -18,13 +18,12 @@ overflow_mul-t c =
     omega (arith, c.loop-t.invariant.within, c.requires.2)
 
 pub put_step-requires : goal.put_step-requires
-put_step-requires c =
-    (
-      c.mask_table-masks.ensures,
-      rw c.segment_of-i.ensures (segment-within _ _ c.requires.0),
-      c.loop-t.invariant.next_whole,
-      omega (arith, c.loop-t.invariant.within, c.loop-t.invariant.out_whole, c.requires.2, c.loop-t-test.true),
-    )
+put_step-requires c = (
+  c.mask_table-masks.ensures,
+  rw c.segment_of-i.ensures (segment-within _ _ c.requires.0),
+  c.loop-t.invariant.next_whole,
+  omega (arith, c.loop-t.invariant.within, c.loop-t.invariant.out_whole, c.requires.2, c.loop-t-test.true),
+)
 
 pub loop-t-preserved : goal.loop-t-preserved
 loop-t-preserved c =
