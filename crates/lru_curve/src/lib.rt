@@ -14,8 +14,8 @@ ghost use Rattle.model.specs.Values.{value_of};
 ghost use Rattle.replacement.specs.Answers.{no_curve, plain_for};
 ghost use Rattle.lru_curve.specs.inner.Left.{CurveLeft};
 
-use replacement::CurveAnswer;
 use model::{PlaceAnswer, Refusal, Sheet, Verdict};
+use replacement::CurveAnswer;
 
 // The misses of an accepted sheet with 1, 2, .., segs frames into a lent place, by stack distances: 26, 27, 11.
 pub fn sheet_curve(s: Sheet, out: &mut [u64]) -> CurveAnswer

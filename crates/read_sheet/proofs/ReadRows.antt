@@ -17,7 +17,7 @@ use Rattle.decimal.specs.declared.Reading.{Reading}
 use Rattle.decimal.specs.declared.Reading.TheVariants.{NotNumber, OutOfRange as Beyond, Number}
 use Rattle.decimal.proofs.Readings.{reading-number}
 use Rattle.text.specs.Keys.{slash}
-use Rattle.sheet.specs.Lines.{read, refused, split_at}
+use Rattle.sheet.specs.Lines.{refused, split_at}
 use Rattle.sheet.specs.Values.{row_after, row_of, row_parts}
 use Rattle.scan.specs.inner.AtPlace.{split_at_place}
 use Rattle.read_sheet.specs.inner.RowsAtPlace.{number_in, row_of_readings}

@@ -10,7 +10,6 @@ use lib.ListN.{length, get_or, set, take, length-set, length-replicate, get_or-r
 use lib.Seq.{get_or-take, get_or-set_same, get_or-set_other}
 use borrow.Author.Tests.{eqb-true, eqb-false}
 use Rattle.model.specs.Decisions.{decided_schedule, decisions_of}
-use Rattle.model.specs.Figures.{kept}
 use Rattle.model.specs.Traces.{Trace, segs, steps, entry, touched}
 use Rattle.model.specs.declared.PriceRow.{PriceRow}
 use Rattle.model.proofs.Touches.{touched-at, touched-is, idle-touched, entry-ref}

@@ -9,7 +9,6 @@ use lib.ListN.{length, get_or}
 use borrow.Author.Tests.{eq-eqb, ne_eqb, eqb-true}
 use Rattle.model.specs.Places.{gives, PlaceLeft, nothing_placed}
 use Rattle.model.specs.Sheets.{SheetValue, trace_of, RunWithin}
-use Rattle.model.specs.Traces.{steps}
 use Rattle.model.specs.declared.Kind.{Kind}
 use Rattle.model.specs.declared.Kind.TheVariants.{Time, Space}
 use Rattle.model.specs.declared.PlaceAnswer.{PlaceAnswer}

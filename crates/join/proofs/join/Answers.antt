@@ -88,13 +88,12 @@ pub slice_bounds-joint_sheet-end-2 : goal.slice_bounds-joint_sheet-end-2
 slice_bounds-joint_sheet-end-2 c = (steps-taken (goal.at.slice_bounds-joint_sheet-end-2 c).Start).1
 
 pub joint_sheet-requires : goal.joint_sheet-requires
-joint_sheet-requires c =
-    (
-      heads-fit c.args.first c.args.second c.requires.0 c.requires.1 (joins (goal.at.joint_sheet-requires c).Else-p-q-gt-MAX_SEGS),
-      omega (arith, steps-taken (goal.at.joint_sheet-requires c).Start, c.requires.0.steps_within),
-      omega (arith, steps-taken (goal.at.joint_sheet-requires c).Start, c.requires.1.steps_within),
-      entries-within c.args.first c.args.second c.requires.0 c.requires.1,
-    )
+joint_sheet-requires c = (
+  heads-fit c.args.first c.args.second c.requires.0 c.requires.1 (joins (goal.at.joint_sheet-requires c).Else-p-q-gt-MAX_SEGS),
+  omega (arith, steps-taken (goal.at.joint_sheet-requires c).Start, c.requires.0.steps_within),
+  omega (arith, steps-taken (goal.at.joint_sheet-requires c).Start, c.requires.1.steps_within),
+  entries-within c.args.first c.args.second c.requires.0 c.requires.1,
+)
 
 pub returns : goal.returns
 unfolding answer_of

@@ -20,12 +20,15 @@ loop-t-init c =
 
 pub step-next-requires : goal.step-next-requires
 step-next-requires c =
-    record { step = record {
+    record {
+      step = record {
         limits = c.requires.0;
         start_bits = c.requires.1;
         whole = c.if-schedule-refs.false;
         place = c.loop-t-test.true;
-      }; through = c.loop-t.invariant.1 }
+      };
+      through = c.loop-t.invariant.1;
+    }
 
 pub returns-in-Faulty : goal.returns-in-Faulty
 returns-in-Faulty c =

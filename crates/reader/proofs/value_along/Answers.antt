@@ -1,8 +1,8 @@
 -- `reader::value_along` meets its contract: the reader goes past a line a turn.
-use Rattle.std.proofs.Common.{ℕ, List, Bor, ap, sym, ◌∙◌, add-one, arith}
+use Rattle.std.proofs.Common.{ℕ, List, Bor, ap, ◌∙◌, add-one, arith}
 use native.Mathlib.Nat.{le_antisymm}
 use Rattle.reader.specs.Along.{left_after}
-use Rattle.reader.specs.Parts.{line_value, after_line}
+use Rattle.reader.specs.Parts.{after_line}
 use Rattle.reader.proofs.Places.{left_after_lem, left-more}
 use Rattle.reader.proofs.value_along.Goals as goal
 

@@ -38,10 +38,16 @@ overflow_add-result c = omega (arith, next-within c)
 
 pub returns-in-Malformed : goal.returns-in-Malformed
 returns-in-Malformed c =
-    record { result_value = ap (first_at _) (sym c.in-Malformed.is) ∙ c.address.ensures.result_value
-          ∙ line-address _ c.if-s-lt2.false (within 48 50 _ c.if-s-lt48.false c.if-s-gt50.false) c.if-s-ne32.false; next_within = tt }
+    record {
+      result_value = ap (first_at _) (sym c.in-Malformed.is) ∙ c.address.ensures.result_value
+          ∙ line-address _ c.if-s-lt2.false (within 48 50 _ c.if-s-lt48.false c.if-s-gt50.false) c.if-s-ne32.false;
+      next_within = tt;
+    }
 
 pub returns-in-Address : goal.returns-in-Address
 returns-in-Address c =
-    record { result_value = line-next _ c.if-s-lt2.false (within 48 50 _ c.if-s-lt48.false c.if-s-gt50.false) c.if-s-ne32.false _ c.in-Address.next
-          (ap (first_at _) (sym c.in-Address.is) ∙ c.address.ensures.result_value); next_within = (omega arith, omega (arith, next-within c)) }
+    record {
+      result_value = line-next _ c.if-s-lt2.false (within 48 50 _ c.if-s-lt48.false c.if-s-gt50.false) c.if-s-ne32.false _ c.in-Address.next
+          (ap (first_at _) (sym c.in-Address.is) ∙ c.address.ensures.result_value);
+      next_within = (omega arith, omega (arith, next-within c));
+    }

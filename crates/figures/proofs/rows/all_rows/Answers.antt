@@ -79,13 +79,12 @@ with_start-all-requires c =
     rw (all-from c) (all-fits ((take c.args.rows c.args.prices)) ((run_of c.args.kind c.args.a c.args.sizes.now c.args.warm.now c.args.refs.now)) c.args.tally c.requires.1)
 
 pub loop-r-init : goal.loop-r-init
-loop-r-init c =
-    (
-      omega arith,
-      c.none-kept.ensures ∙ sym (summed-none c.args.tally.buckets),
-      c.none-ends.ensures ∙ sym (summed-none c.args.tally.ends),
-      c.no_figures-out.ensures ∙ figures-none ((take c.args.rows c.args.prices)) ((run_of c.args.kind c.args.a c.args.sizes.now c.args.warm.now c.args.refs.now)),
-    )
+loop-r-init c = (
+  omega arith,
+  c.none-kept.ensures ∙ sym (summed-none c.args.tally.buckets),
+  c.none-ends.ensures ∙ sym (summed-none c.args.tally.ends),
+  c.no_figures-out.ensures ∙ figures-none ((take c.args.rows c.args.prices)) ((run_of c.args.kind c.args.a c.args.sizes.now c.args.warm.now c.args.refs.now)),
+)
 
 pub offset_bounds-buckets-r : goal.offset_bounds-buckets-r
 offset_bounds-buckets-r c = omega (arith, few c)

@@ -42,15 +42,14 @@ plus-swapz-requires c =
     omega (arith, in_table (goal.at.plus-swapz-requires c).In-loop-i, c.loop-i.invariant.2, c.times.ensures, adds-within (goal.at.plus-swapz-requires c).After-start_swap-w)
 
 pub loop-i-preserved : goal.loop-i-preserved
-loop-i-preserved c =
-    (
-      omega (arith, c.loop-i-test.true),
-      omega (arith, c.loop-i.invariant.1, c.start_swap-w.ensures.within, c.plus-swap.ensures),
-      omega (arith, c.loop-i.invariant.2, adds-within (goal.at.loop-i-preserved c).After-start_swap-w, c.times.ensures, c.plus-swapz.ensures),
-      swaps-more c.args.a c.args.sizes.now c.args.warm.now c.loop-i.i (in_table (goal.at.loop-i-preserved c).In-loop-i) c.loop-i.invariant.3
-          (rw (← c.start_table-table.ensures) c.start_swap-w.ensures.exact) c.plus-swap.ensures
-          (omega (arith, c.times.ensures, c.plus-swapz.ensures)),
-    )
+loop-i-preserved c = (
+  omega (arith, c.loop-i-test.true),
+  omega (arith, c.loop-i.invariant.1, c.start_swap-w.ensures.within, c.plus-swap.ensures),
+  omega (arith, c.loop-i.invariant.2, adds-within (goal.at.loop-i-preserved c).After-start_swap-w, c.times.ensures, c.plus-swapz.ensures),
+  swaps-more c.args.a c.args.sizes.now c.args.warm.now c.loop-i.i (in_table (goal.at.loop-i-preserved c).In-loop-i) c.loop-i.invariant.3
+      (rw (← c.start_table-table.ensures) c.start_swap-w.ensures.exact) c.plus-swap.ensures
+      (omega (arith, c.times.ensures, c.plus-swapz.ensures)),
+)
 
 pub returns : goal.returns
 returns c = c.loop-i.invariant.3 ∙ rw (le_antisymm c.loop-i.invariant.0 c.loop-i-test.false)

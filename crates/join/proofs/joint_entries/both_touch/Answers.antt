@@ -1,7 +1,6 @@
 -- `both_touch` meets its contract: in none of the steps passed so far both touch.
 use Prim.Native.Nat.{◌<◌}
 use mathlib.Core.Path.{◌≡◌, sym}
-use mathlib.Core.Bool.{false}
 use native.Mathlib.Omega.{arith}
 use lib.ListN.{length}
 use Rattle.model.specs.Sheets.{idle}

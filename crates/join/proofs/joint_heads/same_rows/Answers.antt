@@ -33,17 +33,16 @@ returns-then-not-same_row c =
     (not-true _ c.if-not-same_row.true-raw))
 
 pub loop-r-preserved : goal.loop-r-preserved
-loop-r-preserved c =
-    (
-      c.loop-r.invariant.0,
-      omega (arith, c.loop-r-test.true),
-      c.loop-r.invariant.2
-          ∙ rows_next c.args.ps c.args.qs c.args.m c.args.n c.loop-r.r (record { h = 0; d = 0 })
-          (omega (arith, c.well_formed, c.requires))
-          (omega (arith, c.well_formed, c.requires)) c.loop-r-test.true (omega (arith, c.loop-r-test.true, c.loop-r.invariant.0)) _
-          c.same_row.ensures
-          (not-false _ c.if-not-same_row.false-raw),
-    )
+loop-r-preserved c = (
+  c.loop-r.invariant.0,
+  omega (arith, c.loop-r-test.true),
+  c.loop-r.invariant.2
+      ∙ rows_next c.args.ps c.args.qs c.args.m c.args.n c.loop-r.r (record { h = 0; d = 0 })
+      (omega (arith, c.well_formed, c.requires))
+      (omega (arith, c.well_formed, c.requires)) c.loop-r-test.true (omega (arith, c.loop-r-test.true, c.loop-r.invariant.0)) _
+      c.same_row.ensures
+      (not-false _ c.if-not-same_row.false-raw),
+)
 
 pub returns : goal.returns
 returns c =

@@ -1,5 +1,5 @@
 -- `lru_curve::plain_frames::simulate` meets its contract: after each step the frames in use have the memory's segments.
-use Prim.Native.Nat.{ℕ, ◌≤◌}
+use Prim.Native.Nat.{◌≤◌}
 use mathlib.Core.Path.{refl, sym, ◌∙◌}
 use native.Mathlib.Omega.{arith}
 use borrow.Author.Rules.{rules}

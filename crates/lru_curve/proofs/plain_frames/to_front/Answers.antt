@@ -11,8 +11,7 @@ loop-i-init c =
 
 pub loop-i-preserved : goal.loop-i-preserved
 loop-i-preserved c =
-    let l = c.loop-i in
-    (
+    let l = c.loop-i in (
       length-set l.frames l.i _ ∙ l.invariant.0,
       shifted_next _ c.args.p (omega (arith, c.requires)) _ l.i l.invariant.1 c.loop-i-test.true,
     )

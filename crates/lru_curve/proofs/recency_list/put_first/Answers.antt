@@ -10,8 +10,7 @@ loop-i-init c = (refl, omega arith, walked_start _ c.args.x)
 
 pub loop-i-preserved : goal.loop-i-preserved
 loop-i-preserved c =
-    let l = c.loop-i in
-    (
+    let l = c.loop-i in (
       length-set l.list l.i l.carry ∙ l.invariant.0,
       omega (arith, c.loop-i-test.true),
       walked_next _ c.args.x _ _ l.i l.invariant.2 (omega (arith, c.loop-i-test.true, c.requires)),

@@ -1,7 +1,6 @@
 -- `pricing::step_price::moved` meets its contract.
 use Prim.Native.Nat.{◌≤◌}
 use mathlib.Core.Path.{refl}
-use Rattle.model.specs.Costs.{unit_cost}
 use Rattle.model.proofs.Bounds.{product-within, unit-within}
 use Rattle.pricing.proofs.StepCosts.{moved-kept, moved-loaded}
 use native.Mathlib.Omega.{arith}

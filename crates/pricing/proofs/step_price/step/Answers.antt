@@ -47,12 +47,15 @@ loads_none-before-requires c =
 pub moved-requires : goal.moved-requires
 moved-requires c =
     let A = c.args in
-    let at = c.requires.step in record { held_bound = through-within _ at.limits _ _ _ (omega (arith, at.place, at.limits.steps_within)) c.requires.through; left_bound = rw c.size_at.ensures
+    let at = c.requires.step in record {
+      held_bound = through-within _ at.limits _ _ _ (omega (arith, at.place, at.limits.steps_within)) c.requires.through;
+      left_bound = rw c.size_at.ensures
           (left-within _ at.limits _ _ at.place _ c.segment_of-x.ensures _ _ c.requires.through c.pass_step-found.ensures
           (lacks-told ((run_of c.args.kind c.args.a c.args.sizes.now c.args.warm.now c.args.refs.now)) A.start A.schedule.now A.t at A.t c.segment_of-x.result _
           c.lacks.ensures ∙ c.if-lacks.false) c.if-found.false _
           (loads-told ((run_of c.args.kind c.args.a c.args.sizes.now c.args.warm.now c.args.refs.now)) A.start A.schedule.now A.t at A.t c.segment_of-x.result _
-          c.loads_none-before.ensures)) }
+          c.loads_none-before.ensures));
+    }
 
 pub returns : goal.returns
 returns c =

@@ -15,13 +15,12 @@ returns-then-not-has_room c =
     (r.each c.loop-k.k (omega (arith, c.loop-k-test.true))))
 
 pub loop-k-preserved : goal.loop-k-preserved
-loop-k-preserved c =
-    (
-      omega (arith, c.loop-k-test.true),
-      λ j l.
-          ⊎_elim (λ e. rw e (passed c.has_room.ensures c.if-not-has_room.false-raw)) (λ below. c.loop-k.invariant.1 j below)
-          (last-or-below c.loop-k.k j (omega arith)),
-    )
+loop-k-preserved c = (
+  omega (arith, c.loop-k-test.true),
+  λ j l.
+      ⊎_elim (λ e. rw e (passed c.has_room.ensures c.if-not-has_room.false-raw)) (λ below. c.loop-k.invariant.1 j below)
+      (last-or-below c.loop-k.k j (omega arith)),
+)
 
 pub returns : goal.returns
 returns c =

@@ -24,14 +24,14 @@ within-requires c =
 
 pub returns : goal.returns
 returns c = record {
-      sound = λ t.
-          record {
-            cost_fits = omega (arith, c.if-cost-gt-RETENTION.false);
-            volume_fits = omega (arith, c.if-volume-gt-RETENTION.false);
-            all_holds = passed c.holds.ensures c.if-not-holds.false-raw;
-            kept_holds = passed c.holds-2.ensures c.if-not-holds-2.false-raw;
-            ends_holds = passed c.holds-3.ensures c.if-not-holds-3.false-raw;
-            parts = c.within.ensures.sound t;
-          };
-      whole = λ s. c.within.ensures.whole s.parts;
-    }
+  sound = λ t.
+      record {
+        cost_fits = omega (arith, c.if-cost-gt-RETENTION.false);
+        volume_fits = omega (arith, c.if-volume-gt-RETENTION.false);
+        all_holds = passed c.holds.ensures c.if-not-holds.false-raw;
+        kept_holds = passed c.holds-2.ensures c.if-not-holds-2.false-raw;
+        ends_holds = passed c.holds-3.ensures c.if-not-holds-3.false-raw;
+        parts = c.within.ensures.sound t;
+      };
+  whole = λ s. c.within.ensures.whole s.parts;
+}

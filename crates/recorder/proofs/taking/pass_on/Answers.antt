@@ -28,11 +28,14 @@ memory_prices-ds-requires c = (omega (arith, c.least-rows.ensures))
 
 pub references-requires : goal.references-requires
 references-requires c =
-    record { hs_len = (loads_many _ _ c.load_prices-hs.ensures, memories_many _ _ c.memory_prices-ds.ensures); passable = record {
+    record {
+      hs_len = (loads_many _ _ c.load_prices-hs.ensures, memories_many _ _ c.memory_prices-ds.ensures);
+      passable = record {
         roomy = c.requires.roomy;
         few_segs = simp length-take (omega (arith, c.least-segs.ensures));
         few_steps = c.requires.few_steps;
-      } }
+      };
+    }
 
 pub returns : goal.returns
 returns c =

@@ -35,6 +35,9 @@ overflow_add-result c = omega (arith, few (goal.at.overflow_add-result c).After-
 
 pub returns : goal.returns
 returns c =
-    record { none = λ none. absurd (omega (arith, ap length none, c.if-refs-eq0.false)); all = λ v valid e.
+    record {
+      none = λ none. absurd (omega (arith, ap length none, c.if-refs-eq0.false));
+      all = λ v valid e.
           taken-stands c.args.recorder _ c.pass_on-passed.result _ _ c.pass_on-passed.ensures c.sum_first-all.ensures
-          c.by_kind.ensures v valid.rows (all-run _ _ c.requires v valid e) e }
+          c.by_kind.ensures v valid.rows (all-run _ _ c.requires v valid e) e;
+    }

@@ -21,8 +21,7 @@ row_modtotal-requires c =
 
 pub loop-r-preserved : goal.loop-r-preserved
 loop-r-preserved c =
-    let l = c.loop-r in
-    (
+    let l = c.loop-r in (
       omega arith,
       modtotals-next ((run_of c.args.kind c.args.a c.args.sizes.now c.args.warm.now c.args.refs.now)) (marks_of c.args.marks.now) c.args.prices l.r c.row_modtotal.result l.totals
           (omega (arith, c.requires.run_within)) l.invariant.1 c.row_modtotal.ensures,

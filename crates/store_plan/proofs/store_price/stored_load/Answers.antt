@@ -56,5 +56,8 @@ loop-t-preserved c =
 pub returns : goal.returns
 returns c =
     let a = c.args in
-    let l = c.loop-t in record { result_value = storing_end a.a a.sizes.now a.refs.now (marks_of a.marks.now) a.schedule.now c.requires.sizes_len_bound.0 c.requires.sizes_len_bound.1
-          l.flags l.load.0 l.t l.invariant c.loop-t-test.false; result_bound = omega (arith, l.invariant.load_within, l.invariant.within, c.requires.sizes_len_bound.1) }
+    let l = c.loop-t in record {
+      result_value = storing_end a.a a.sizes.now a.refs.now (marks_of a.marks.now) a.schedule.now c.requires.sizes_len_bound.0 c.requires.sizes_len_bound.1
+          l.flags l.load.0 l.t l.invariant c.loop-t-test.false;
+      result_bound = omega (arith, l.invariant.load_within, l.invariant.within, c.requires.sizes_len_bound.1);
+    }

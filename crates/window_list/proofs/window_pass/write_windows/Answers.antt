@@ -38,21 +38,19 @@ pub overflow_cast-refs : goal.overflow_cast-refs
 overflow_cast-refs c = omega (arith, c.requires.run_within)
 
 pub count_ends-requires : goal.count_ends-requires
-count_ends-requires c =
-    (
-      c.requires.run_within.steps_within,
-      ends-room ((window_run c.args.sizes.now c.args.refs.now)) c.requires.run_within.segs_within c.requires.run_within.steps_within _ _ c.count_reuses-passed.ensures.counts_after
-          c.count_reuses-passed.ensures.last_value,
-    )
+count_ends-requires c = (
+  c.requires.run_within.steps_within,
+  ends-room ((window_run c.args.sizes.now c.args.refs.now)) c.requires.run_within.segs_within c.requires.run_within.steps_within _ _ c.count_reuses-passed.ensures.counts_after
+      c.count_reuses-passed.ensures.last_value,
+)
 
 pub loop-t-init : goal.loop-t-init
-loop-t-init c =
-    (
-      filling_start ((window_run c.args.sizes.now c.args.refs.now)) c.args.out.now _ listed-none c.requires.run_within.steps_within c.count_reuses-passed.ensures.touches_value,
-      ends-done ((window_run c.args.sizes.now c.args.refs.now)) c.requires.run_within.segs_within c.requires.run_within.steps_within _ _ c.count_reuses-passed.ensures.counts_after
-          c.count_reuses-passed.ensures.last_value _
-          c.count_ends.ensures,
-    )
+loop-t-init c = (
+  filling_start ((window_run c.args.sizes.now c.args.refs.now)) c.args.out.now _ listed-none c.requires.run_within.steps_within c.count_reuses-passed.ensures.touches_value,
+  ends-done ((window_run c.args.sizes.now c.args.refs.now)) c.requires.run_within.segs_within c.requires.run_within.steps_within _ _ c.count_reuses-passed.ensures.counts_after
+      c.count_reuses-passed.ensures.last_value _
+      c.count_ends.ensures,
+)
 
 pub bounds-out-t : goal.bounds-out-t
 bounds-out-t c = omega (arith, c.loop-t.invariant.0.whole, c.requires.refs_in_bounds)
