@@ -4,8 +4,8 @@
 ghost use Rattle.model.specs.Places.{PlaceLeft};
 ghost use Rattle.analyser.specs.Curves.{LruLeft, lru_plain_result, points_result, windows_result};
 
-use replacement::CurveAnswer;
 use model::{PlaceAnswer, Sheet, Verdict};
+use replacement::CurveAnswer;
 
 // The misses with 1, 2, .., segs frames into a lent place, then its old contents, and the entries of the recency list that were looked at:
 // refused with the sheet's refusals, 26, 27, 11.

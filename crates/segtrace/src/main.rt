@@ -6,7 +6,7 @@
 ghost use Rattle.std.specs.Prelude.{◌+◌, ◌≤◌, length, IfOk};
 
 use model::Sheet;
-use std::io::{self, Print, Read, Stdin};
+use std::io::{self, Print, Read, Stdin, Stdout};
 
 // One read into a buffer from `at` on: how many bytes.
 fn read_some(input: &mut Stdin, buf: &mut [u8], at: usize) -> io::Result<usize>
@@ -32,7 +32,7 @@ fn read_input(input: &mut Stdin, buf: &mut [u8]) -> io::Result<usize>
 }
 
 // Prints what is due for the bytes.
-fn print(output: &impl Print, bytes: &[u8], out: &mut [u8]) -> io::Result<()> {
+fn print(output: &Stdout, bytes: &[u8], out: &mut [u8]) -> io::Result<()> {
     let answer = analyser::texts::printed(bytes, out);
     let length = answer.length;
     output.write_all(&out[..length])

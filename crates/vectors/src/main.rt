@@ -54,7 +54,15 @@ fn lines(out: &Stdout, input: &[u8], sheet: &mut [u8], place: &mut [u8]) -> io::
         let colon = find(input, at, end, 58);
         let next = end + 1;
         let n = number(&input[at..colon]);
-        line(out, input[at], n, &input[colon..next], sheet, place, &mut held)?;
+        line(
+            out,
+            input[at],
+            n,
+            &input[colon..next],
+            sheet,
+            place,
+            &mut held,
+        )?;
         at = next;
     }
     Ok(())

@@ -1,9 +1,9 @@
 -- `row_records` meets its contract: each turn puts one record more at the list's front.
-use Rattle.std.proofs.Common.{◌≡◌, ◌<◌, length, ap, sym, ◌∙◌, add-one, arith}
+use Rattle.std.proofs.Common.{◌<◌, length, ap, ◌∙◌, add-one, arith}
 use native.Mathlib.Nat.{le_antisymm}
 use Rattle.model.specs.Sheets.{most_rows}
 use Rattle.row_records.specs.declared.Records.{Records}
-use Rattle.row_records.proofs.Fronts.{front, front-none, front-more, length_front}
+use Rattle.row_records.proofs.Fronts.{front-none, front-more, length_front}
 use Rattle.row_records.proofs.Found.{Counted, record_of, found-counted, found-answer, found_after}
 use Rattle.row_records.proofs.row_records.Goals.{In-loop-i}
 use Rattle.row_records.proofs.row_records.Goals as goal

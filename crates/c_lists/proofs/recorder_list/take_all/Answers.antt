@@ -3,7 +3,7 @@
 use Prim.Native.Nat.{min}
 use mathlib.Core.Path.{refl, ap, ◌∙◌}
 use native.Mathlib.Omega.{arith}
-use lib.ListN.{get_or, take}
+use lib.ListN.{get_or}
 use lib.Seq.{take_all}
 use Rattle.model.specs.Sheets.{most_segs}
 use Rattle.recorder.proofs.Bulk.{takable-is, none-appended}

@@ -10,7 +10,10 @@ bucket_of-k-requires c =
 
 pub returns : goal.returns
 returns c =
-    record { within = placed-limited _ _ c.touch_of-x.ensures.within c.bucket_of-k.ensures.within; exact = λ rows of.
+    record {
+      within = placed-limited _ _ c.touch_of-x.ensures.within c.bucket_of-k.ensures.within;
+      exact = λ rows of.
           touch-told c.args.list.now c.args.segment _ _ _ _ c.args.steps _ _
           c.kind_of-kind.ensures c.cut-a.ensures c.short-z.ensures c.short-mark.ensures
-          c.touch_of-x.ensures.exact rows (c.bucket_of-k.ensures.exact rows of) }
+          c.touch_of-x.ensures.exact rows (c.bucket_of-k.ensures.exact rows of);
+    }

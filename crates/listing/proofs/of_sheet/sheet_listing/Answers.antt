@@ -28,12 +28,11 @@ all_modtotals-totals-requires c =
     (c.requires, form, c.all_figures-all.ensures)
 
 pub write-requires : goal.write-requires
-write-requires c =
-    (
-      c.requires.rows_within,
-      rw (c.all_figures-all.ensures, c.sheet_refs-refs.ensures, listing-of c.args.s c.requires c.if-has_modtotal.totals (totals (goal.at.write-requires c).Joined-has_modtotal))
-          (listing-fits c.args.s c.requires),
-    )
+write-requires c = (
+  c.requires.rows_within,
+  rw (c.all_figures-all.ensures, c.sheet_refs-refs.ensures, listing-of c.args.s c.requires c.if-has_modtotal.totals (totals (goal.at.write-requires c).Joined-has_modtotal))
+      (listing-fits c.args.s c.requires),
+)
 
 pub returns : goal.returns
 returns c =

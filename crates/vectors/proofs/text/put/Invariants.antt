@@ -1,5 +1,5 @@
 -- The loop of `vectors::text::put`: the bytes that are put are counted within 64 bits, and each is of the text.
-use Rattle.std.proofs.Common.{◌≡◌, ◌+◌, ◌-◌, ◌*◌, ◌<◌, ◌≤◌, length}
+use Rattle.std.proofs.Common.{◌+◌, ◌-◌, ◌*◌, ◌<◌, ◌≤◌, length}
 use Rattle.vectors.proofs.text.put.Given as goal
 
 abbrev pub invariant-loop-k : goal.invariant-loop-k
