@@ -4,14 +4,14 @@
 
 ghost use Rattle.std.specs.Prelude.{◌+◌, ◌≤◌, length, IfOk};
 
+mod line_text;
 mod lists;
 mod parts;
 mod show;
-mod text;
 mod texts;
 
+use line_text::{find, number, put};
 use std::io::{self, Print, Read, Stdin, Stdout};
-use text::{find, number, put};
 
 // One read into a buffer from `at` on: how many bytes.
 fn read_some(input: &mut Stdin, buf: &mut [u8], at: usize) -> io::Result<usize>

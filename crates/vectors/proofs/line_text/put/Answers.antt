@@ -1,6 +1,6 @@
--- `vectors::text::put` is safe and ends.
+-- `vectors::line_text::put` is safe and ends.
 use Rattle.std.proofs.Common.{ℕ, ◌+◌, ◌-◌, ◌*◌, ◌%◌, ◌<◌, ◌≤◌, length, mod-lt, mul-le-mul, arith}
-use Rattle.vectors.proofs.text.put.Goals as goal
+use Rattle.vectors.proofs.line_text.put.Goals as goal
 
 -- so many times so many bytes fit 64 bits
 counted : (a b : ℕ) → a % 65536 * (b % 65536) ≤ 65535 * 65535

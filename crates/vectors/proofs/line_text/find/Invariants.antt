@@ -1,6 +1,6 @@
--- The loop of `vectors::text::find`: the place lies between the two that bound it.
+-- The loop of `vectors::line_text::find`: the place lies between the two that bound it.
 use Rattle.std.proofs.Common.{◌-◌, ◌≤◌}
-use Rattle.vectors.proofs.text.find.Given as goal
+use Rattle.vectors.proofs.line_text.find.Given as goal
 
 abbrev pub invariant-loop-i : goal.invariant-loop-i
 invariant-loop-i l = (l.at ≤ l.i) × (l.i ≤ l.end)
