@@ -4,8 +4,8 @@
 #![tactic(auto)]
 
 pub mod curves;
+pub mod figuring;
 pub mod recording;
-pub mod row_figures;
 pub mod schedules;
 pub mod sheets;
 pub mod texts;

@@ -91,7 +91,7 @@ pub fn size(sheet: &[u8], ceiling: u64, row: &mut u64) -> u64
         × (row.new ≡ or_old (size_answer sheet.now ceiling).verdict
         (size_answer sheet.now ceiling).row row.old) }
 {
-    let answer = analyser::row_figures::size(sheet, ceiling);
+    let answer = analyser::figuring::size(sheet, ceiling);
     let verdict = answer.verdict;
     match verdict {
         Verdict::Accepted => {

@@ -85,7 +85,7 @@ pub extern "C" fn segtrace_figures(
         × (figures.new ≡ or_old (figures_answer sheet.now row).verdict
         (figure_list (figures_answer sheet.now row).figures) figures.old) }
 {
-    let answer = analyser::row_figures::figures(sheet, row as usize);
+    let answer = analyser::figuring::figures(sheet, row as usize);
     let verdict = answer.verdict;
     match verdict {
         Verdict::Accepted => {
@@ -162,7 +162,7 @@ pub extern "C" fn segtrace_margin(sheet: &[u8], row: u64, reference: u64, margin
         × (margin.new ≡ or_old (margin_answer sheet.now row reference).verdict
         (margin_answer sheet.now row reference).margin margin.old) }
 {
-    let answer = analyser::row_figures::margin(sheet, row as usize, reference as usize);
+    let answer = analyser::figuring::margin(sheet, row as usize, reference as usize);
     let verdict = answer.verdict;
     let value = answer.margin;
     match verdict {
@@ -198,7 +198,7 @@ pub extern "C" fn segtrace_bill(
         × (cents.new ≡ or_old (bill_answer sheet.now row memory_rate load_rate minimum).verdict
         (bill_answer sheet.now row memory_rate load_rate minimum).cents.0 cents.old) }
 {
-    let answer = analyser::row_figures::bill(sheet, row as usize, memory_rate, load_rate, minimum);
+    let answer = analyser::figuring::bill(sheet, row as usize, memory_rate, load_rate, minimum);
     let verdict = answer.verdict;
     match verdict {
         Verdict::Accepted => {

@@ -16,7 +16,7 @@ pub fn read(out: &Stdout, sheet: &[u8]) -> io::Result<()> {
 
 // Misses and volume of a row, then optocc and wsocc, the columns of Table II, or optmem and wsmem, those of Table III.
 pub fn figures(out: &Stdout, sheet: &[u8], row: usize, time: bool) -> io::Result<()> {
-    let answer = analyser::row_figures::figures(sheet, row);
+    let answer = analyser::figuring::figures(sheet, row);
     let f = answer.figures;
     value(out, f.misses)?;
     value(out, f.volume)?;

@@ -3,7 +3,7 @@ use mathlib.Core.Path.{sym, ◌∙◌}
 use Rattle.tariff.specs.Billing.{no_bill, bill_for, tariff_of}
 use Rattle.analyser.specs.Figures.{bill_answer}
 use Rattle.sheet.proofs.Accepting.{on-refused, on-accepted, stands}
-use Rattle.analyser.proofs.row_figures.bill.Goals as goal
+use Rattle.analyser.proofs.figuring.bill.Goals as goal
 
 pub sheet_bill-requires : goal.sheet_bill-requires
 sheet_bill-requires c =

@@ -3,7 +3,7 @@ use mathlib.Core.Path.{sym, ◌∙◌}
 use Rattle.model.specs.Margins.{no_margin, margin_for}
 use Rattle.analyser.specs.Figures.{margin_answer}
 use Rattle.sheet.proofs.Accepting.{on-refused, on-accepted, stands}
-use Rattle.analyser.proofs.row_figures.margin.Goals as goal
+use Rattle.analyser.proofs.figuring.margin.Goals as goal
 
 pub sheet_margin-requires : goal.sheet_margin-requires
 sheet_margin-requires c =

@@ -3,7 +3,7 @@ use mathlib.Core.Path.{sym, ◌∙◌}
 use Rattle.model.specs.RowAnswers.{no_figures, figures_of}
 use Rattle.analyser.specs.Figures.{figures_answer}
 use Rattle.sheet.proofs.Accepting.{on-refused, on-accepted, stands}
-use Rattle.analyser.proofs.row_figures.figures.Goals as goal
+use Rattle.analyser.proofs.figuring.figures.Goals as goal
 
 pub sheet_figures-requires : goal.sheet_figures-requires
 sheet_figures-requires c =

@@ -4,7 +4,7 @@ use Rattle.model.specs.Sizing.{sized_row}
 use Rattle.model.specs.Sizing.{no_size, sizing}
 use Rattle.analyser.specs.Figures.{size_answer}
 use Rattle.sheet.proofs.Accepting.{on-refused, on-accepted, stands}
-use Rattle.analyser.proofs.row_figures.size.Goals as goal
+use Rattle.analyser.proofs.figuring.size.Goals as goal
 
 pub sheet_size-requires : goal.sheet_size-requires
 sheet_size-requires c =
