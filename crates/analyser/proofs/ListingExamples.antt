@@ -15,7 +15,8 @@ use Rattle.model.specs.Sheets.{listed}
 use Rattle.model.specs.Sums.{sum, tabulate}
 use Rattle.model.specs.Traces.{touching, refs_by, later, unreferenced}
 use Rattle.sheet.specs.Lines.{same_bytes, split_at, after_key, value_line, number_line, number_lines}
-use Rattle.sheet.specs.Order.{sizes_part, prices_part, warm_part, tables_part, head_part, refs_part, plain_part, steps_part, run_part, body_part}
+use Rattle.sheet.specs.Order.{sizes_part, prices_part, warm_part, tables_part, head_part, refs_part, plain_part, steps_part, run_part}
+use Rattle.sheet.specs.Order.{body_part}
 use Rattle.sheet.specs.Order.{sheet_part}
 use Rattle.sheet.specs.Reading.{named_form, read_forms}
 use Rattle.sheet.specs.Touches.{touch_line, touch_lines, placed_from}
@@ -42,11 +43,11 @@ listing1 =
     ++ bytes "h=1\nd=1\nmisses=2\nvolume=4\nload=6\noptmem=18\nopttotal=24\noptocc=18\nwsmem=21\nwsocc=21\nmean=3500\n"
 
 form-1 : printed_text sheet1 ≡ listing1
-unfolding bytes sheet1 listing1 printed_text same_bytes all_digits value_from is_number split_at after_key value_line number_line number_lines
-    sizes_part prices_part warm_part tables_part head_part refs_part plain_part steps_part run_part body_part sheet_part named_form read_forms
-    touch_line touch_lines placed_from kind_line row_line row_lines hold_line hold_lines written_in written misses volume load optmem opttotal
-    optocc wsmem wsocc wsspace mean kept ref_cost ref_volume smaller row_figures listed sum tabulate touching refs_by later unreferenced
-    row_listing mod_listing rows_listing steps_listing listing listing_of
+unfolding bytes sheet1 listing1 printed_text same_bytes all_digits value_from is_number split_at after_key value_line number_line
+    number_lines sizes_part prices_part warm_part tables_part head_part refs_part plain_part steps_part run_part body_part sheet_part
+    named_form read_forms touch_line touch_lines placed_from kind_line row_line row_lines hold_line hold_lines written_in written misses
+    volume load optmem opttotal optocc wsmem wsocc wsspace mean kept ref_cost ref_volume smaller row_figures listed sum tabulate touching
+    refs_by later unreferenced row_listing mod_listing rows_listing steps_listing listing listing_of
 form-1 = refl
 
 -- no references (P10)
@@ -59,11 +60,11 @@ listing_none =
     ++ bytes "h=5\nd=2\nmisses=0\nvolume=0\nload=0\noptmem=0\nopttotal=0\noptocc=0\nwsmem=0\nwsocc=0\nmean=0\n"
 
 no-references : printed_text none1 ≡ listing_none
-unfolding bytes none1 listing_none printed_text same_bytes all_digits value_from is_number split_at after_key value_line number_line number_lines
-    sizes_part prices_part warm_part tables_part head_part refs_part plain_part steps_part run_part body_part sheet_part named_form read_forms
-    touch_line touch_lines placed_from kind_line row_line row_lines hold_line hold_lines written_in written misses volume load optmem opttotal
-    optocc wsmem wsocc wsspace mean kept ref_cost ref_volume smaller row_figures listed sum tabulate touching refs_by later unreferenced
-    row_listing mod_listing rows_listing steps_listing listing listing_of
+unfolding bytes none1 listing_none printed_text same_bytes all_digits value_from is_number split_at after_key value_line number_line
+    number_lines sizes_part prices_part warm_part tables_part head_part refs_part plain_part steps_part run_part body_part sheet_part
+    named_form read_forms touch_line touch_lines placed_from kind_line row_line row_lines hold_line hold_lines written_in written misses
+    volume load optmem opttotal optocc wsmem wsocc wsspace mean kept ref_cost ref_volume smaller row_figures listed sum tabulate touching
+    refs_by later unreferenced row_listing mod_listing rows_listing steps_listing listing listing_of
 no-references = refl
 
 -- form 2: steps= after refs=. The touch in step 2 is a miss, w is 1, the end interval has R = 0, and the mean is 1,000 × 2 / (2 × 2)
@@ -76,11 +77,11 @@ listing2 =
     ++ bytes "h=1\nd=2\nmisses=1\nvolume=1\nload=1\noptmem=1\nopttotal=3\noptocc=1\nwsmem=2\nwsocc=2\nmean=500\n"
 
 form-2 : printed_text sheet2 ≡ listing2
-unfolding bytes sheet2 listing2 printed_text same_bytes all_digits value_from is_number split_at after_key value_line number_line number_lines
-    sizes_part prices_part warm_part tables_part head_part refs_part plain_part steps_part run_part body_part sheet_part named_form read_forms
-    touch_line touch_lines placed_from kind_line row_line row_lines hold_line hold_lines written_in written misses volume load optmem opttotal
-    optocc wsmem wsocc wsspace mean kept ref_cost ref_volume smaller row_figures listed sum tabulate touching refs_by later unreferenced
-    row_listing mod_listing rows_listing steps_listing listing listing_of
+unfolding bytes sheet2 listing2 printed_text same_bytes all_digits value_from is_number split_at after_key value_line number_line
+    number_lines sizes_part prices_part warm_part tables_part head_part refs_part plain_part steps_part run_part body_part sheet_part
+    named_form read_forms touch_line touch_lines placed_from kind_line row_line row_lines hold_line hold_lines written_in written misses
+    volume load optmem opttotal optocc wsmem wsocc wsspace mean kept ref_cost ref_volume smaller row_figures listed sum tabulate touching
+    refs_by later unreferenced row_listing mod_listing rows_listing steps_listing listing listing_of
 form-2 = refl
 
 -- form 3: document 01's run with segment 1 warm. Its touch in step 2 is a reuse with R = 3 and w = 4: not kept by the row 1/2, to whose
@@ -97,11 +98,11 @@ listing3 =
     ++ bytes "h=1\nd=1\nmisses=1\nvolume=1\nload=2\noptmem=21\nopttotal=23\noptocc=21\nwsmem=24\nwsocc=24\nmean=4000\n"
 
 form_3 : printed_text sheet3 ≡ listing3
-unfolding bytes sheet3 listing3 printed_text same_bytes all_digits value_from is_number split_at after_key value_line number_line number_lines
-    sizes_part prices_part warm_part tables_part head_part refs_part plain_part steps_part run_part body_part sheet_part named_form read_forms
-    touch_line touch_lines placed_from kind_line row_line row_lines hold_line hold_lines written_in written misses volume load optmem opttotal
-    optocc wsmem wsocc wsspace mean kept ref_cost ref_volume smaller row_figures listed sum tabulate touching refs_by later unreferenced
-    row_listing mod_listing rows_listing steps_listing listing listing_of
+unfolding bytes sheet3 listing3 printed_text same_bytes all_digits value_from is_number split_at after_key value_line number_line
+    number_lines sizes_part prices_part warm_part tables_part head_part refs_part plain_part steps_part run_part body_part sheet_part
+    named_form read_forms touch_line touch_lines placed_from kind_line row_line row_lines hold_line hold_lines written_in written misses
+    volume load optmem opttotal optocc wsmem wsocc wsspace mean kept ref_cost ref_volume smaller row_figures listed sum tabulate touching
+    refs_by later unreferenced row_listing mod_listing rows_listing steps_listing listing listing_of
 form_3 = refl
 
 -- form 4, kind time, w = 1 throughout, segment 2 warm and never touched, step 5 idle. Segment 0 is modified in steps 1 and 4: at the row
@@ -118,11 +119,12 @@ listing4 =
     ++ bytes "h=1\nd=1\nmisses=3\nvolume=4\nload=3\noptmem=4\nopttotal=7\noptocc=6\nwsmem=8\nwsocc=13\nmean=2600\nmodtotal=9\n"
 
 form-4 : printed_text sheet4 ≡ listing4
-unfolding bytes sheet4 listing4 printed_text same_bytes all_digits value_from is_number split_at after_key value_line number_line number_lines
-    sizes_part prices_part warm_part tables_part head_part refs_part plain_part steps_part run_part body_part sheet_part named_form read_forms
-    touch_line touch_lines placed_from kind_line row_line row_lines hold_line hold_lines written_in written misses volume load optmem opttotal
-    optocc wsmem wsocc wsspace mean kept ref_cost ref_volume smaller row_figures listed sum tabulate touching refs_by later unreferenced
-    since_mark store_cost mod_added modtotal row_listing mod_listing rows_listing steps_listing listing listing_of
+unfolding bytes sheet4 listing4 printed_text same_bytes all_digits value_from is_number split_at after_key value_line number_line
+    number_lines sizes_part prices_part warm_part tables_part head_part refs_part plain_part steps_part run_part body_part sheet_part
+    named_form read_forms touch_line touch_lines placed_from kind_line row_line row_lines hold_line hold_lines written_in written misses
+    volume load optmem opttotal optocc wsmem wsocc wsspace mean kept ref_cost ref_volume smaller row_figures listed sum tabulate touching
+    refs_by later unreferenced since_mark store_cost mod_added modtotal row_listing mod_listing rows_listing steps_listing listing
+    listing_of
 form-4 = refl
 
 -- form 4 without a letter w: modtotal is opttotal
@@ -135,11 +137,12 @@ listing-unmarked =
     ++ bytes "h=3\nd=1\nmisses=1\nvolume=2\nload=1\noptmem=3\nopttotal=6\noptocc=6\nwsmem=3\nwsocc=6\nmean=2000\nmodtotal=6\n"
 
 form-4-unmarked : printed_text unmarked4 ≡ listing-unmarked
-unfolding bytes unmarked4 listing-unmarked printed_text same_bytes all_digits value_from is_number split_at after_key value_line number_line
-    number_lines sizes_part prices_part warm_part tables_part head_part refs_part plain_part steps_part run_part body_part sheet_part named_form
-    read_forms touch_line touch_lines placed_from kind_line row_line row_lines hold_line hold_lines written_in written misses volume load optmem
-    opttotal optocc wsmem wsocc wsspace mean kept ref_cost ref_volume smaller row_figures listed sum tabulate touching refs_by later
-    unreferenced since_mark store_cost mod_added modtotal row_listing mod_listing rows_listing steps_listing listing listing_of
+unfolding bytes unmarked4 listing-unmarked printed_text same_bytes all_digits value_from is_number split_at after_key value_line
+    number_line number_lines sizes_part prices_part warm_part tables_part head_part refs_part plain_part steps_part run_part body_part
+    sheet_part named_form read_forms touch_line touch_lines placed_from kind_line row_line row_lines hold_line hold_lines written_in
+    written misses volume load optmem opttotal optocc wsmem wsocc wsspace mean kept ref_cost ref_volume smaller row_figures listed sum
+    tabulate touching refs_by later unreferenced since_mark store_cost mod_added modtotal row_listing mod_listing rows_listing
+    steps_listing listing listing_of
 form-4-unmarked = refl
 
 -- ---- refusals: one line, refused= and the number
@@ -162,9 +165,9 @@ refusals : map printed_text
     ≡ map bytes
     ("refused=1\n" ∷ "refused=2\n" ∷ "refused=3\n" ∷ "refused=4\n" ∷ "refused=5\n" ∷ "refused=6\n" ∷ "refused=4\n" ∷ "refused=16\n"
     ∷ "refused=19\n" ∷ [])
-unfolding bytes up_to_row printed_text refused_text same_bytes all_digits value_from is_number split_at after_key value_line number_line number_lines
-    sizes_part prices_part warm_part tables_part head_part refs_part plain_part steps_part run_part body_part sheet_part named_form read_forms
-    touch_line touch_lines placed_from kind_line row_line row_lines hold_line hold_lines written_in written
+unfolding bytes up_to_row printed_text refused_text same_bytes all_digits value_from is_number split_at after_key value_line number_line
+    number_lines sizes_part prices_part warm_part tables_part head_part refs_part plain_part steps_part run_part body_part sheet_part
+    named_form read_forms touch_line touch_lines placed_from kind_line row_line row_lines hold_line hold_lines written_in written
 refusals = refl
 
 -- ---- the page of document 01's sheet: its first five lines; it has 60
@@ -183,16 +186,18 @@ first_lines =
 
 page-shows : take 365 (given (page_result sheet1)) ≡ first_lines
 unfolding bytes sheet1 given first_lines page_result same_bytes all_digits value_from is_number split_at after_key value_line number_line
-    number_lines sizes_part prices_part warm_part tables_part head_part refs_part plain_part steps_part run_part body_part sheet_part named_form
-    read_forms touch_line touch_lines placed_from kind_line row_line row_lines hold_line hold_lines written_in written misses volume load optmem
-    opttotal optocc wsmem wsocc wsspace mean kept ref_cost ref_volume smaller row_figures listed sum tabulate touching refs_by later
-    unreferenced columns page_line title_line names_line pageRow blank_line page_lines second_page all_lines concatenated pages pages_of
+    number_lines sizes_part prices_part warm_part tables_part head_part refs_part plain_part steps_part run_part body_part sheet_part
+    named_form read_forms touch_line touch_lines placed_from kind_line row_line row_lines hold_line hold_lines written_in written misses
+    volume load optmem opttotal optocc wsmem wsocc wsspace mean kept ref_cost ref_volume smaller row_figures listed sum tabulate touching
+    refs_by later unreferenced columns page_line title_line names_line pageRow blank_line page_lines second_page all_lines concatenated
+    pages pages_of
 page-shows = refl
 
 page-length : length (given (page_result sheet1)) ≡ 4380
-unfolding bytes sheet1 given page_result same_bytes all_digits value_from is_number split_at after_key value_line number_line number_lines sizes_part
-    prices_part warm_part tables_part head_part refs_part plain_part steps_part run_part body_part sheet_part named_form read_forms touch_line
-    touch_lines placed_from kind_line row_line row_lines hold_line hold_lines written_in written misses volume load optmem opttotal optocc wsmem
-    wsocc wsspace mean kept ref_cost ref_volume smaller row_figures listed sum tabulate touching refs_by later unreferenced columns page_line
-    title_line names_line pageRow blank_line page_lines second_page all_lines concatenated pages pages_of
+unfolding bytes sheet1 given page_result same_bytes all_digits value_from is_number split_at after_key value_line number_line number_lines
+    sizes_part prices_part warm_part tables_part head_part refs_part plain_part steps_part run_part body_part sheet_part named_form
+    read_forms touch_line touch_lines placed_from kind_line row_line row_lines hold_line hold_lines written_in written misses volume load
+    optmem opttotal optocc wsmem wsocc wsspace mean kept ref_cost ref_volume smaller row_figures listed sum tabulate touching refs_by
+    later unreferenced columns page_line title_line names_line pageRow blank_line page_lines second_page all_lines concatenated pages
+    pages_of
 page-length = refl

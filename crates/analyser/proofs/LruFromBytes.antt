@@ -11,7 +11,7 @@ use Rattle.model.specs.declared.Refusal.{Refusal}
 use Rattle.model.specs.declared.Verdict.{Verdict}
 use Rattle.model.specs.declared.Verdict.TheVariants.{Accepted, Refused}
 use Rattle.model.proofs.LastTouches.{listed-none}
-use Rattle.model.proofs.Tables.{length-tabulate, get_d_tabulate}
+use Rattle.model.proofs.Tables.{length-tabulate, get_or-tabulate}
 use Rattle.sheet.specs.Accepting.{on_sheet}
 use Rattle.sheet.specs.Reading.{Outcome, accepted, rejected, read_sheet}
 use Rattle.replacement.specs.Demand.{LruDemand}
@@ -44,7 +44,7 @@ module _ (s : List ℕ) (v : SheetValue) (reads : read_sheet s ≡ accepted v) (
   at-frames k one within =
       let next : suc (k - 1) ≡ k = omega arith in
       ap (λ (l : List ℕ). get_or l (k - 1) 0) asked.1
-      ∙ get_d_tabulate (segs (trace_of v)) (λ j. lru_misses (trace_of v) (suc j)) (k - 1) 0 (omega arith)
+      ∙ get_or-tabulate (segs (trace_of v)) (λ j. lru_misses (trace_of v) (suc j)) (k - 1) 0 (omega arith)
       ∙ ap (λ (m : ℕ). lru_misses (trace_of v) m) next
 
   misses-given : Misses v list

@@ -10,7 +10,7 @@ use Rattle.model.specs.Rows.{row_figures}
 use Rattle.model.specs.Sheets.{SheetValue, trace_of, row_at}
 use Rattle.model.specs.Traces.{steps}
 use Rattle.model.specs.declared.Verdict.TheVariants.{Accepted}
-use Rattle.model.proofs.Tables.{length-tabulate, get_d_tabulate}
+use Rattle.model.proofs.Tables.{length-tabulate, get_or-tabulate}
 use Rattle.sheet.specs.Reading.{accepted, read_sheet}
 use Rattle.windows.specs.Windows.{window_at, longer_than}
 use Rattle.windows.proofs.Windows.{window-wsocc}
@@ -29,7 +29,7 @@ module _ (s : List ℕ) (v : SheetValue) (reads : read_sheet s ≡ accepted v) (
   -- place n has wsocc at the threshold n over 1, which is what the recursion gives
   at_place : (n : ℕ) → n < steps (trace_of v) → get_or list n 0 ≡ wsocc (trace_of v) n 1
   unfolding wsoccs
-  at_place n lt = ap (λ (l : List ℕ). get_or l n 0) asked.1 ∙ get_d_tabulate (steps (trace_of v)) (λ m. wsocc (trace_of v) m 1) n 0 lt
+  at_place n lt = ap (λ (l : List ℕ). get_or l n 0) asked.1 ∙ get_or-tabulate (steps (trace_of v)) (λ m. wsocc (trace_of v) m 1) n 0 lt
 
   by-recursion : (n : ℕ) → n < steps (trace_of v) → get_or list n 0 ≡ window_at (trace_of v) n
   by-recursion n lt = at_place n lt ∙ sym (window-wsocc (trace_of v) (windowed v asked.0) n)

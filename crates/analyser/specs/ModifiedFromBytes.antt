@@ -1,4 +1,5 @@
--- Demand 3 of document 01 for a sheet of form 4 (request F-13), from bytes: what holds of row r of the sheet v of form 4 that a run of bytes
+-- Demand 3 of document 01 for a sheet of form 4 (request F-13), from bytes:
+-- what holds of row r of the sheet v of form 4 that a run of bytes
 -- s reads as, and of the calls on s. The optimum is there modtotal.
 use Rattle.std.specs.Prelude.{ℕ, ◌<◌, ◌*◌, ◌≤◌, suc, ◌≡◌, true, false, List, ◌++◌, length, take, drop}
 use Rattle.model.specs.Demand.{row_opttotal, row_schedule}

@@ -31,7 +31,8 @@ module _ (rows : List PriceRow) (T : Trace) where
 
   ends-over : (m : ℕ) → buckets_over (λ i. (end_touch i).reuse) end_touch m ≡ ends_up_to m
   ends-over m =
-      sym (tabulate-eq bucket_count (end_bucket rows T m) (bucket_over (λ i. (end_touch i).reuse) end_touch m) (λ k l. end_bucket-over rows T m k))
+      sym (tabulate-eq bucket_count (end_bucket rows T m) (bucket_over (λ i. (end_touch i).reuse) end_touch m)
+      (λ k l. end_bucket-over rows T m k))
 
   pub ending-start : all_empty ≡ ends_up_to 0
   ending-start = buckets-start (λ i. (end_touch i).reuse) end_touch ∙ ends-over 0

@@ -16,7 +16,7 @@ use Rattle.buckets.specs.Buckets.{bucket_count, all_empty, no_bucket}
 use Rattle.buckets.specs.inner.Pass.{Limited, with_touch, with_end, Within, Roomy}
 use Rattle.buckets.specs.declared.Bucket.{Bucket}
 use Rattle.buckets.specs.declared.pass.Touch.{Touch}
-use Rattle.model.proofs.Tables.{get_d_tabulate, tabulate-eq, tabulate-const, tabulate-set}
+use Rattle.model.proofs.Tables.{get_or-tabulate, tabulate-eq, tabulate-const, tabulate-set}
 
 -- the sum of g over those of the first n touches x that count and go to bucket k
 unfoldable pub gathered : (ℕ → Bool) → (ℕ → Touch) → ℕ → ℕ → (Touch → ℕ) → ℕ
@@ -92,7 +92,7 @@ module _ (counts : ℕ → Bool) (x : ℕ → Touch) where
       → (b : Bucket) → b ≡ cond (counts n) (with_touch (get_or buckets y.bucket no_bucket) y) (get_or buckets y.bucket no_bucket)
       → set buckets y.bucket b ≡ buckets_over (suc n)
   buckets-step n buckets are y same lt b is =
-      rw (is, are, same, get_d_tabulate bucket_count (bucket_over counts x n) (x n).bucket no_bucket (rw same at lt), ← bucket-after n)
+      rw (is, are, same, get_or-tabulate bucket_count (bucket_over counts x n) (x n).bucket no_bucket (rw same at lt), ← bucket-after n)
       (tabulate-set bucket_count (bucket_over counts x n) (bucket_over counts x (suc n)) (x n).bucket (rw same at lt)
       (λ k l ne. bucket-others n k ne))
 

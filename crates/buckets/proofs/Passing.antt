@@ -16,7 +16,7 @@ use Rattle.model.specs.declared.PriceRow.{PriceRow}
 use Rattle.model.specs.LastTouches.{start_table, last_from, last_table}
 use Rattle.model.proofs.LastTouches.{length-last_table, last_table-at, start_table-is, last_table-step, last_table-idle, last-time}
 use Rattle.model.proofs.Growth.{with_refs, Agree, unreferenced-past}
-use Rattle.model.proofs.Lists.{get_d_any}
+use Rattle.model.proofs.Lists.{get_or-any}
 use Rattle.model.proofs.Tables.{tabulate-eq}
 use Rattle.model.specs.Sums.{tabulate}
 use Rattle.buckets.specs.Buckets.{bucket_count, bucket_after, all_empty, no_bucket}
@@ -91,7 +91,7 @@ module _ (rows : List PriceRow) (T : Trace) where
 pub entry-on : (kind : Kind) (a : ℕ) (sizes warm before refs : List ℕ) (n t : ℕ) → length before ≡ n → t < length refs
     → entry (run_of kind a sizes warm (before ++ refs)) (n + t) ≡ get_or refs t 0
 entry-on kind a sizes warm before refs n t at lt =
-    rw (← at) (get_or-append-add before refs t (length sizes) ∙ get_d_any refs t (length sizes) 0 lt)
+    rw (← at) (get_or-append-add before refs t (length sizes) ∙ get_or-any refs t (length sizes) 0 lt)
 
 -- where the entries below n agree, so does what the pass has after n steps
 module _ (rows : List PriceRow) (T : Trace) (l : List ℕ) (n : ℕ) (same : Agree n T l) where

@@ -15,7 +15,7 @@ use borrow.Author.Tests.{le-leb, ltb-true, ltb-false}
 use Rattle.model.specs.Sheets.{RowsWithin, row_in, most_rows}
 use Rattle.model.specs.Sums.{tabulate}
 use Rattle.model.specs.declared.PriceRow.{PriceRow}
-use Rattle.model.proofs.Tables.{length-tabulate, get_d_tabulate, tabulate-const, tabulate-set}
+use Rattle.model.proofs.Tables.{length-tabulate, get_or-tabulate, tabulate-const, tabulate-set}
 use Rattle.buckets.specs.FirstRow.{first_row, last_bucket}
 use Rattle.buckets.specs.inner.Search.{load_prices, memory_prices, RowsOf, kept_at, Lasts, Ordered, Found}
 use Rattle.buckets.specs.declared.search.Reuse.{Reuse}
@@ -100,8 +100,8 @@ module _ (count : ℕ) (hs ds : List ℕ) (rows : List PriceRow) (of : RowsOf co
       rw (
         of.loads,
         of.memories,
-        get_d_tabulate most_rows (λ j. (row_in rows j).h) r 0 lt,
-        get_d_tabulate most_rows (λ j. (row_in rows j).d) r 0 lt,
+        get_or-tabulate most_rows (λ j. (row_in rows j).h) r 0 lt,
+        get_or-tabulate most_rows (λ j. (row_in rows j).d) r 0 lt,
       ) refl
 
   -- one beyond the last keeps all

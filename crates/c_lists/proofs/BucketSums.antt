@@ -171,7 +171,8 @@ take_next l n m e lt = rw e (take-suc l n 0 lt)
 -- six entries more
 take-six : (l : List ℕ) (n : ℕ) → n + 6 ≤ length l
     → take (n + 6) l
-    ≡ take n l ++ (get_or l n 0 ∷ get_or l (n + 1) 0 ∷ get_or l (n + 2) 0 ∷ get_or l (n + 3) 0 ∷ get_or l (n + 4) 0 ∷ get_or l (n + 5) 0 ∷ [])
+    ≡ take n l ++ (get_or l n 0 ∷ get_or l (n + 1) 0 ∷ get_or l (n + 2) 0 ∷ get_or l (n + 3) 0 ∷ get_or l (n + 4) 0 ∷ get_or l (n + 5)
+    0 ∷ [])
 take-six l n le =
     rw (
       take_next l (n + 5) (n + 6) (omega arith) (omega arith),

@@ -41,8 +41,8 @@ lists-written : lists_of (recorder_of (recorded Time))
     ≡ lists (0 ∷ 5 ∷ 3 ∷ 2 ∷ 1 ∷ []) (4 ∷ 3 ∷ 22 ∷ []) ((7 ∷ 8 ∷ 9 ∷ []) ++ replicate 253 0) ((2 ∷ []) ++ replicate 255 0)
     ((1 ∷ 3 ∷ []) ++ replicate 62 0) ((20 ∷ 4 ∷ []) ++ replicate 62 0) ((4 ∷ 3 ∷ 0 ∷ []) ++ replicate 253 65535)
     (replicate 6 0 ++ (1 ∷ 7 ∷ 2 ∷ 36 ∷ 14 ∷ 252 ∷ []) ++ replicate 372 0 ++ (2 ∷ 15 ∷ 0 ∷ 77 ∷ 0 ∷ 580 ∷ []))
-unfolding recorded lists_of sums_of recorder_of head_of padded zeros zero_rows last_table ref_cost ref_volume listed sum tabulate touching later
-    unreferenced first_row bucket_of filed bucket_after
+unfolding recorded lists_of sums_of recorder_of head_of padded zeros zero_rows last_table ref_cost ref_volume listed sum tabulate touching
+    later unreferenced first_row bucket_of filed bucket_after
 lists-written = refl
 
 -- kind space is 1, and Q is then V
@@ -60,6 +60,6 @@ list_written : list_of (recorder_of (recorded Time))
     ++ ((2 ∷ []) ++ replicate 255 0)
     ++ ((4 ∷ 3 ∷ 0 ∷ []) ++ replicate 253 65535)
     ++ (replicate 6 0 ++ (1 ∷ 7 ∷ 2 ∷ 36 ∷ 14 ∷ 252 ∷ []) ++ replicate 372 0 ++ (2 ∷ 15 ∷ 0 ∷ 77 ∷ 0 ∷ 580 ∷ []))
-unfolding recorded list_of sums_of recorder_of head_of padded zeros zero_rows last_table ref_cost ref_volume listed sum tabulate touching later
-    unreferenced first_row bucket_of filed bucket_after
+unfolding recorded list_of sums_of recorder_of head_of padded zeros zero_rows last_table ref_cost ref_volume listed sum tabulate touching
+    later unreferenced first_row bucket_of filed bucket_after
 list_written = refl

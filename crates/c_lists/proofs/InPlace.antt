@@ -7,7 +7,7 @@ use Rattle.model.specs.Costs.{unit_cost}
 use Rattle.model.specs.Sheets.{largest_a, most_rows}
 use Rattle.model.specs.declared.Kind.{Kind}
 use Rattle.model.specs.declared.PriceRow.{PriceRow}
-use Rattle.model.proofs.Tables.{get_d_tabulate}
+use Rattle.model.proofs.Tables.{get_or-tabulate}
 use Rattle.buckets.specs.inner.Pass.{unplaced, with_touch, Limited}
 use Rattle.buckets.specs.inner.Search.{time_since, touch_bucket}
 use Rattle.buckets.specs.declared.Bucket.{Bucket}
@@ -20,7 +20,7 @@ use Rattle.c_lists.specs.inner.InPlace.{RowsIn, touch_in, with_bucket, with_file
 -- a priced amount at row r
 pub price-at : (l : List ℕ) (at r p x m : ℕ) → r < most_rows → p ≡ short_in l (at + r) → m ≡ p * x
     → m ≡ get_or (shorts_in l at most_rows) r 0 * x
-price-at l at r p x m lt is e = e ∙ ap (λ q. q * x) (is ∙ sym (get_d_tabulate most_rows (λ i. short_in l (at + i)) r 0 lt))
+price-at l at r p x m lt is e = e ∙ ap (λ q. q * x) (is ∙ sym (get_or-tabulate most_rows (λ i. short_in l (at + i)) r 0 lt))
 
 -- a touch from its parts
 pub touch-told : (l : List ℕ) (i : ℕ) (kind : Kind) (a z mark n : ℕ) (x : Touch) (k : ℕ) → kind ≡ kind_in (get_or l at_kind 0)

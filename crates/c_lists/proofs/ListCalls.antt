@@ -50,7 +50,8 @@ module _ (l : List ℕ) (x : ℕ) where
   unfolding recorder_at
   out_of_range le = rw (le-ltb x (min (get_or l at_segs 0) most_segs) le) refl
 
-  pub full : x < min (get_or l at_segs 0) most_segs → most_steps ≤ get_or l at_steps 0 → Refused RecorderFull ≡ touch_verdict (recorder_at l) x
+  pub full : x < min (get_or l at_segs 0) most_segs → most_steps ≤ get_or l at_steps 0 → Refused RecorderFull
+      ≡ touch_verdict (recorder_at l) x
   unfolding recorder_at
   full lt le = rw (lt-ltb x (min (get_or l at_segs 0) most_segs) lt, le-ltb (get_or l at_steps 0) most_steps le) refl
 
@@ -58,7 +59,8 @@ module _ (l : List ℕ) (x : ℕ) where
   unfolding recorder_at
   touchable lt few = rw (lt-ltb x (min (get_or l at_segs 0) most_segs) lt, lt-ltb (get_or l at_steps 0) most_steps few) refl
 
-  pub touched : x < min (get_or l at_segs 0) most_segs → get_or l at_steps 0 < most_steps → (l' : List ℕ) → IsTaken l x (get_or l at_steps 0) l'
+  pub touched : x < min (get_or l at_segs 0) most_segs → get_or l at_steps 0 < most_steps → (l' : List ℕ)
+      → IsTaken l x (get_or l at_steps 0) l'
       → Changed (λ R. touch_verdict R x) (λ v. taken v x) l l'
   touched lt few l' is =
       moves (λ R. touch_verdict R x) (λ v. taken v x) l l' (touchable lt few)
@@ -89,7 +91,8 @@ idled l few =
     (λ v valid e. rw (e, steps-at (recorder_of v)) (idled-of v valid (recorder_of v) refl))
 
 -- several references
-pub all-verdict : (l xs : List ℕ) → refs_verdict (min (get_or l at_segs 0) most_segs) (get_or l at_steps 0) xs ≡ touch_all_verdict (recorder_at l) xs
+pub all-verdict : (l xs : List ℕ) → refs_verdict (min (get_or l at_segs 0) most_segs) (get_or l at_steps 0) xs
+    ≡ touch_all_verdict (recorder_at l) xs
 unfolding recorder_at
 all-verdict l xs = refl
 
@@ -128,7 +131,8 @@ module _ (v : SheetValue) (valid : Valid v) (l₀ xs : List ℕ) (e : l₀ ≡ l
   room : length v.entries + length (take t xs) < most_steps
   room = omega (arith, length-take-le t xs (omega arith), can.room t lt, steps-in v l₀ e)
 
-  pub all-next : (l l' : List ℕ) → l ≡ list_of (recorder_of (appended v (take t xs))) → IsTaken l (get_or xs t 0) (get_or l₀ at_steps 0 + t) l'
+  pub all-next : (l l' : List ℕ) → l ≡ list_of (recorder_of (appended v (take t xs)))
+      → IsTaken l (get_or xs t 0) (get_or l₀ at_steps 0 + t) l'
       → l' ≡ list_of (recorder_of (appended v (take (t + 1) xs)))
   all-next l l' at is =
       let x = get_or xs t 0 in

@@ -16,7 +16,7 @@ use Rattle.model.specs.Sheets.{SheetValue, Valid, trace_of, row_in, largest_a, m
 use Rattle.model.specs.Traces.{unreferenced}
 use Rattle.model.specs.Values.{padded, zeros, zero_rows, head_of}
 use Rattle.model.specs.declared.PriceRow.{PriceRow}
-use Rattle.model.proofs.Tables.{length-tabulate, get_d_tabulate, tabulate-eq}
+use Rattle.model.proofs.Tables.{length-tabulate, get_or-tabulate, tabulate-eq}
 use Rattle.buckets.specs.Buckets.{bucket_count, no_bucket}
 use Rattle.buckets.specs.inner.Pass.{touch_of, with_touch, Limited}
 use Rattle.buckets.specs.inner.Search.{load_prices, memory_prices, time_since}
@@ -106,7 +106,7 @@ module _ (v : SheetValue) (valid : Valid v) where
       let n = length v.entries in
       let f : ℕ → ℕ = λ j. last_from n (unreferenced (trace_of v) n j) in
       short-is _ _ (last-at (recorder_of v) sized i lt)
-      (rw (get_d_tabulate most_segs f i 0 lt) (mark-small n valid.run.steps_within (unreferenced (trace_of v) n i)))
+      (rw (get_or-tabulate most_segs f i 0 lt) (mark-small n valid.run.steps_within (unreferenced (trace_of v) n i)))
 
   -- its prices are those of the rows
   h-small : (r : ℕ) → (row_in v.head.rows r).h < 65536

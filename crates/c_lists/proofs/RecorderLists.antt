@@ -135,6 +135,7 @@ idle-lists head counts sizes holds h d last sums long (Refused why) is =
     }
 
 -- and of a recorder that stands for a sheet they are those of the one that stands for the sheet with one idle step more
-pub rested-lists : (v : SheetValue) → with_taken (lists_of (recorder_of v)) (recorder_of (with_idle v)) ≡ lists_of (recorder_of (with_idle v))
+pub rested-lists : (v : SheetValue) → with_taken (lists_of (recorder_of v)) (recorder_of (with_idle v))
+    ≡ lists_of (recorder_of (with_idle v))
 unfolding with_taken lists_of recorder_of
 rested-lists v = refl

@@ -7,7 +7,7 @@ use borrow.Author.Count.{below_more}
 use lib.ListN.{length, get_or, set, length-set}
 use lib.Seq.{get_or-set_same, get_or-set_other}
 use Rattle.model.specs.Sums.{tabulate}
-use Rattle.model.proofs.Tables.{list-tabulate, get_d_tabulate}
+use Rattle.model.proofs.Tables.{list-tabulate, get_or-tabulate}
 use Rattle.din.specs.Lines.{digit_of}
 
 -- the values of the bytes below b
@@ -35,4 +35,4 @@ entered_all values b t le = list-tabulate 256 digit_of values 0 t.whole (λ j lt
 
 -- the value of a byte in it
 pub value_of : (values : List ℕ) → values ≡ tabulate 256 digit_of → (b : ℕ) → b < 256 → get_or values b 0 ≡ digit_of b
-value_of values e b lt = rw e (get_d_tabulate 256 digit_of b 0 lt)
+value_of values e b lt = rw e (get_or-tabulate 256 digit_of b 0 lt)

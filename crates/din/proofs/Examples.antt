@@ -106,6 +106,6 @@ examples =
     ∷ []
 
 pub examples-hold : all_hold examples ≡ true
-unfolding bytes numbered comes_to holds all_hold down_from examples same_bytes imported touched_with touched_by touched_from too_many segments_of
-    firsts firsts_after with_page place_in trace_lines digit_of all_digits value_from address_of
+unfolding bytes numbered comes_to holds all_hold down_from examples same_bytes imported touched_with touched_by touched_from too_many
+    segments_of firsts firsts_after with_page place_in trace_lines digit_of all_digits value_from address_of
 examples-hold = refl

@@ -8,7 +8,7 @@ use borrow.Author.Tests.{lt-ltb, le-ltb, ltb-true, ltb-false, eq-eqb, ne_eqb, eq
 use lib.Dec.{eqb, ltb}
 use lib.ListN.{length, get_or, take, drop, length-append, length-map, get_or-map}
 use lib.Seq.{split_at}
-use Rattle.model.proofs.Lists.{get_d_any}
+use Rattle.model.proofs.Lists.{get_or-any}
 use Rattle.din.specs.Pages.{place_in, with_page, firsts_after, firsts, segments_of}
 
 -- ---- the place of a page in a list
@@ -193,13 +193,14 @@ module _ (ps : List ℕ) where
       map_snoc (place_in (firsts (ps ++ (p ∷ [])))) ps p
       ∙ rw (one-more-firsts p, with-place (firsts ps) p)
       (ap (λ (l : List ℕ). l ++ (place_in (firsts ps) p ∷ []))
-      (map_same (place_in (with_page (firsts ps) p)) (place_in (firsts ps)) ps (λ i lt. with-stays (firsts ps) p (get_or ps i 0) (known i lt))))
+      (map_same (place_in (with_page (firsts ps) p)) (place_in (firsts ps)) ps
+      (λ i lt. with-stays (firsts ps) p (get_or ps i 0) (known i lt))))
 
   -- the segment of a touch
   pub segment-at : (t d : ℕ) → t < length ps → get_or (segments_of ps) t d ≡ place_in (firsts ps) (get_or ps t 0)
   unfolding segments_of
   segment-at t d lt =
-      get_d_any (map (place_in (firsts ps)) ps) t d (place_in (firsts ps) 0) (omega (arith, length-map ps (place_in (firsts ps))))
+      get_or-any (map (place_in (firsts ps)) ps) t d (place_in (firsts ps) 0) (omega (arith, length-map ps (place_in (firsts ps))))
       ∙ get_or-map (place_in (firsts ps)) ps t 0
 
   -- is the place of its page among the pages before it

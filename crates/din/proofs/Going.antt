@@ -81,7 +81,8 @@ module _ (ps : List ℕ) (p : ℕ) where
       rw (lt-ltb most_steps (length (ps ++ (p ∷ []))) (omega (arith, length-append ps (p ∷ []))))
       (or-true (ltb most_segs (length (firsts (ps ++ (p ∷ []))))))
 
-  not-many : length (firsts ps) ≤ most_segs → place_in (firsts ps) p < most_segs → length ps < most_steps → too_many (ps ++ (p ∷ [])) ≡ false
+  not-many : length (firsts ps) ≤ most_segs → place_in (firsts ps) p < most_segs → length ps < most_steps → too_many (ps ++ (p ∷ []))
+      ≡ false
   unfolding too_many
   not-many few lt room =
       rw (

@@ -55,7 +55,8 @@ table-start =
 -- ---- a mark stored
 
 module _ (v : ℕ) where
-  empty-new : (marks : List ℕ) (i : ℕ) → i < length marks → get_or marks i 0 ≡ 0 → empty_places marks ≡ suc (empty_places (set marks i (v + 1)))
+  empty-new : (marks : List ℕ) (i : ℕ) → i < length marks → get_or marks i 0 ≡ 0 → empty_places marks
+      ≡ suc (empty_places (set marks i (v + 1)))
   unfolding empty_places
   empty-new [] i lt e = absurd (omega arith)
   empty-new (m ∷ marks) zero lt e = rw (eq-eqb m 0 e, ne_eqb (v + 1) 0 (λ f. omega arith)) (omega arith)

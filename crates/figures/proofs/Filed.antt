@@ -17,7 +17,7 @@ use Rattle.model.specs.declared.PriceRow.{PriceRow}
 use Rattle.model.proofs.Sums.{sum-none, sum-suc, sum-eq, sum-add, sum-zero, sum-at}
 use Rattle.model.proofs.Loads.{over_touches-eq}
 use Rattle.buckets.specs.Buckets.{bucket_count, bucket_of, filed, ended, tally_of, bucket_after, no_bucket}
-use Rattle.model.proofs.Tables.{get_d_tabulate}
+use Rattle.model.proofs.Tables.{get_or-tabulate}
 use Rattle.figures.proofs.BucketRows.{bucket-kept, bucket-within}
 
 -- what is at most k is below k or is k
@@ -86,7 +86,7 @@ module _ (rows : List PriceRow) (up : RowsWithin rows) (T : Trace) where
       sum-eq bucket_count
       (λ k. (get_or (tabulate bucket_count (bucket_after rows T (steps T))) k no_bucket).count)
       (λ k. filed rows T (steps T) k (λ t i. 1))
-      (λ k lt. rw (get_d_tabulate bucket_count (bucket_after rows T (steps T)) k no_bucket lt))
+      (λ k lt. rw (get_or-tabulate bucket_count (bucket_after rows T (steps T)) k no_bucket lt))
       ∙ filed-all (λ t i. 1)
 
   module _ (r : ℕ) (lt : r < length rows) where

@@ -25,7 +25,7 @@ use Rattle.buckets.specs.inner.Pass.{Within, Roomy, passed_after, passed_of}
 use Rattle.figures.specs.inner.Sweep.{summed, with_start}
 use Rattle.figures.specs.inner.OneRow.{by_kind, largest_swap, retention_bound, most_items, Holds}
 use Rattle.buckets.specs.declared.Bucket.{Bucket}
-use Rattle.model.proofs.Tables.{get_d_tabulate}
+use Rattle.model.proofs.Tables.{get_or-tabulate}
 use Rattle.figures.proofs.Filed.{filed-below, ended-below}
 use Rattle.figures.proofs.Starts.{start_set}
 use Rattle.figures.proofs.Sweeps.{bucket_by, space-of, summed-buckets, summed-ends}
@@ -107,7 +107,7 @@ module _ (T : Trace) (run : RunWithin T) where
   buckets-roomy rows =
       record {
         each = λ k le.
-            rw (get_d_tabulate bucket_count (bucket_after rows T (steps T)) k no_bucket (omega arith))
+            rw (get_or-tabulate bucket_count (bucket_after rows T (steps T)) k no_bucket (omega arith))
             (has_room (bucket_after rows T (steps T) k)
             (bucket-holds most_steps (λ g. filed rows T (steps T) k g)
             (λ g m each.

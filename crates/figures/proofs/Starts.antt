@@ -17,7 +17,7 @@ use Rattle.model.specs.declared.LoadUnits.{LoadUnits}
 use Rattle.model.proofs.FirstTouches.{started}
 use Rattle.model.proofs.LastTouches.{listed-none}
 use Rattle.model.proofs.Sums.{sum-zero}
-use Rattle.model.proofs.Tables.{get_d_tabulate}
+use Rattle.model.proofs.Tables.{get_or-tabulate}
 use Rattle.model.proofs.Units.{load_is}
 use Rattle.figures.specs.inner.Sweep.{warm_sum, swaps_up_to, start_swaps}
 use Rattle.figures.specs.declared.rows.StartSwaps.{StartSwaps}
@@ -55,7 +55,7 @@ module _ (a : ℕ) (sizes warm : List ℕ) where
   -- the mark 0 is that of a warm segment
   marked : (i x : ℕ) → i < most_segs → cond (eqb (get_or (start_table warm) i 0) 0) x 0 ≡ cond (listed warm i) x 0
   unfolding start_table
-  marked i x lt = rw (get_d_tabulate most_segs (λ i. cond (listed warm i) 0 untouched_mark) i 0 lt) (go (listed warm i))
+  marked i x lt = rw (get_or-tabulate most_segs (λ i. cond (listed warm i) 0 untouched_mark) i 0 lt) (go (listed warm i))
     where
       go : (b : Bool) → cond (eqb (cond b 0 untouched_mark) 0) x 0 ≡ cond b x 0
       go true = refl

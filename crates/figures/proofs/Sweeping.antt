@@ -37,7 +37,8 @@ figures_up_to rows T n = tabulate most_rows (λ r. cond (ltb r n) (figures_in ro
 pub figures-none : (rows : List PriceRow) (T : Trace) → no_row_figures ≡ figures_up_to rows T 0
 unfolding no_row_figures
 figures-none rows T =
-    tabulate-eq most_rows (λ r. zero_figures) (λ r. cond (ltb r 0) (figures_in rows T r) zero_figures) (λ r lt. rw (le-ltb r 0 (omega arith)))
+    tabulate-eq most_rows (λ r. zero_figures) (λ r. cond (ltb r 0) (figures_in rows T r) zero_figures)
+    (λ r lt. rw (le-ltb r 0 (omega arith)))
 
 pub figures-suc : (rows : List PriceRow) (T : Trace) (n : ℕ) → n < most_rows → {out : List RowFigures} {x : RowFigures}
     → out ≡ figures_up_to rows T n → x ≡ figures_in rows T n → set out n x ≡ figures_up_to rows T (suc n)

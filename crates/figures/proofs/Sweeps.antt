@@ -19,7 +19,7 @@ use Rattle.buckets.specs.Buckets.{bucket_count, filed, ended, bucket_after, end_
 use Rattle.figures.specs.inner.Sweep.{added, summed}
 use Rattle.figures.specs.inner.OneRow.{by_kind, Holds}
 use Rattle.buckets.specs.declared.Bucket.{Bucket}
-use Rattle.model.proofs.Tables.{get_d_tabulate}
+use Rattle.model.proofs.Tables.{get_or-tabulate}
 use Rattle.figures.proofs.Filed.{filed-all, filed-kept, ended-kept}
 
 pub summed-none : (bs : List Bucket) → summed bs 0 ≡ no_bucket
@@ -88,7 +88,7 @@ module _ (T : Trace) where
           → sum m (λ k. f (get_or (tabulate n (λ k. bucket_by (S k))) k no_bucket)) ≡ sum m (λ k. f (bucket_by (S k)))
       each f =
           sum-eq m (λ k. f (get_or (tabulate n (λ k. bucket_by (S k))) k no_bucket)) (λ k. f (bucket_by (S k)))
-          (λ k lt. rw (get_d_tabulate n (λ k. bucket_by (S k)) k no_bucket (omega arith)))
+          (λ k lt. rw (get_or-tabulate n (λ k. bucket_by (S k)) k no_bucket (omega arith)))
 
 module _ (rows : List PriceRow) (T : Trace) (m : ℕ) (le : m ≤ bucket_count) where
   -- the first m buckets of a tally, added

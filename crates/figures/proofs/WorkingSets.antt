@@ -117,7 +117,8 @@ module _ (T : Trace) (h d : ℕ) (W : ℕ → ℕ) (S R : ℕ → ℕ → ℕ) w
 
   -- S over all touches and end intervals
   pub working-set : Priced
-      → over_touches T S + over_segments T (S (steps T)) + h * (over_touches T (kept_w T h d W) + over_segments T (kept_w T h d W (steps T)))
+      → over_touches T S + over_segments T
+      (S (steps T)) + h * (over_touches T (kept_w T h d W) + over_segments T (kept_w T h d W (steps T)))
       ≡ d * (over_touches T kept_r + over_segments T (kept_r (steps T))) + h * all_w T h d W
   working-set each =
       omega (arith, touches-priced each, ends-priced each, ap (λ w. h * w) (reuses-ends T h d W))
@@ -132,7 +133,8 @@ smaller-priced T h d t i = priced (is_reuse (unreferenced T t i)) h d (retention
 -- and those with each multiplied by z
 pub sized-priced : (T : Trace) (h d t i : ℕ)
     → size_of T i * smaller T h d t i + h * cond (kept T h d t i) (swap_of T i * size_of T i) 0
-    ≡ d * cond (kept T h d t i) (retention_of T t i * size_of T i) 0 + h * cond (is_reuse (unreferenced T t i)) (swap_of T i * size_of T i) 0
+    ≡ d * cond (kept T h d t i) (retention_of T t i * size_of T i) 0 + h * cond (is_reuse (unreferenced T t i))
+    (swap_of T i * size_of T i) 0
 sized-priced T h d t i =
     go (kept T h d t i) (is_reuse (unreferenced T t i)) (smaller T h d t i) (retention_of T t i) (swap_of T i) (size_of T i)
     (smaller-priced T h d t i)

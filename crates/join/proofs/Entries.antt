@@ -14,7 +14,7 @@ use lib.Seq.{length-take-le, get_or-take}
 use Rattle.model.specs.Sheets.{idle}
 use Rattle.model.specs.Sums.{tabulate}
 use Rattle.model.proofs.Sums.{last-or-below}
-use Rattle.model.proofs.Tables.{length-tabulate, get_d_tabulate, list-tabulate}
+use Rattle.model.proofs.Tables.{length-tabulate, get_or-tabulate, list-tabulate}
 use Rattle.joint.specs.Joint.{both_touch, joint_entry}
 use Rattle.join.specs.inner.Entries.{both_at, entries_of}
 
@@ -31,7 +31,8 @@ module _ (xs ys : List ℕ) where
   both-none = refl
 
   -- one step more
-  both-next : (t : ℕ) → both_touch xs ys t ≡ false → both_at (get_or xs t idle) (get_or ys t idle) ≡ false → both_touch xs ys (t + 1) ≡ false
+  both-next : (t : ℕ) → both_touch xs ys t ≡ false → both_at (get_or xs t idle) (get_or ys t idle) ≡ false → both_touch xs ys (t + 1)
+      ≡ false
   unfolding both_touch
   both-next t e f = rw (add-one t, e, f)
 
@@ -41,11 +42,13 @@ module _ (xs ys : List ℕ) where
   both_found t zero lt e = absurd (omega arith)
   both_found t (suc n) lt e = ⊎_elim (λ same. here (rw same at e)) (λ l. rw (both_found t n l e)) (last-or-below n t lt)
     where
-      here : both_at (get_or xs n idle) (get_or ys n idle) ≡ true → both_touch xs ys n || both_at (get_or xs n idle) (get_or ys n idle) ≡ true
+      here : both_at (get_or xs n idle) (get_or ys n idle) ≡ true → both_touch xs ys n || both_at (get_or xs n idle) (get_or ys n idle)
+          ≡ true
       here f = rw f (or-true (both_touch xs ys n))
 
   -- the same, by the entries x and y and what was told of them
-  pub both-step : (t : ℕ) → both_touch xs ys t ≡ false → (x y : ℕ) (b : Bool) → x ≡ get_or xs t idle → y ≡ get_or ys t idle → b ≡ both_at x y
+  pub both-step : (t : ℕ) → both_touch xs ys t ≡ false → (x y : ℕ) (b : Bool) → x ≡ get_or xs t idle → y ≡ get_or ys t idle → b
+      ≡ both_at x y
       → b ≡ false → both_touch xs ys (t + 1) ≡ false
   both-step t none_before x y b first second told off = both-next t none_before (rw (← first, ← second, ← told) off)
 
@@ -91,7 +94,7 @@ module _ (n : ℕ) (xs ys : List ℕ) (steps : ℕ) where
       let f : ℕ → ℕ = λ t. joint_entry n (get_or xs t idle) (get_or ys t idle) in
       list-tabulate k f (take k (tabulate steps f)) 0
       (length-take-le k (tabulate steps f) (omega (arith, length-tabulate steps f)))
-      (λ t l. get_or-take k (tabulate steps f) t 0 l ∙ get_d_tabulate steps f t 0 (omega arith))
+      (λ t l. get_or-take k (tabulate steps f) t 0 l ∙ get_or-tabulate steps f t 0 (omega arith))
 
   -- the entry e that the entries x and y of a step make
   pub entries_at : (t : ℕ) → t < steps → (x y e : ℕ) → x ≡ get_or xs t idle → y ≡ get_or ys t idle → e ≡ joint_entry n x y
@@ -100,4 +103,4 @@ module _ (n : ℕ) (xs ys : List ℕ) (steps : ℕ) where
       is
       ∙ ap (λ k. joint_entry n k y) first
       ∙ ap (λ k. joint_entry n (get_or xs t idle) k) second
-      ∙ sym (get_d_tabulate steps (λ s. joint_entry n (get_or xs s idle) (get_or ys s idle)) t 0 lt)
+      ∙ sym (get_or-tabulate steps (λ s. joint_entry n (get_or xs s idle) (get_or ys s idle)) t 0 lt)

@@ -10,9 +10,9 @@ use lib.ListN.{length, get_or, get_or-eq_default}
 use borrow.Author.Tests.{eqb-true, eqb-false, eq-eqb, ne_eqb, ltb-true, ltb-false}
 use Rattle.model.specs.Sheets.{SheetValue, Valid, idle, most_segs, trace_of}
 use Rattle.model.specs.Traces.{segs, entry, touched}
-use Rattle.model.proofs.Lists.{get_d_any}
+use Rattle.model.proofs.Lists.{get_or-any}
 use Rattle.model.proofs.Sums.{last-or-below}
-use Rattle.model.proofs.Tables.{length-tabulate, get_d_tabulate}
+use Rattle.model.proofs.Tables.{length-tabulate, get_or-tabulate}
 use Rattle.model.proofs.Touches.{touched-entry}
 use Rattle.joint.specs.Joint.{both_touch, joint_steps, joint_entry, joint_refs}
 
@@ -34,7 +34,7 @@ below-or-beyond t n = go (ltb t n) refl
 module _ (v : SheetValue) (ok : Valid v) where
   -- within the steps it is the entry of the run
   entry-run : (t : ℕ) → t < length v.entries → entry_of v t ≡ entry (trace_of v) t
-  entry-run t lt = get_d_any v.entries t idle (segs (trace_of v)) lt
+  entry-run t lt = get_or-any v.entries t idle (segs (trace_of v)) lt
 
   -- it is a segment or idle
   pub entry_within : (t : ℕ) → (entry_of v t < segs (trace_of v)) ⊎ (entry_of v t ≡ idle)
@@ -134,7 +134,7 @@ module _ (v w : SheetValue) where
   unfolding joint_refs
   joint-entry t =
       ⊎_elim
-      (λ lt. get_d_tabulate (joint_steps v w) (λ s. joint_entry (segs (trace_of v)) (entry_of v s) (entry_of w s)) t idle lt)
+      (λ lt. get_or-tabulate (joint_steps v w) (λ s. joint_entry (segs (trace_of v)) (entry_of v s) (entry_of w s)) t idle lt)
       (λ le.
       rw (entry-beyond v t (omega arith), entry-beyond w t (omega arith))
       (get_or-eq_default (joint_refs v w) idle (omega (arith, joint-length))))

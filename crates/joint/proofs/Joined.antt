@@ -16,7 +16,7 @@ use Rattle.model.specs.Traces.{segs, steps, entry, touched}
 use Rattle.model.specs.declared.Kind.{Kind}
 use Rattle.model.specs.declared.Kind.TheVariants.{Time, Space}
 use Rattle.model.specs.declared.PriceRow.{PriceRow}
-use Rattle.model.proofs.Lists.{get_d_any}
+use Rattle.model.proofs.Lists.{get_or-any}
 use Rattle.joint.specs.Figures.{joint_run, JointFigures, SideBySide}
 use Rattle.joint.specs.Joint.{same_kind, same_rows, same_heads, joint_entry, joint_refs, joint_head, joined, Joins}
 use Rattle.joint.proofs.Embedded.{Embedded, same-held, held_none}
@@ -123,7 +123,7 @@ module _ (v w : SheetValue) (first : Valid v) (second : Valid w) (joins : Joins 
       entries : (t : ℕ) → t < steps (joint_run v w) → (entry (joint_run v w) t < segs (joint_run v w)) ⊎ (entry (joint_run v w) t ≡ idle)
       entries t lt =
           let e : entry (joint_run v w) t ≡ joint_entry n (entry_of v t) (entry_of w t) =
-          get_d_any (joint_refs v w) t (segs (joint_run v w)) idle lt ∙ joint-entry v w t
+          get_or-any (joint_refs v w) t (segs (joint_run v w)) idle lt ∙ joint-entry v w t
           in
           rw (e, segs-joint) (joint-within n (entry_of v t) (entry_of w t) m (entry_within v first t) (entry_within w second t))
 

@@ -19,10 +19,10 @@ module _ (n : ℕ) where
   length_moved [] = refl
   length_moved (y ∷ ys) = ap suc (length_moved ys)
 
-  get_d_moved : (ys : List ℕ) (k : ℕ) → k < length ys → get_or (moved n ys) k 0 ≡ n + get_or ys k 0
-  get_d_moved [] k lt = absurd (omega arith)
-  get_d_moved (y ∷ ys) zero lt = refl
-  get_d_moved (y ∷ ys) (suc k) lt = get_d_moved ys k (omega arith)
+  get_or-moved : (ys : List ℕ) (k : ℕ) → k < length ys → get_or (moved n ys) k 0 ≡ n + get_or ys k 0
+  get_or-moved [] k lt = absurd (omega arith)
+  get_or-moved (y ∷ ys) zero lt = refl
+  get_or-moved (y ∷ ys) (suc k) lt = get_or-moved ys k (omega arith)
 
   -- none of them is below n, and the rest are listed as they were
   moved-below : (ys : List ℕ) (i : ℕ) → i < n → listed (moved n ys) i ≡ false
@@ -57,10 +57,11 @@ module _ (xs : List ℕ) (n : ℕ) (ys : List ℕ) where
   pub first-number : (k : ℕ) → k < length xs → get_or (moved_after xs n ys) k 0 ≡ get_or xs k 0
   first-number k lt = get_or-append xs (moved n ys) 0 k lt
 
-  pub second-number : (k : ℕ) → length xs ≤ k → k - length xs < length ys → get_or (moved_after xs n ys) k 0 ≡ n + get_or ys (k - length xs) 0
+  pub second-number : (k : ℕ) → length xs ≤ k → k - length xs < length ys → get_or (moved_after xs n ys) k 0
+      ≡ n + get_or ys (k - length xs) 0
   second-number k le lt =
       let e : length xs + (k - length xs) ≡ k = omega arith in
-      rw e at (get_or-append-add xs (moved n ys) (k - length xs) 0) ∙ get_d_moved n ys (k - length xs) lt
+      rw e at (get_or-append-add xs (moved n ys) (k - length xs) 0) ∙ get_or-moved n ys (k - length xs) lt
 
 module _ (n m : ℕ) (xs ys : List ℕ) (first : WarmWithin n xs) (second : WarmWithin m ys) where
   abbrev both : List ℕ

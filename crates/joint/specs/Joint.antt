@@ -1,5 +1,6 @@
 -- Two aligners in one memory (request F-7): which sheets join, and the value of the joint sheet.
-use Rattle.std.specs.Prelude.{ℕ, zero, suc, ◌+◌, max, ◌≡◌, Bool, true, false, cond, not, ◌&&◌, ◌||◌, List, [], ◌∷◌, ◌++◌, map, eqb, leb, length, get_or}
+use Rattle.std.specs.Prelude.{ℕ, zero, suc, ◌+◌, max, ◌≡◌, Bool, true, false, cond, not, ◌&&◌, ◌||◌, List, [], ◌∷◌, ◌++◌, map, eqb, leb}
+use Rattle.std.specs.Prelude.{length, get_or}
 use Rattle.model.specs.Sheets.{HeadValue, SheetValue, idle, most_segs}
 use Rattle.model.specs.Sums.{tabulate}
 use Rattle.model.specs.declared.Kind.{Kind}

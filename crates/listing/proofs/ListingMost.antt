@@ -20,8 +20,9 @@ use Rattle.model.proofs.References.{refs_none, refs_next}
 use Rattle.text.proofs.Lengths.{number-within}
 use Rattle.model.specs.Sums.{tabulate}
 use Rattle.model.specs.RowAnswers.{figures_at}
-use Rattle.model.proofs.Tables.{length-tabulate, get_d_tabulate}
-use Rattle.listing.specs.RowListing.{h_key, d_key, misses_key, volume_key, load_key, optmem_key, opttotal_key, optocc_key, wsmem_key, wsocc_key}
+use Rattle.model.proofs.Tables.{length-tabulate, get_or-tabulate}
+use Rattle.listing.specs.RowListing.{h_key, d_key, misses_key, volume_key, load_key, optmem_key, opttotal_key, optocc_key, wsmem_key}
+use Rattle.listing.specs.RowListing.{wsocc_key}
 use Rattle.listing.specs.RowListing.{mean_key, modtotal_key, row_listing, mod_listing, marked_text}
 use Rattle.listing.specs.Listing.{refused_key, refused_text, steps_listing, listing, older_listing, most_listing, listing_bytes, listing_of}
 use Rattle.listing.specs.inner.Parts.{head_text}
@@ -187,9 +188,10 @@ module _ (v : SheetValue) (c : Valid v) where
       let fs = tabulate n (figures_at v) in
       let ms = tabulate n (row_modtotal v) in
       let few : length fs ≡ n = length-tabulate n (figures_at v) in
-      let row : (i : ℕ) → i < length fs → length (marked_text v.form (get_or fs i zero_figures) (get_or ms i 0)) ≤ row_bytes (leb 4 v.form) =
+      let row : (i : ℕ) → i < length fs → length (marked_text v.form (get_or fs i zero_figures) (get_or ms i 0)) ≤ row_bytes
+      (leb 4 v.form) =
       λ i lt. let here : i < n = omega arith in
-      rw (get_d_tabulate n (figures_at v) i zero_figures here, get_d_tabulate n (row_modtotal v) i 0 here)
+      rw (get_or-tabulate n (figures_at v) i zero_figures here, get_or-tabulate n (row_modtotal v) i 0 here)
       (marked-most v.form (figures_at v i) (row_modtotal v i) (row-digits i here) (row-modtotal-within i here)) in
       all_most v.form (refs_of (trace_of v)) (length v.entries) (length v.head.sizes) fs ms
       (omega (arith, refs-most (trace_of v) (length v.entries), c.run.steps_within)) (omega (arith, c.run.steps_within))

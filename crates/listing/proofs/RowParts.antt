@@ -7,7 +7,8 @@ use lib.ListN.{length, length-append}
 use lib.Dec.{leb}
 use Rattle.model.specs.declared.RowFigures.{RowFigures}
 use Rattle.text.specs.Texts.{number_text}
-use Rattle.listing.specs.RowListing.{h_key, d_key, misses_key, volume_key, load_key, optmem_key, opttotal_key, optocc_key, wsmem_key, wsocc_key}
+use Rattle.listing.specs.RowListing.{h_key, d_key, misses_key, volume_key, load_key, optmem_key, opttotal_key, optocc_key, wsmem_key}
+use Rattle.listing.specs.RowListing.{wsocc_key}
 use Rattle.listing.specs.RowListing.{mean_key, modtotal_key, row_listing, mod_listing, three_text, marked_text}
 
 -- three texts one after another

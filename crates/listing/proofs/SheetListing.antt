@@ -14,7 +14,7 @@ use Rattle.model.specs.Values.{value_of}
 use Rattle.model.specs.declared.Sheet.{Sheet}
 use Rattle.model.specs.Sums.{tabulate}
 use Rattle.model.proofs.Standing.{segs-counted, rows-counted, steps-counted, form-is, row_of}
-use Rattle.model.proofs.Tables.{length-tabulate, get_d_tabulate}
+use Rattle.model.proofs.Tables.{length-tabulate, get_or-tabulate}
 use Rattle.model.specs.RowAnswers.{figures_at, all_figures}
 use Rattle.listing.specs.Listing.{listing, listing_bytes, listing_of}
 use Rattle.listing.proofs.ListingMost.{listing-within}
@@ -36,7 +36,7 @@ listing-is v form steps segs rows totals f a b c most each =
     (listing-same v.form (refs_of (trace_of v)) (length v.entries) (length v.head.sizes) (tabulate n (figures_at v)) totals
     (tabulate n (row_modtotal v))
     (λ y r lt. let here : r < n = omega (arith, length-tabulate n (figures_at v)) in
-    each (rw f at y) r (omega (arith, c)) ∙ sym (get_d_tabulate n (row_modtotal v) r 0 here)))
+    each (rw f at y) r (omega (arith, c)) ∙ sym (get_or-tabulate n (row_modtotal v) r 0 here)))
 
 -- those of a standing sheet, from its counts
 module _ (s : Sheet) (c : Standing s) where

@@ -38,4 +38,5 @@ module _ (sizes refs place : List ℕ) (room : length sizes ≤ length place) wh
     pub filled_end : length sizes ≤ k → EveryRun sizes refs (λ U. BySimulation U place place')
     filled_end done kind a =
         rw (v.place_is, front-end (length sizes) (λ j. lru_simulated (touch_run sizes refs) (suc j)) place room k v.within done)
-        (ap (λ (q : List ℕ). q ++ drop (length sizes) place) (simulated-same (touch_run sizes refs) (run_of kind a sizes [] refs) refl refl))
+        (ap (λ (q : List ℕ). q ++ drop (length sizes) place)
+        (simulated-same (touch_run sizes refs) (run_of kind a sizes [] refs) refl refl))

@@ -16,7 +16,7 @@ use Rattle.model.specs.Traces.{Trace, segs, steps, entry, touching}
 use Rattle.model.specs.Values.{zeros}
 use Rattle.model.proofs.Bounds.{product-within}
 use Rattle.model.proofs.LastTouches.{listed-none}
-use Rattle.model.proofs.Lists.{get_d_any}
+use Rattle.model.proofs.Lists.{get_or-any}
 use Rattle.replacement.specs.Orders.{to_front}
 use Rattle.replacement.specs.Recency.{recency, distance, looked_in, entries_looked}
 use Rattle.replacement.proofs.Bounds.{recency-on, recency-off, length-recency, recency-within}
@@ -102,7 +102,7 @@ module _ (sizes refs : List ℕ) where
 
     module _ (more : t < length refs) where
       is_entry : entry T t ≡ get_or refs t 0
-      is_entry = get_d_any refs t (length sizes) 0 more
+      is_entry = get_or-any refs t (length sizes) 0 more
 
       -- a step that touches nothing
       pub passed_idle : length sizes ≤ get_or refs t 0 → Passed sizes refs list n at looked (t + 1)
@@ -169,7 +169,8 @@ module _ (sizes refs : List ℕ) where
               looked_is = looked_next;
             }
           where
-            go : (q : ℕ) → q < most_segs → (b : Bool) → eqb p q ≡ b → get_or (set at p (get_or at p 0 + 1)) q 0 ≡ touches_at T (suc t) (suc q)
+            go : (q : ℕ) → q < most_segs → (b : Bool) → eqb p q ≡ b → get_or (set at p (get_or at p 0 + 1)) q 0
+                ≡ touches_at T (suc t) (suc q)
             go q lq true e =
                 rw (at_next (suc q), lt-ltb p n lt, eqb-true p q e, eq-eqb (suc q) (suc q) refl, ← v.at_are q lq)
                 (get_or-set_same at q (get_or at q 0 + 1) 0 (omega (arith, v.at_whole)))

@@ -13,7 +13,7 @@ use Rattle.model.specs.Sheets.{most_segs}
 use Rattle.model.specs.Sums.{sum}
 use Rattle.model.specs.Traces.{Trace, segs, steps, entry, touching}
 use Rattle.model.specs.Values.{zeros}
-use Rattle.model.proofs.Lists.{get_d_any}
+use Rattle.model.proofs.Lists.{get_or-any}
 use Rattle.replacement.specs.Memory.{has, lru_simulated}
 use Rattle.replacement.proofs.Frames.{simulated-ordered}
 use Rattle.replacement.proofs.Ordered.{reordered, ordered}
@@ -77,7 +77,13 @@ module _ (sizes refs : List ℕ) (k : ℕ) (some-frames : 1 ≤ k) (frames-withi
   pub simulated_start : Simulated sizes refs k (zeros most_segs) 0 0 0
   unfolding zeros ordered sum
   simulated_start =
-      record { within = omega arith; list_whole = length-replicate {A = ℕ} most_segs 0; few = omega arith; list_is = refl; misses_is = refl }
+      record {
+        within = omega arith;
+        list_whole = length-replicate {A = ℕ} most_segs 0;
+        few = omega arith;
+        list_is = refl;
+        misses_is = refl;
+      }
 
   module _ (list : List ℕ) (n misses t : ℕ) (v : Simulated sizes refs k list n misses t) where
     pub missed_within : misses ≤ t
@@ -96,7 +102,7 @@ module _ (sizes refs : List ℕ) (k : ℕ) (some-frames : 1 ≤ k) (frames-withi
 
     module _ (more : t < length refs) where
       is_entry : entry T t ≡ get_or refs t 0
-      is_entry = get_d_any refs t (length sizes) 0 more
+      is_entry = get_or-any refs t (length sizes) 0 more
 
       -- a step that touches nothing
       pub simulated_idle : length sizes ≤ get_or refs t 0 → Simulated sizes refs k list n misses (t + 1)
@@ -132,7 +138,8 @@ module _ (sizes refs : List ℕ) (k : ℕ) (some-frames : 1 ≤ k) (frames-withi
         has_x = rw (has-index x (take n list), ← index, size)
 
         -- a hit
-        pub simulated_hit : (list' : List ℕ) → p < n → list' ≡ moved p (get_or list p 0) list → Simulated sizes refs k list' n misses (t + 1)
+        pub simulated_hit : (list' : List ℕ) → p < n → list' ≡ moved p (get_or list p 0) list
+            → Simulated sizes refs k list' n misses (t + 1)
         unfolding reordered
         simulated_hit list' lt list-moved =
             rw (add-one t, list-moved, here)

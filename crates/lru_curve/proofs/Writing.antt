@@ -6,7 +6,7 @@ use native.Mathlib.Omega.{arith}
 use lib.ListN.{length, get_or, take, drop, set, take-append-drop, drop_of_length-le}
 use lib.Seq.{take-suc, drop-cons, append_snoc, set_at, take_all, length-take-le}
 use Rattle.model.specs.Sums.{tabulate}
-use Rattle.model.proofs.Tables.{length-tabulate, get_d_tabulate}
+use Rattle.model.proofs.Tables.{length-tabulate, get_or-tabulate}
 
 -- the last of the first entries of a list set to v, and r behind them
 pub set_back : (l : List ℕ) (i v : ℕ) (r : List ℕ) → i < length l → set (take (suc i) l ++ r) i v ≡ take i l ++ (v ∷ r)
@@ -34,7 +34,7 @@ module _ (n : ℕ) (f : ℕ → ℕ) (place : List ℕ) where
         ∙ ap (λ (q : List ℕ). take k place ++ (q ++ drop n place)) behind
       where
         behind : f k ∷ drop (suc k) (tabulate n f) ≡ drop k (tabulate n f)
-        behind = rw (← get_d_tabulate n f k 0 lt) (sym (drop-cons (tabulate n f) k 0 (omega (arith, length-tabulate n f))))
+        behind = rw (← get_or-tabulate n f k 0 lt) (sym (drop-cons (tabulate n f) k 0 (omega (arith, length-tabulate n f))))
 
     pub front-next : (k v : ℕ) → k < n → v ≡ f k → set (from_front k) k v ≡ from_front (suc k)
     front-next k v lt is =
@@ -44,7 +44,7 @@ module _ (n : ℕ) (f : ℕ → ℕ) (place : List ℕ) where
         ∙ (sym (append_snoc (take k (tabulate n f)) v (drop (suc k) place)) ∙ ap (λ (r : List ℕ). r ++ drop (suc k) place) one_more))
       where
         one_more : take k (tabulate n f) ++ (v ∷ []) ≡ take (suc k) (tabulate n f)
-        one_more = rw (take-suc (tabulate n f) k 0 (omega (arith, length-tabulate n f)), get_d_tabulate n f k 0 lt, is)
+        one_more = rw (take-suc (tabulate n f) k 0 (omega (arith, length-tabulate n f)), get_or-tabulate n f k 0 lt, is)
 
     pub front-end : (k : ℕ) → k ≤ n → n ≤ k → from_front k ≡ tabulate n f ++ drop n place
     front-end k le ge =

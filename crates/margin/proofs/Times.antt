@@ -11,7 +11,7 @@ use lib.ListN.{length, get_or}
 use Rattle.model.specs.LastTouches.{untouched_mark, start_table}
 use Rattle.model.specs.Sheets.{most_segs, listed}
 use Rattle.model.specs.Traces.{Trace, segs, entry, touched, later, unreferenced}
-use Rattle.model.proofs.Tables.{get_d_tabulate}
+use Rattle.model.proofs.Tables.{get_or-tabulate}
 use Rattle.model.proofs.Touches.{entry-ref, touched-entry, unreferenced-none, unreferenced-touched, unreferenced-later}
 use Rattle.margin.specs.inner.Times.{time_of, later_by, untouched_time}
 use Rattle.margin.specs.declared.Unreferenced.{Unreferenced}
@@ -25,7 +25,7 @@ none-warm (x ∷ warm) i e = absurd (omega arith)
 -- the mark of a segment in the table before step 1 tells whether it is warm
 pub warm-mark : (warm : List ℕ) (i : ℕ) → i < most_segs → not (eqb (get_or (start_table warm) i 0) untouched_mark) ≡ listed warm i
 unfolding start_table
-warm-mark warm i lt = rw (get_d_tabulate most_segs (λ j. cond (listed warm j) 0 untouched_mark) i 0 lt) (go (listed warm i))
+warm-mark warm i lt = rw (get_or-tabulate most_segs (λ j. cond (listed warm j) 0 untouched_mark) i 0 lt) (go (listed warm i))
   where
     go : (b : Bool) → not (eqb (cond b 0 untouched_mark) untouched_mark) ≡ b
     go true = refl

@@ -11,7 +11,7 @@ use Rattle.model.specs.Figures.{of_time, ref_cost, retention_of, is_reuse}
 use Rattle.model.specs.Schedules.{held, Permitted, schedule_memory, schedule_load}
 use Rattle.model.specs.Decisions.{held_byte, held_bytes, next_decided, decided_held, decided_schedule}
 use Rattle.model.proofs.Sums.{sum-eq, sum-zero}
-use Rattle.model.proofs.Tables.{length-tabulate, get_d_tabulate, tabulate-eq}
+use Rattle.model.proofs.Tables.{length-tabulate, get_or-tabulate, tabulate-eq}
 use Rattle.model.proofs.Touches.{touched-below, touched-beyond, entry-touched}
 use Rattle.model.proofs.Touches.{unreferenced-none, unreferenced-touched, unreferenced-later, reuse-later}
 use Rattle.model.proofs.Loads.{over_touches-eq}
@@ -37,7 +37,7 @@ held_bytes_lem T S t i lt l =
     let byte : (32 * t + i / 8) % 32 ≡ i / 8 = omega arith in
     let whole : 8 * (i / 8) + i % 8 ≡ i = omega arith in
     rw (
-      get_d_tabulate (32 * steps T) (held_byte S) (32 * t + i / 8) 0 (omega arith),
+      get_or-tabulate (32 * steps T) (held_byte S) (32 * t + i / 8) 0 (omega arith),
       bit-of_bits 8 (λ k. S ((32 * t + i / 8) / 32) (8 * ((32 * t + i / 8) % 32) + k)) (i % 8) (omega arith),
       place,
       byte,

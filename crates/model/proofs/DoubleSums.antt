@@ -24,7 +24,8 @@ module _ (n m : ℕ) (f g : ℕ → ℕ → ℕ) where
       ∙ sum-add n (λ t. sum m (f t)) (λ t. sum m (g t))
 
   -- a double sum of totals is the total of the double sums
-  pub double-total : (h d : ℕ) → double_sum n m (λ t i. total_cost h d (f t i) (g t i)) ≡ total_cost h d (double_sum n m f) (double_sum n m g)
+  pub double-total : (h d : ℕ) → double_sum n m (λ t i. total_cost h d (f t i) (g t i))
+      ≡ total_cost h d (double_sum n m f) (double_sum n m g)
   double-total h d =
       sum-eq
       n

@@ -74,7 +74,8 @@ module _ (T : Trace) (none-touched : refs_of T ≡ 0) (fresh : (i : ℕ) → T.s
   zero-wsspace : wsspace T h d ≡ 0
   unfolding wsspace ref_volume
   zero-wsspace =
-      simp (no-touches, sum-zero (segs T) (λ i. size_of T i * smaller T h d (steps T) i) (λ i lt. rw (no_end i) (omega arith))) (omega arith)
+      simp (no-touches, sum-zero (segs T) (λ i. size_of T i * smaller T h d (steps T) i) (λ i lt. rw (no_end i) (omega arith)))
+      (omega arith)
 
   zero-wsocc : wsocc T h d ≡ 0
   unfolding wsocc

@@ -219,8 +219,8 @@ table =
 
 pub table-holds : all_hold table ≡ true
 unfolding all_hold claims value_of bytes_of above below ◌is◌ table listing paper untouched weighted rounded between timed distant idling
-    warmed both_warm lingering quiet resting held schedule_memory schedule_load schedule_total misses volume load optmem opttotal optocc wsmem
-    wsocc mean optimal_schedule sum tabulate touching refs_by ref_place later unreferenced kept ref_cost ref_volume smaller wsspace
+    warmed both_warm lingering quiet resting held schedule_memory schedule_load schedule_total misses volume load optmem opttotal optocc
+    wsmem wsocc mean optimal_schedule sum tabulate touching refs_by ref_place later unreferenced kept ref_cost ref_volume smaller wsspace
     next_kept optimal_held optimal_byte listed
 table-holds = refl
 
@@ -239,8 +239,8 @@ timed-half : row_figures timed 1 2
       wsocc = 40;
       mean = 3333;
     }
-unfolding timed row_figures misses volume load optmem opttotal optocc wsmem wsocc mean sum touching later unreferenced kept ref_cost ref_volume
-    smaller wsspace listed
+unfolding timed row_figures misses volume load optmem opttotal optocc wsmem wsocc mean sum touching later unreferenced kept ref_cost
+    ref_volume smaller wsspace listed
 timed-half = refl
 
 timed-one : row_figures timed 1 1
@@ -257,8 +257,8 @@ timed-one : row_figures timed 1 1
       wsocc = 21;
       mean = 3500;
     }
-unfolding timed row_figures misses volume load optmem opttotal optocc wsmem wsocc mean sum touching later unreferenced kept ref_cost ref_volume
-    smaller wsspace listed
+unfolding timed row_figures misses volume load optmem opttotal optocc wsmem wsocc mean sum touching later unreferenced kept ref_cost
+    ref_volume smaller wsspace listed
 timed-one = refl
 
 -- the last schedule of the table drops segment 0 in step 2 and lets it enter again, untouched, in step 3. It would cost less than the

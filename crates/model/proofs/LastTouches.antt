@@ -13,7 +13,7 @@ use Rattle.model.specs.Sums.{tabulate}
 use Rattle.model.specs.LastTouches.{untouched_mark, start_table, last_from, last_table}
 use Rattle.model.specs.Sheets.{listed, most_segs}
 use Rattle.model.specs.Traces.{Trace, segs, entry, touched, later, unreferenced}
-use Rattle.model.proofs.Tables.{length-tabulate, get_d_tabulate, tabulate-eq, tabulate-set}
+use Rattle.model.proofs.Tables.{length-tabulate, get_or-tabulate, tabulate-eq, tabulate-set}
 use Rattle.model.proofs.Touches.{touched-at, touched-is, idle-touched, unreferenced-none, unreferenced-touched, unreferenced-later}
 
 pub length-last_table : (T : Trace) (n : ℕ) → length (last_table T n) ≡ 256
@@ -22,7 +22,7 @@ length-last_table T n = length-tabulate 256 (λ i. last_from n (unreferenced T n
 
 pub last_table-at : (T : Trace) (n i d : ℕ) → i < 256 → get_or (last_table T n) i d ≡ last_from n (unreferenced T n i)
 unfolding last_table
-last_table-at T n i d lt = get_d_tabulate 256 (λ i. last_from n (unreferenced T n i)) i d lt
+last_table-at T n i d lt = get_or-tabulate 256 (λ i. last_from n (unreferenced T n i)) i d lt
 
 -- no segment is one of none; one more is listed after the others
 pub listed-none : (i : ℕ) → listed [] i ≡ false

@@ -9,14 +9,14 @@ use Rattle.model.specs.Rows.{zero_figures}
 use Rattle.model.specs.Sheets.{SheetValue, most_rows}
 use Rattle.model.specs.Sums.{tabulate}
 use Rattle.model.specs.declared.RowFigures.{RowFigures}
-use Rattle.model.proofs.Tables.{length-tabulate, get_d_tabulate, list-tabulate}
+use Rattle.model.proofs.Tables.{length-tabulate, get_or-tabulate, list-tabulate}
 use Rattle.model.specs.RowAnswers.{figures_at, run_figures, all_figures}
 
 -- the figures of a row among those of all rows
 pub figures-at : (v : SheetValue) (r : ℕ) (d : RowFigures) → r < length v.head.rows → length v.head.rows ≤ most_rows
     → get_or (all_figures v) r d ≡ figures_at v r
 unfolding run_figures
-figures-at v r d lt most = get_d_tabulate _ _ r d (omega arith) ∙ rw (lt-ltb r (length v.head.rows) lt)
+figures-at v r d lt most = get_or-tabulate _ _ r d (omega arith) ∙ rw (lt-ltb r (length v.head.rows) lt)
 
 all-length : (v : SheetValue) → length (all_figures v) ≡ most_rows
 unfolding run_figures

@@ -9,7 +9,7 @@ use Rattle.model.specs.Standing.{Standing}
 use Rattle.model.specs.Traces.{entry, size_of}
 use Rattle.model.specs.Values.{head_value_of, value_of}
 use Rattle.model.specs.declared.Sheet.{Sheet}
-use Rattle.model.proofs.Lists.{get_d_any}
+use Rattle.model.proofs.Lists.{get_or-any}
 
 module _ (s : Sheet) (c : Standing s) where
   -- the counts are the lengths of the value's lists
@@ -62,7 +62,7 @@ module _ (s : Sheet) (c : Standing s) where
     pub entry_of : entry (trace_of (value_of s)) t ≡ get_or s.touches t 0
     unfolding value_of
     entry_of =
-        get_d_any (value_of s).entries t (length (value_of s).head.sizes) 0 (omega (arith, steps-counted))
+        get_or-any (value_of s).entries t (length (value_of s).head.sizes) 0 (omega (arith, steps-counted))
         ∙ get_or-take s.steps s.touches t 0 lt
 
   module _ (i : ℕ) (lt : i < s.head.segs) where

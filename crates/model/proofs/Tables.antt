@@ -18,20 +18,20 @@ module _ {A : Type 0} where
   length-tabulate zero f = refl
   length-tabulate (suc n) f = omega (arith, length-append (tabulate n f) (f n ∷ []), length-tabulate n f)
 
-  pub get_d_tabulate : (n : ℕ) (f : ℕ → A) (j : ℕ) (d : A) → j < n → get_or (tabulate n f) j d ≡ f j
+  pub get_or-tabulate : (n : ℕ) (f : ℕ → A) (j : ℕ) (d : A) → j < n → get_or (tabulate n f) j d ≡ f j
   unfolding tabulate
-  get_d_tabulate zero f j d lt = absurd (omega arith)
-  get_d_tabulate (suc n) f j d lt =
+  get_or-tabulate zero f j d lt = absurd (omega arith)
+  get_or-tabulate (suc n) f j d lt =
       ⊎_elim
       (λ e. rw e (get_or_at (tabulate n f) (f n) [] d n (length-tabulate n f)))
-      (λ l. get_or-append (tabulate n f) (f n ∷ []) d j (omega (arith, length-tabulate n f)) ∙ get_d_tabulate n f j d l)
+      (λ l. get_or-append (tabulate n f) (f n ∷ []) d j (omega (arith, length-tabulate n f)) ∙ get_or-tabulate n f j d l)
       (last-or-below n j lt)
 
   -- a list of length n with the entries f 0, .., f (n - 1) is their table
   pub list-tabulate : (n : ℕ) (f : ℕ → A) (l : List A) (d : A) → length l ≡ n → ((j : ℕ) → j < n → get_or l j d ≡ f j) → l ≡ tabulate n f
   list-tabulate n f l d len entries =
       ext_get_or d l (tabulate n f) (omega (arith, length-tabulate n f))
-      (λ j lt. entries j (omega arith) ∙ sym (get_d_tabulate n f j d (omega arith)))
+      (λ j lt. entries j (omega arith) ∙ sym (get_or-tabulate n f j d (omega arith)))
 
   pub tabulate-eq : (n : ℕ) (f g : ℕ → A) → ((j : ℕ) → j < n → f j ≡ g j) → tabulate n f ≡ tabulate n g
   unfolding tabulate
@@ -55,4 +55,4 @@ module _ {A : Type 0} where
       go j l true e = rw (eqb-true j k e) (get_or-set_same (tabulate n f) k (g k) (f 0) (omega (arith, length-tabulate n f)))
       go j l false e =
           let ne = eqb-false j k e in
-          get_or-set_other (tabulate n f) k j (g k) (f 0) ne ∙ get_d_tabulate n f j (f 0) l ∙ sym (others j l ne)
+          get_or-set_other (tabulate n f) k j (g k) (f 0) ne ∙ get_or-tabulate n f j (f 0) l ∙ sym (others j l ne)

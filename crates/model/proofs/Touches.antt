@@ -10,7 +10,7 @@ use borrow.Author.Tests.{lt-ltb, le-ltb, ltb-true, eq-eqb, ne_eqb, eqb-true}
 use Rattle.model.specs.Sums.{sum}
 use Rattle.model.specs.Traces.{Trace, segs, steps, entry, touched, touching, later, unreferenced}
 use Rattle.model.specs.Figures.{is_reuse}
-use Rattle.model.proofs.Lists.{get_d_any}
+use Rattle.model.proofs.Lists.{get_or-any}
 use Rattle.model.proofs.Sums.{sum-eq, sum-at}
 
 -- of a segment, touched is whether it is the entry
@@ -58,7 +58,7 @@ idle-touched T t i le = go (ltb i (segs T)) refl
 
 -- the entry of a step is its reference
 pub entry-ref : (T : Trace) (t : ℕ) → t < steps T → entry T t ≡ get_or T.entries t 0
-entry-ref T t lt = get_d_any T.entries t (segs T) 0 lt
+entry-ref T t lt = get_or-any T.entries t (segs T) 0 lt
 
 -- what a step adds whose entry is a segment, and one whose entry is none
 pub touching_at : (T : Trace) (f : ℕ → ℕ → ℕ) (t : ℕ) → entry T t < segs T → touching T f t ≡ f t (entry T t)

@@ -79,7 +79,8 @@ wsmem T h d =
 -- d × V plus z × that smaller value, over the same
 unfoldable pub wsspace : Trace → ℕ → ℕ → ℕ
 wsspace T h d =
-    d * ref_volume T + over_touches T (λ t i. size_of T i * smaller T h d t i) + over_segments T (λ i. size_of T i * smaller T h d (steps T) i)
+    d * ref_volume T + over_touches T (λ t i. size_of T i * smaller T h d t i) + over_segments T
+    (λ i. size_of T i * smaller T h d (steps T) i)
 
 -- wsocc: as wsmem for kind space; for kind time d × V plus z × that smaller value
 unfoldable pub wsocc : Trace → ℕ → ℕ → ℕ

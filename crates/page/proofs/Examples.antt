@@ -66,14 +66,14 @@ one-row = refl
 -- 68; blank lines up to 120, and no more
 two-pages : map (line_in (pages_with 64)) (1 ∷ 2 ∷ 3 ∷ 60 ∷ 61 ∷ 62 ∷ 63 ∷ 68 ∷ 69 ∷ 120 ∷ 121 ∷ [])
     ≡ title ∷ names ∷ row (bytes " 0") ∷ row (bytes "57") ∷ title ∷ names ∷ row (bytes "58") ∷ row (bytes "63") ∷ empty ∷ empty ∷ [] ∷ []
-unfolding bytes figures pages_with line_in title names row empty columns page_line title_line names_line row_line blank_line page_lines second_page
-    all_lines concatenated pages tabulate written written_in
+unfolding bytes figures pages_with line_in title names row empty columns page_line title_line names_line row_line blank_line page_lines
+    second_page all_lines concatenated pages tabulate written written_in
 two-pages = refl
 
 -- 57 rows, 58 and 59: one page with a blank last line, one full page, and a second page for row 58 alone
 page-ends : map (line_in (pages_with 57)) (59 ∷ 60 ∷ 61 ∷ []) ++ map (line_in (pages_with 58)) (60 ∷ 61 ∷ [])
     ++ map (line_in (pages_with 59)) (60 ∷ 61 ∷ 63 ∷ 64 ∷ 120 ∷ 121 ∷ [])
     ≡ row (bytes "56") ∷ empty ∷ [] ∷ row (bytes "57") ∷ [] ∷ row (bytes "57") ∷ title ∷ row (bytes "58") ∷ empty ∷ empty ∷ [] ∷ []
-unfolding bytes figures pages_with line_in title names row empty columns page_line title_line names_line row_line blank_line page_lines second_page
-    all_lines concatenated pages tabulate written written_in
+unfolding bytes figures pages_with line_in title names row empty columns page_line title_line names_line row_line blank_line page_lines
+    second_page all_lines concatenated pages tabulate written written_in
 page-ends = refl

@@ -27,7 +27,8 @@ none-above-largest s v r lt =
     let sizes = sizes-within T c h d in
     let held = product-within (steps T) (1 * all_sizes T) most_steps (most_segs * largest_size) c.steps_within (omega (arith, sizes)) in
     let priced = product-within d (all_sizes T) largest_price (most_segs * largest_size) high-d sizes in
-    let working = product-within (steps T) (d * all_sizes T) most_steps (largest_price * (most_segs * largest_size)) c.steps_within priced in
+    let working = product-within (steps T) (d * all_sizes T) most_steps (largest_price * (most_segs * largest_size)) c.steps_within
+    priced in
     record {
       h_within = high-h;
       d_within = high-d;

@@ -206,7 +206,8 @@ row-on-line kind a fs r h = go (ltb r rows_on_page) refl
         let low = ltb-true r rows_on_page e in
         let count = page-count kind a (take rows_on_page fs) (rw length-take (omega arith)) in
         let here : r < length (take rows_on_page fs) = rw length-take (omega arith) in
-        get_or-append (page_lines kind a (take rows_on_page fs)) (second_page kind a (drop rows_on_page fs)) [] (2 + r) (omega (arith, count))
+        get_or-append (page_lines kind a (take rows_on_page fs)) (second_page kind a (drop rows_on_page fs)) [] (2 + r)
+        (omega (arith, count))
         ∙ (in-page kind a (take rows_on_page fs) r here ∙ ap row_line (get_or-take rows_on_page fs r zero_figures low))
     go false e =
         let high = ltb-false r rows_on_page e in
@@ -214,7 +215,8 @@ row-on-line kind a fs r h = go (ltb r rows_on_page) refl
         let q = r - rows_on_page in
         let here : q < length (drop rows_on_page fs) = rw length-drop (omega arith) in
         let back : rows_on_page + q ≡ r = omega arith in
-        ap (λ k. get_or (page_lines kind a (take rows_on_page fs) ++ second_page kind a (drop rows_on_page fs)) (k + (2 + q)) []) (sym count)
+        ap (λ k. get_or (page_lines kind a (take rows_on_page fs) ++ second_page kind a (drop rows_on_page fs)) (k + (2 + q)) [])
+        (sym count)
         ∙ (get_or-append-add (page_lines kind a (take rows_on_page fs)) (second_page kind a (drop rows_on_page fs)) (2 + q) []
         ∙ (ap (λ l. get_or l (2 + q) []) (second-some kind a (drop rows_on_page fs) (omega arith))
         ∙ (in-page kind a (drop rows_on_page fs) q here

@@ -110,7 +110,8 @@ blank-parts = refl
 -- one line of blanks more
 pub blank-lines-next : (i : ℕ)
     → concatenated (replicate (i + 1) blank_line) ≡ concatenated (replicate i blank_line) ++ (blanks 72 ++ (line_feed ∷ []))
-blank-lines-next i = rw (← replicate_next i blank_line, concatenated-next) (ap (λ l. concatenated (replicate i blank_line) ++ l) blank-parts)
+blank-lines-next i = rw (← replicate_next i blank_line, concatenated-next)
+    (ap (λ l. concatenated (replicate i blank_line) ++ l) blank-parts)
 
 -- what holds where a loop has put the lines from first to before i, of those before end: each has 73 bytes
 pub record LinesPut (first i end : ℕ) (text : List ℕ) (at : ℕ) (place : List ℕ) (next : ℕ) (out : List ℕ) : Type 0 where

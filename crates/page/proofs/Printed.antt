@@ -8,7 +8,7 @@ use Rattle.model.specs.Rows.{row_figures, zero_figures}
 use Rattle.model.specs.Sheets.{SheetValue, trace_of, row_at}
 use Rattle.model.specs.Sums.{tabulate}
 use Rattle.model.specs.RowAnswers.{figures_at}
-use Rattle.model.proofs.Tables.{length-tabulate, get_d_tabulate}
+use Rattle.model.proofs.Tables.{length-tabulate, get_or-tabulate}
 use Rattle.page.specs.Page.{row_line, all_lines, line_of_row}
 use Rattle.page.proofs.Lines.{row-on-line}
 
@@ -19,4 +19,4 @@ pub page-prints : (v : SheetValue) (r : ℕ) → r < length v.head.rows
 page-prints v r lt =
     let n = length-tabulate (length v.head.rows) (figures_at v) in
     row-on-line v.head.kind v.head.a (tabulate (length v.head.rows) (figures_at v)) r (omega (arith, n))
-    ∙ ap row_line (get_d_tabulate (length v.head.rows) (figures_at v) r zero_figures lt)
+    ∙ ap row_line (get_or-tabulate (length v.head.rows) (figures_at v) r zero_figures lt)

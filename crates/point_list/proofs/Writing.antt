@@ -14,7 +14,8 @@ use lib.ListN.{length, get_or, set, drop, length-set, length-append}
 use lib.Seq.{drop-cons, set_at}
 use Rattle.model.specs.Sums.{sum}
 use Rattle.model.proofs.Sums.{sum-none, sum-suc}
-use Rattle.point_list.specs.inner.Walk.{quotient_at, reuse_at, before_at, ended, first_cost, leader, memory_to, load_to, point_at, points_to}
+use Rattle.point_list.specs.inner.Walk.{quotient_at, reuse_at, before_at, ended, first_cost, leader, memory_to, load_to, point_at}
+use Rattle.point_list.specs.inner.Walk.{points_to}
 use Rattle.point_list.specs.inner.Walk.{points_of, Writable}
 
 -- one number more behind those written at the head of a place

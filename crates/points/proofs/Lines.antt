@@ -108,7 +108,8 @@ module _ (T : Trace) (k : ℕ) (l : suc k < length (thresholds T)) where
                 (omega (arith, ascends)) (omega (arith, q)),
           )))
 
-      above : (p : Ratio) (j : ℕ) → j < length (thresholds T) → EqualRatio (threshold_at T j) (ratio_at T t) → LessRatio p (threshold_at T j)
+      above : (p : Ratio) (j : ℕ) → j < length (thresholds T) → EqualRatio (threshold_at T j) (ratio_at T t)
+          → LessRatio p (threshold_at T j)
           → LessRatio p (ratio_at T t)
       above p j lj e b = below-same p (threshold_at T j) (ratio_at T t) (thresholds-positive T j lj) (ratio-positive T t) b e
 

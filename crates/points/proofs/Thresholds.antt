@@ -133,7 +133,8 @@ module _ (T : Trace) where
   unfolding ratios insert
   zero-from-start r zero = rw r (record { some_entry = omega arith; zero_first = first-ratio })
   zero-from-start r (suc n) =
-      step-cases ZeroFirst (suc n) (λ e. zero-stays (ratio_at T (suc n)) (ratios T (suc n)) (zero-from-start r n)) (λ e. zero-from-start r n)
+      step-cases ZeroFirst (suc n) (λ e. zero-stays (ratio_at T (suc n)) (ratios T (suc n)) (zero-from-start r n))
+      (λ e. zero-from-start r n)
 
   pub ratios-length : (n : ℕ) → length (ratios T n) ≤ n
   unfolding ratios

@@ -71,7 +71,8 @@ memory-held T p ok =
     ∙ sum-eq (steps T) (λ t. touch t + kept t) (λ t. held_cost T p (suc t)) (λ t lt. step-held T p ok t lt)
 
 -- memory and load of a permitted schedule are within 40 bits
-pub schedule-within : (T : Trace) → RunWithin T → (p : List ℕ) → Permitted T p → (schedule_memory T p < 2 ^ 40) × (schedule_load T p < 2 ^ 40)
+pub schedule-within : (T : Trace) → RunWithin T → (p : List ℕ) → Permitted T p
+    → (schedule_memory T p < 2 ^ 40) × (schedule_load T p < 2 ^ 40)
 unfolding schedule_load load_through
 schedule-within T ok p allowed = (
   rw (memory-held T p allowed) (memory-within T ok p (steps T) ok.steps_within),

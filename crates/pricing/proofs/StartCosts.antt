@@ -14,13 +14,13 @@ use Rattle.model.specs.Sums.{sum}
 use Rattle.model.specs.declared.Kind.{Kind}
 use Rattle.model.proofs.LastTouches.{listed-none}
 use Rattle.model.proofs.Sums.{sum-none, sum-suc, sum-zero}
-use Rattle.model.proofs.Tables.{get_d_tabulate}
+use Rattle.model.proofs.Tables.{get_or-tabulate}
 use Rattle.pricing.specs.inner.StartCost.{start_cost}
 
 -- the table is 0 exactly at the warm segments
 start-zero : (warm : List ℕ) (i : ℕ) → i < 256 → eqb (get_or (start_table warm) i 0) 0 ≡ listed warm i
 unfolding start_table
-start-zero warm i lt = rw (get_d_tabulate 256 (λ i. cond (listed warm i) 0 untouched_mark) i 0 lt) (go (listed warm i))
+start-zero warm i lt = rw (get_or-tabulate 256 (λ i. cond (listed warm i) 0 untouched_mark) i 0 lt) (go (listed warm i))
   where
     go : (b : Bool) → eqb (cond b 0 untouched_mark) 0 ≡ b
     go true = refl

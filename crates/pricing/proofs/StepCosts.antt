@@ -40,10 +40,10 @@ moved-loaded u w left true c r e le held memory load = let z : ◌≡◌ {A = �
 moved-loaded u w left false c r e le held memory load = record { held_moved = omega arith; memory_moved = memory; load_moved = load }
 
 -- beyond a list stands 0
-pub get_d_beyond : (l : List ℕ) (i : ℕ) → length l ≤ i → get_or l i 0 ≡ 0
-get_d_beyond [] i le = refl
-get_d_beyond (x ∷ l) zero le = absurd (omega arith)
-get_d_beyond (x ∷ l) (suc i) le = get_d_beyond l i (omega arith)
+pub get_or-beyond : (l : List ℕ) (i : ℕ) → length l ≤ i → get_or l i 0 ≡ 0
+get_or-beyond [] i le = refl
+get_or-beyond (x ∷ l) zero le = absurd (omega arith)
+get_or-beyond (x ∷ l) (suc i) le = get_or-beyond l i (omega arith)
 
 -- a sum of terms that are 0 from s on
 sum-beyond : (k s : ℕ) (f : ℕ → ℕ) → ((i : ℕ) → s ≤ i → f i ≡ 0) → sum (s + k) f ≡ sum s f

@@ -38,7 +38,8 @@ unfolding count_trailing_zeros
 same-below zero a b k lt = absurd (omega arith)
 same-below (suc d) a b k lt = go (bit_xor a b % 2) refl k (same-below d (a / 2) (b / 2)) lt
   where
-    go : (r : ℕ) → bit_xor a b % 2 ≡ r → (k : ℕ) → ((k : ℕ) → k < count_trailing_zeros d (bit_xor (a / 2) (b / 2)) → bit (a / 2) k ≡ bit (b / 2) k)
+    go : (r : ℕ) → bit_xor a b % 2 ≡ r → (k : ℕ)
+        → ((k : ℕ) → k < count_trailing_zeros d (bit_xor (a / 2) (b / 2)) → bit (a / 2) k ≡ bit (b / 2) k)
         → k < under r (count_trailing_zeros d (bit_xor a b / 2)) → bit a k ≡ bit b k
     go zero e zero higher lt = rw (bit-first a, bit-first b, same_first a b e)
     go zero e (suc k) higher lt =
@@ -52,7 +53,8 @@ lowest-below d n zero pos lt le = absurd (omega arith)
 lowest-below zero n (suc m) pos lt le = absurd (omega arith)
 lowest-below (suc d) n (suc m) pos lt le = go (n % 2) refl (lowest-below d (n / 2) m)
   where
-    go : (r : ℕ) → n % 2 ≡ r → (0 < n / 2 → n / 2 < 2 ^ m → m ≤ d → count_trailing_zeros d (n / 2) < m) → under r (count_trailing_zeros d (n / 2)) < suc m
+    go : (r : ℕ) → n % 2 ≡ r → (0 < n / 2 → n / 2 < 2 ^ m → m ≤ d → count_trailing_zeros d (n / 2) < m)
+        → under r (count_trailing_zeros d (n / 2)) < suc m
     go zero e half = let l = half (omega arith) (omega (arith, pow-suc 2 m)) (omega arith) in omega arith
     go (suc r) e half = omega arith
 
@@ -78,7 +80,8 @@ other_at (suc d) a b pos lt = go (bit_xor a b % 2) refl (other_at d (a / 2) (b /
   where
     go : (r : ℕ) → bit_xor a b % 2 ≡ r
         → (0 < bit_xor (a / 2) (b / 2) → bit_xor (a / 2) (b / 2) < 2 ^ d
-        → bit (b / 2) (count_trailing_zeros d (bit_xor (a / 2) (b / 2))) ≡ not (bit (a / 2) (count_trailing_zeros d (bit_xor (a / 2) (b / 2)))))
+        → bit (b / 2) (count_trailing_zeros d (bit_xor (a / 2) (b / 2)))
+        ≡ not (bit (a / 2) (count_trailing_zeros d (bit_xor (a / 2) (b / 2)))))
         → bit b (under r (count_trailing_zeros d (bit_xor a b / 2))) ≡ not (bit a (under r (count_trailing_zeros d (bit_xor a b / 2))))
     go zero e half =
         let k = count_trailing_zeros d (bit_xor a b / 2) in

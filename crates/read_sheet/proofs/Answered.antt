@@ -29,7 +29,8 @@ use Rattle.read_sheet.proofs.ReadStages.{more_bytes, no_bytes, finished}
 
 -- the entries of a sheet of a form with a head of so many segments, as they were read
 module _ (form segs : ℕ) (s : List ℕ) (l : LinesRead) (steps : ℕ) (xs : List ℕ) (ms : List Bool)
-    (p : parsed_lines s l (entries_with (leb 4 form) (take steps xs) (take steps ms)) ≡ (entries_part (leb 2 form) (leb 4 form) segs).reads s)
+    (p : parsed_lines s l (entries_with (leb 4 form) (take steps xs) (take steps ms))
+    ≡ (entries_part (leb 2 form) (leb 4 form) segs).reads s)
     (h : Head) (f : HeadFilled h) (n : h.segs ≡ segs) where
   entries : (entries_part (leb 2 form) (leb 4 form) (length (head_value_of h).sizes)).reads s
       ≡ parsed_lines s l (entries_with (leb 4 form) (take steps xs) (take steps ms))

@@ -75,7 +75,8 @@ unfolding head_value_of
 sizes-counted h f = filled-length h.segs h.sizes (zeros most_segs) f.sizes
 
 -- a head that was read has a segment
-pub some_segs : (taken later : Bool) (h : Head) (s rest : List ℕ) → HeadFilled h → (head_part taken later).reads s ≡ read (head_value_of h) rest
+pub some_segs : (taken later : Bool) (h : Head) (s rest : List ℕ) → HeadFilled h → (head_part taken later).reads s
+    ≡ read (head_value_of h) rest
     → 1 ≤ h.segs
 some_segs taken later h s rest f e = rw (sizes-counted h f) at (head-segs taken later s (head_value_of h) rest e).0
 

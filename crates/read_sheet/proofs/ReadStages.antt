@@ -94,7 +94,8 @@ sheet-form lo hi s = go (same_bytes (take 5 s) form_key)
     go false = refl
 
 pub answer-short : (lo hi : ℕ) (s : List ℕ) (r : SheetAnswer) (b : Bool) → b ≡ ltb (form_bytes (named_form s)) (length s) → b ≡ false
-    → r ≡ answer_of (at_end (and_then (form_line lo hi s) (λ form rest. (body_part lo form).reads rest))) → r ≡ answer_of (read_forms lo hi s)
+    → r ≡ answer_of (at_end (and_then (form_line lo hi s) (λ form rest. (body_part lo form).reads rest))) → r
+    ≡ answer_of (read_forms lo hi s)
 unfolding read_forms
 answer-short lo hi s r b e t f = rw (← e, t) (f ∙ ap (λ p. answer_of (at_end p)) (sym (sheet-form lo hi s)))
 

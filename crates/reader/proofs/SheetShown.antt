@@ -14,7 +14,8 @@ use Rattle.model.specs.declared.Kind.TheVariants.{Time, Space}
 use Rattle.model.specs.declared.PriceRow.{PriceRow}
 use Rattle.text.specs.Keys.{line_feed, slash, at_sign, mark_letter, form_key, size_key, row_key, hold_key, ref_key, kind_word}
 use Rattle.sheet.specs.Lines.{split_at}
-use Rattle.sheet.specs.Order.{sizes_part, prices_part, warm_part, warm_for, tables_part, head_part, refs_part, plain_part, steps_part, entries_part}
+use Rattle.sheet.specs.Order.{sizes_part, prices_part, warm_part, warm_for, tables_part, head_part, refs_part, plain_part, steps_part}
+use Rattle.sheet.specs.Order.{entries_part}
 use Rattle.sheet.specs.Order.{run_part, body_part, form_lines, sheet_part, lines_of}
 use Rattle.sheet.specs.Parts.{Line}
 use Rattle.sheet.specs.Reading.{accepted, read_forms}

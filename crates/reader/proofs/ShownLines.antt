@@ -76,7 +76,8 @@ shows-one key v s mid ls rest h g = record {
 }
 
 -- the line n of those shown is the one at the head of what is left after n lines
-pub shown-at : (k n : ℕ) (s : List ℕ) (d : Shown) → n < k → get_or (lines_shown k s) n d ≡ (line_key (left_after n s), line_value (left_after n s))
+pub shown-at : (k n : ℕ) (s : List ℕ) (d : Shown) → n < k → get_or (lines_shown k s) n d
+    ≡ (line_key (left_after n s), line_value (left_after n s))
 unfolding lines_shown left_after
 shown-at zero n s d h = absurd (not-suc-le-zero h)
 shown-at (suc k) zero s d h = refl

@@ -101,7 +101,8 @@ verdict-found segs least count xs w clamped found = rw clamped at found
 
 -- several references, refused or taken
 module _ (R : Recorder) (xs : List ℕ) where
-  pub all-refused : (why : Refusal) → touch_all_verdict R xs ≡ Refused why → TouchedAll R xs (record { verdict = Refused why; recorder = R })
+  pub all-refused : (why : Refusal) → touch_all_verdict R xs ≡ Refused why
+      → TouchedAll R xs (record { verdict = Refused why; recorder = R })
   all-refused why e =
       record {
         verdict_is = sym e;

@@ -208,18 +208,19 @@ touched-one-by-one R xs r t v valid e =
     )
 
 -- references that a recorder that stands for a sheet accepts leave the sheet's run within the limits, and a sheet of forms 1 to 3
-module _ (R : Recorder) (xs : List ℕ) (a : touch_all_verdict R xs ≡ Accepted) (v : SheetValue) (valid : Valid v) (e : R ≡ recorder_of v) where
-  can : Takable (length v.head.sizes) (length v.entries) xs
-  can = takable-of R xs a v valid e
+module _ (R : Recorder) (xs : List ℕ) (a : touch_all_verdict R xs ≡ Accepted) (v : SheetValue) (valid : Valid v) (e : R ≡ recorder_of v)
+  where
+    can : Takable (length v.head.sizes) (length v.entries) xs
+    can = takable-of R xs a v valid e
 
-  few : length v.entries + length xs ≤ most_steps
-  few = takable-few (length v.head.sizes) (length v.entries) xs can valid.run.steps_within
+    few : length v.entries + length xs ≤ most_steps
+    few = takable-few (length v.head.sizes) (length v.entries) xs can valid.run.steps_within
 
-  pub all-run : RunWithin (trace_of (appended v xs))
-  all-run = appended-run v valid xs can.segments few
+    pub all-run : RunWithin (trace_of (appended v xs))
+    all-run = appended-run v valid xs can.segments few
 
-  pub all_valid : v.form ≤ 3 → Valid (appended v xs)
-  all_valid early = appended-valid v valid xs can.segments few early
+    pub all_valid : v.form ≤ 3 → Valid (appended v xs)
+    all_valid early = appended-valid v valid xs can.segments few early
 
 -- a reference that is accepted is accepted as a list of one
 pub one-accepted : (R : Recorder) (x : ℕ) → touch_verdict R x ≡ Accepted → touch_all_verdict R (x ∷ []) ≡ Accepted

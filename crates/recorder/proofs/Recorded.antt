@@ -8,7 +8,7 @@ use Rattle.model.specs.Sums.{sum}
 use Rattle.model.specs.Traces.{segs, entry, refs_of}
 use Rattle.model.specs.Sheets.{SheetValue, Valid, trace_of}
 use Rattle.model.specs.declared.Verdict.TheVariants.{Accepted}
-use Rattle.model.proofs.Lists.{get_d_any}
+use Rattle.model.proofs.Lists.{get_or-any}
 use Rattle.buckets.specs.Buckets.{bucket_count, tally_of, no_bucket}
 use Rattle.figures.proofs.Filed.{counts_add_up}
 use Rattle.recorder.specs.Recorders.{recorder_of, started, touch_all_verdict}
@@ -16,7 +16,8 @@ use Rattle.recorder.proofs.Standing.{started-valid}
 use Rattle.recorder.proofs.Bulk.{verdict-of, takable-accepted}
 
 -- the counts of the buckets add up to the references
-pub counts_are : (v : SheetValue) → Valid v → sum bucket_count (λ k. (get_or (recorder_of v).buckets k no_bucket).count) ≡ refs_of (trace_of v)
+pub counts_are : (v : SheetValue) → Valid v → sum bucket_count (λ k. (get_or (recorder_of v).buckets k no_bucket).count)
+    ≡ refs_of (trace_of v)
 unfolding recorder_of tally_of
 counts_are v valid = counts_add_up v.head.rows valid.rows (trace_of v)
 
@@ -27,6 +28,6 @@ sheet-accepted v valid whole =
     verdict-of (recorder_of (started v)) v.entries (started v) (started-valid v valid) refl
     ∙ takable-accepted (length v.head.sizes) 0 v.entries
     (record {
-      segments = λ t lt. rw (get_d_any v.entries t 0 (length v.head.sizes) lt) (whole t lt);
+      segments = λ t lt. rw (get_or-any v.entries t 0 (length v.head.sizes) lt) (whole t lt);
       room = λ t lt. omega (arith, valid.run.steps_within);
     })

@@ -17,7 +17,7 @@ use Rattle.model.specs.Values.{padded, zero_rows, head_of}
 use Rattle.model.specs.declared.PriceRow.{PriceRow}
 use Rattle.model.specs.declared.Refusal.TheVariants.{RecorderFull}
 use Rattle.model.specs.declared.Verdict.TheVariants.{Accepted, Refused}
-use Rattle.model.proofs.Lists.{get_d_any}
+use Rattle.model.proofs.Lists.{get_or-any}
 use Rattle.model.proofs.Warm.{warm-few}
 use Rattle.buckets.specs.inner.Pass.{Roomy, passed_after, passed_of}
 use Rattle.buckets.specs.inner.Search.{load_prices, memory_prices, RowsOf}
@@ -104,7 +104,7 @@ appended-each P xs ys d e first second t l = at (ltb t (length xs)) refl
         let j = t - length xs in
         let same : t ≡ length xs + j = omega (arith, ltb-false t (length xs) f) in
         let lt : j < length ys = omega (arith, length-append xs ys) in
-        rw (same, get_or-append-add xs ys j d, get_d_any ys j d e lt) (second j lt)
+        rw (same, get_or-append-add xs ys j d, get_or-any ys j d e lt) (second j lt)
 
 -- an entry of a step: a segment, or idle
 abbrev Entry : SheetValue → ℕ → Type 0

@@ -118,7 +118,8 @@ module _ (T : Trace) (fresh : (i : ℕ) → T.start i ≡ false) where
   looked-bound =
       omega (
         arith,
-        sum-le (steps T) (touching T (λ t i. looked_in (recency T t) (distance T t i))) (λ t. distinct T (steps T) * touching T (λ t i. 1) t)
+        sum-le (steps T) (touching T (λ t i. looked_in (recency T t) (distance T t i)))
+            (λ t. distinct T (steps T) * touching T (λ t i. 1) t)
             (λ t lt. each t (list-within t lt) (ltb (entry T t) (segs T)) refl),
         sum-mul (distinct T (steps T)) (steps T) (touching T (λ t i. 1)),
       )

@@ -62,8 +62,8 @@ table =
     ∷ []
 
 pub table-holds : all_hold table ≡ true
-unfolding all_hold same table listed tabulate sum touching later unreferenced has place_of without recency distance lru_misses entries_looked
-    distinct refs_by reloaded memory lru_simulated sooner least_recent replaced swapped
+unfolding all_hold same table listed tabulate sum touching later unreferenced has place_of without recency distance lru_misses
+    entries_looked distinct refs_by reloaded memory lru_simulated sooner least_recent replaced swapped
 table-holds = refl
 
 -- ---- by time

@@ -57,10 +57,10 @@ after : list_after sheet (old 5 ∷ old 6 ∷ old 7 ∷ old 8 ∷ []) ++ list_af
     ∷ old 5
     ∷ old 6
     ∷ []
-unfolding bytes sheet bad row old list_after sheet_after same_bytes all_digits value_from is_number split_at after_key value_line number_line
-    number_lines sizes_part prices_part tables_part head_part refs_part plain_part run_part body_part sheet_part named_form read_forms kind_line row_line
-    row_lines misses volume load optmem opttotal optocc wsmem wsocc mean kept ref_cost ref_volume smaller row_figures listed sum tabulate
-    touching later unreferenced
+unfolding bytes sheet bad row old list_after sheet_after same_bytes all_digits value_from is_number split_at after_key value_line
+    number_line number_lines sizes_part prices_part tables_part head_part refs_part plain_part run_part body_part sheet_part named_form
+    read_forms kind_line row_line row_lines misses volume load optmem opttotal optocc wsmem wsocc mean kept ref_cost ref_volume smaller
+    row_figures listed sum tabulate touching later unreferenced
 after = refl
 
 -- the number, and how many records were written
@@ -68,7 +68,7 @@ answered : List ℕ → ℕ → List ℕ
 answered s room = verdict_number (list_answer s (replicate room (old 5))).verdict ∷ (list_answer s (replicate room (old 5))).length ∷ []
 
 answers : answered sheet 4 ++ answered sheet 2 ++ answered sheet 1 ++ answered bad 1 ≡ 0 ∷ 2 ∷ 0 ∷ 2 ∷ 11 ∷ 0 ∷ 3 ∷ 0 ∷ []
-unfolding bytes sheet bad row old answered list_answer sheet_answer same_bytes all_digits value_from is_number split_at after_key value_line
-    number_line number_lines sizes_part prices_part tables_part head_part refs_part plain_part run_part body_part sheet_part named_form read_forms
-    kind_line row_line row_lines
+unfolding bytes sheet bad row old answered list_answer sheet_answer same_bytes all_digits value_from is_number split_at after_key
+    value_line number_line number_lines sizes_part prices_part tables_part head_part refs_part plain_part run_part body_part sheet_part
+    named_form read_forms kind_line row_line row_lines
 answers = refl

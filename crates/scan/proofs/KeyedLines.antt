@@ -13,7 +13,8 @@ use lib.ListN.{length, take, drop, length-take, length-drop}
 use lib.Seq.{drop-drop}
 use Rattle.model.specs.declared.Refusal.TheVariants.{LineMalformed}
 use Rattle.text.specs.Keys.{line_feed}
-use Rattle.sheet.specs.Lines.{Parsed, refused, and_then, Split, parts, none, and_before, split_at, same_bytes, after_key, of_line, value_line}
+use Rattle.sheet.specs.Lines.{Parsed, refused, and_then, Split, parts, none, and_before, split_at, same_bytes, after_key, of_line}
+use Rattle.sheet.specs.Lines.{value_line}
 use Rattle.scan.specs.inner.AtPlace.{split_at_place, parsed_value, ValueWithin}
 use Rattle.scan.specs.declared.numbers.ValueAt.{ValueAt}
 use Rattle.scan.specs.declared.numbers.ValueAt.TheVariants.{Value, Missing}

@@ -7,10 +7,11 @@ use mathlib.Core.List.{List, ◌++◌, append_assoc}
 use native.Mathlib.Omega.{arith}
 use lib.Dec.{eqb}
 use lib.ListN.{length, get_or, take, drop, length-append, length-drop, length-replicate, take-append-drop, get_or-append}
-use lib.Seq.{paste, ext_get_or, take_all, take-take, take-append-le, drop_at, drop-drop, length-take-le, length-paste, get_or-take, get_or-drop}
+use lib.Seq.{paste, ext_get_or, take_all, take-take, take-append-le, drop_at, drop-drop, length-take-le, length-paste, get_or-take}
+use lib.Seq.{get_or-drop}
 use Rattle.model.specs.Traces.{Trace, segs, steps}
 use Rattle.model.specs.Decisions.{held_byte, held_bytes, decided_held, decided_schedule, decisions_of}
-use Rattle.model.proofs.Tables.{get_d_tabulate}
+use Rattle.model.proofs.Tables.{get_or-tabulate}
 use Rattle.model.proofs.Decisions.{length-held_bytes, next as next_at, next-step, next-end}
 use Rattle.schedule.specs.inner.Segments.{segment_of}
 use Rattle.schedule.specs.inner.Writing.{no_segments, step_with}
@@ -54,7 +55,7 @@ schedule-part n S rest t lt =
         get_or-take 32 (drop (32 * t) whole) j 0 lj
         ∙ get_or-drop (32 * t) whole j 0
         ∙ get_or-append (held_bytes n S) rest 0 (32 * t + j) (omega (arith, length-held_bytes n S))
-        ∙ get_d_tabulate (32 * n) (held_byte S) (32 * t + j) 0 (omega arith)
+        ∙ get_or-tabulate (32 * n) (held_byte S) (32 * t + j) 0 (omega arith)
         ∙ rw (place, byte, bytes_of-at (S t) j lj)
 
 module _ (T : Trace) (decisions : List Bool) where
@@ -181,7 +182,8 @@ module _ (segments : ℕ) (refs : List ℕ) (decisions : List Bool) (old : List 
       }
 
   pub filling_end : (next out : List ℕ) (t : ℕ) → t ≡ 0 → Filling segments refs decisions old next out t
-      → (T : Trace) → segs T ≡ segments → T.entries ≡ refs → out ≡ decided_schedule T (decisions_of decisions) ++ drop (32 * length refs) old
+      → (T : Trace) → segs T ≡ segments → T.entries ≡ refs → out ≡ decided_schedule T (decisions_of decisions) ++ drop (32 * length refs)
+      old
   filling_end next out t e v T es er =
       let n : length T.entries ≡ length refs = ap length er in
       rw (n, e) at (v.filled_of T es er).out_is

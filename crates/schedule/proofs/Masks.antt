@@ -9,7 +9,7 @@ use lib.ListN.{length, get_or, set, length-replicate, get_or-replicate}
 use lib.Seq.{ext_get_or}
 use borrow.Author.Tests.{eqb-true, eqb-false, eq-eqb, ne_eqb, lt-ltb, le-ltb, ltb-true, ltb-false}
 use Rattle.model.specs.Sums.{tabulate}
-use Rattle.model.proofs.Tables.{length-tabulate, get_d_tabulate, tabulate-eq, tabulate-set}
+use Rattle.model.proofs.Tables.{length-tabulate, get_or-tabulate, tabulate-eq, tabulate-set}
 use Rattle.schedule.specs.inner.Writing.{no_masks, mask_byte, mask_table}
 
 -- what the table of masks holds
@@ -18,7 +18,7 @@ unfolding mask_table
 mask_table-at i j li lj =
     let row : (32 * i + j) / 32 ≡ i = omega arith in
     let column : (32 * i + j) % 32 ≡ j = omega arith in
-    get_d_tabulate 8224 (λ n. mask_byte (n / 32) (n % 32)) (32 * i + j) 0 (omega arith) ∙ rw (row, column)
+    get_or-tabulate 8224 (λ n. mask_byte (n / 32) (n % 32)) (32 * i + j) 0 (omega arith) ∙ rw (row, column)
 
 -- the table once the masks of the segments below i are in it
 unfoldable pub masks_below : ℕ → List ℕ
@@ -33,7 +33,7 @@ unfolding masks_below no_masks
 masks_below-start =
     ext_get_or 0 (masks_below 0) no_masks (length-masks_below 0 ∙ sym (length-replicate {A = ℕ} 8224 0))
     (λ n lt. let inside : n < 8224 = omega (arith, length-masks_below 0) in
-    get_d_tabulate 8224 (λ n. cond (ltb (n / 32) 0) (mask_byte (n / 32) (n % 32)) 0) n 0 inside
+    get_or-tabulate 8224 (λ n. cond (ltb (n / 32) 0) (mask_byte (n / 32) (n % 32)) 0) n 0 inside
     ∙ rw (le-ltb (n / 32) 0 (omega arith)) (sym (get_or-replicate {A = ℕ} 8224 n 0 0 inside)))
 
 pub masks_below-step : (i : ℕ) → i < 256 → set (masks_below i) (32 * i + i / 8) (2 ^ (i % 8)) ≡ masks_below (suc i)

@@ -14,7 +14,7 @@ use borrow.Author.Tests.{eqb-true, eqb-false, eq-eqb, ne_eqb}
 use Rattle.model.specs.Sums.{sum, tabulate}
 use Rattle.model.specs.Schedules.{bit}
 use Rattle.model.proofs.Sums.{sum-eq, term-le, last-or-below}
-use Rattle.model.proofs.Tables.{length-tabulate, get_d_tabulate, tabulate-eq}
+use Rattle.model.proofs.Tables.{length-tabulate, get_or-tabulate, tabulate-eq}
 use Rattle.model.proofs.Bits.{of_bits, bit-of_bits}
 use Rattle.schedule.specs.inner.Writing.{no_segments, mask_byte, masked, step_with}
 
@@ -60,7 +60,7 @@ length-bytes_of f = length-tabulate 32 (λ j. of_bits 8 (λ k. f (8 * j + k)))
 
 pub bytes_of-at : (f : ℕ → Bool) (j : ℕ) → j < 32 → get_or (bytes_of f) j 0 ≡ of_bits 8 (λ k. f (8 * j + k))
 unfolding bytes_of
-bytes_of-at f j lt = get_d_tabulate 32 (λ j. of_bits 8 (λ k. f (8 * j + k))) j 0 lt
+bytes_of-at f j lt = get_or-tabulate 32 (λ j. of_bits 8 (λ k. f (8 * j + k))) j 0 lt
 
 -- f with another answer at i
 abbrev pub change : (ℕ → Bool) → ℕ → Bool → ℕ → Bool
@@ -133,4 +133,4 @@ length-step_with step i on = length-tabulate 32 (λ j. masked (get_or step j 0) 
 
 pub step_with-at : (step : List ℕ) (i on j : ℕ) → j < 32 → get_or (step_with step i on) j 0 ≡ masked (get_or step j 0) (mask_byte i j) on
 unfolding step_with
-step_with-at step i on j lt = get_d_tabulate 32 (λ j. masked (get_or step j 0) (mask_byte i j) on) j 0 lt
+step_with-at step i on j lt = get_or-tabulate 32 (λ j. masked (get_or step j 0) (mask_byte i j) on) j 0 lt

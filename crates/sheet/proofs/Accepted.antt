@@ -10,7 +10,8 @@ use borrow.Author.Tests.{le-leb, lt-leb, leb-true, leb-false, lt-ltb, ltb-true, 
 use lib.Dec.{leb, ltb}
 use lib.ListN.{length, get_or}
 use Rattle.decimal.proofs.Digits.{both}
-use Rattle.model.specs.Sheets.{SheetValue, Valid, WarmWithin, row_at, idle, newest_form, form_bytes, most_steps, largest_size, largest_price}
+use Rattle.model.specs.Sheets.{SheetValue, Valid, WarmWithin, row_at, idle, newest_form, form_bytes, most_steps, largest_size}
+use Rattle.model.specs.Sheets.{largest_price}
 use Rattle.model.specs.declared.PriceRow.{PriceRow}
 use Rattle.model.specs.declared.Refusal.{Refusal}
 use Rattle.model.specs.declared.Refusal.TheVariants.{SheetTooLong}
@@ -94,7 +95,8 @@ readable-valid lo hi new v c =
     let size = each_at (From 1 largest_size) 0 none v.head.sizes c.sizes_fit in
     let (steps, entry) = entries-within (leb 2 v.form) (length v.head.sizes) v.entries c.segs_fit.0 c.entries_fit in
     let row = each_at RowFits zero_row none v.head.rows c.prices_fit in
-    let price : (r : ℕ) → r < length v.head.rows → ((row_at v r).h ≤ largest_price) × (1 ≤ (row_at v r).d) × ((row_at v r).d ≤ largest_price) =
+    let price : (r : ℕ) → r < length v.head.rows → ((row_at v r).h ≤ largest_price) × (1 ≤ (row_at v r).d) ×
+    ((row_at v r).d ≤ largest_price) =
     λ r l. prices-within (row_at v r).h (row_at v r).d (row r l).0 in
     record {
       some_form = c.some_form;

@@ -15,7 +15,8 @@ use Rattle.model.specs.declared.PriceRow.{PriceRow}
 use Rattle.decimal.specs.Decimal.{all_digits, value_from, is_number, written, written_in}
 use Rattle.sheet.specs.Answers.{answer_of}
 use Rattle.sheet.specs.Lines.{split_at, after_key, value_line, number_line, same_bytes, number_lines}
-use Rattle.text.specs.Keys.{form_key, kind_key, a_key, segs_key, size_key, rows_key, row_key, warm_key, hold_key, steps_key, refs_key, ref_key}
+use Rattle.text.specs.Keys.{form_key, kind_key, a_key, segs_key, size_key, rows_key, row_key, warm_key, hold_key, steps_key, refs_key}
+use Rattle.text.specs.Keys.{ref_key}
 use Rattle.text.specs.Keys.{kind_word}
 use Rattle.sheet.specs.Reading.{Outcome, accepted, rejected, named_form, read_forms, read_sheet}
 use Rattle.sheet.specs.Touches.{touch_line, touch_lines, placed_from, touches_from}
@@ -50,13 +51,14 @@ value-of-listing =
     }
 
 listing-read : read_sheet listing ≡ accepted value-of-listing
-unfolding bytes listing value-of-listing read_forms named_form sheet_part body_part head_part tables_part run_part sizes_part prices_part refs_part
-    plain_part kind_line number_lines row_line row_lines split_at after_key value_line number_line same_bytes all_digits value_from is_number
+unfolding bytes listing value-of-listing read_forms named_form sheet_part body_part head_part tables_part run_part sizes_part prices_part
+    refs_part plain_part kind_line number_lines row_line row_lines split_at after_key value_line number_line same_bytes all_digits
+    value_from is_number
 listing-read = refl
 
 listing-written : sheet_text value-of-listing ≡ listing
-unfolding bytes listing value-of-listing sheet_text sheet_part body_part head_part tables_part run_part sizes_part prices_part refs_part plain_part
-    lines_text written written_in
+unfolding bytes listing value-of-listing sheet_text sheet_part body_part head_part tables_part run_part sizes_part prices_part refs_part
+    plain_part lines_text written written_in
 listing-written = refl
 
 -- ---- the limits
@@ -87,7 +89,12 @@ price h d = record { h = h; d = d }
 -- the text of a sheet of kind time with a, the sizes, the rows and the references
 text_of : ℕ → List ℕ → List PriceRow → List ℕ → List ℕ
 text_of a sizes rows refs =
-    sheet_text (record { form = 1; head = record { kind = Time; a = a; sizes = sizes; rows = rows; warm = [] }; entries = refs; marks = [] })
+    sheet_text (record {
+      form = 1;
+      head = record { kind = Time; a = a; sizes = sizes; rows = rows; warm = [] };
+      entries = refs;
+      marks = [];
+    })
 
 -- the lines of such a sheet up to segs=, up to rows= and up to refs= with these numbers, and nothing after them. Where the number is
 -- within its range the refusal is 2, of the missing next line
@@ -196,9 +203,9 @@ first_refusals =
     ∷ []
 
 pub first-refusals-hold : all_read first_refusals ≡ true
-unfolding bytes outcome_number ◌reads◌ all_read after_row first_refusals read_forms named_form sheet_part body_part head_part tables_part run_part
-    sizes_part prices_part refs_part plain_part kind_line number_lines row_line row_lines split_at after_key value_line number_line same_bytes
-    all_digits value_from is_number
+unfolding bytes outcome_number ◌reads◌ all_read after_row first_refusals read_forms named_form sheet_part body_part head_part tables_part
+    run_part sizes_part prices_part refs_part plain_part kind_line number_lines row_line row_lines split_at after_key value_line
+    number_line same_bytes all_digits value_from is_number
 first-refusals-hold = refl
 
 -- what reading answers: the number, and the form, the segments, the rows and the steps of the sheet, all of them 0 where it is refused
@@ -212,9 +219,9 @@ answered s =
     ∷ []
 
 reading-answers : answered listing ++ answered [] ≡ 0 ∷ 1 ∷ 2 ∷ 2 ∷ 6 ∷ 2 ∷ 0 ∷ 0 ∷ 0 ∷ 0 ∷ []
-unfolding bytes listing answered answer_of sheet_of head_of empty_sheet empty_head read_forms named_form sheet_part body_part head_part tables_part
-    run_part sizes_part prices_part refs_part plain_part kind_line number_lines row_line row_lines split_at after_key value_line number_line same_bytes
-    all_digits value_from is_number
+unfolding bytes listing answered answer_of sheet_of head_of empty_sheet empty_head read_forms named_form sheet_part body_part head_part
+    tables_part run_part sizes_part prices_part refs_part plain_part kind_line number_lines row_line row_lines split_at after_key
+    value_line number_line same_bytes all_digits value_from is_number
 reading-answers = refl
 
 -- ---- the warm segments of form 3
@@ -257,15 +264,15 @@ warmed warm =
 
 -- a sheet of form 3 without warm segments and one with two, read and written
 cold-read : read_sheet (sheet_with 3 (holding 0 [] ++ one_touch)) ≡ accepted (warmed [])
-unfolding price sheet_with holding one_touch warmed read_forms named_form sheet_part body_part head_part tables_part run_part sizes_part prices_part
-    warm_part steps_part kind_line number_lines row_line row_lines hold_line hold_lines touch_line touch_lines placed_from split_at after_key
-    value_line number_line same_bytes all_digits value_from is_number lines_text written written_in
+unfolding price sheet_with holding one_touch warmed read_forms named_form sheet_part body_part head_part tables_part run_part sizes_part
+    prices_part warm_part steps_part kind_line number_lines row_line row_lines hold_line hold_lines touch_line touch_lines placed_from
+    split_at after_key value_line number_line same_bytes all_digits value_from is_number lines_text written written_in
 cold-read = refl
 
 warm-read : read_sheet (sheet_with 3 (holding 2 (0 ∷ 2 ∷ []) ++ one_touch)) ≡ accepted (warmed (0 ∷ 2 ∷ []))
-unfolding price sheet_with holding one_touch warmed read_forms named_form sheet_part body_part head_part tables_part run_part sizes_part prices_part
-    warm_part steps_part kind_line number_lines row_line row_lines hold_line hold_lines touch_line touch_lines placed_from split_at after_key
-    value_line number_line same_bytes all_digits value_from is_number lines_text written written_in
+unfolding price sheet_with holding one_touch warmed read_forms named_form sheet_part body_part head_part tables_part run_part sizes_part
+    prices_part warm_part steps_part kind_line number_lines row_line row_lines hold_line hold_lines touch_line touch_lines placed_from
+    split_at after_key value_line number_line same_bytes all_digits value_from is_number lines_text written written_in
 warm-read = refl
 
 warm-written : sheet_text (warmed (0 ∷ 2 ∷ [])) ≡ sheet_with 3 (holding 2 (0 ∷ 2 ∷ []) ++ one_touch)
@@ -300,23 +307,23 @@ warmings =
     ∷ []
 
 pub warmings-hold : all_read warmings ≡ true
-unfolding outcome_number ◌reads◌ all_read sheet_with holding held_letter held_zero one_touch warmings read_forms named_form sheet_part body_part
-    head_part tables_part run_part sizes_part prices_part warm_part steps_part kind_line number_lines row_line row_lines hold_line hold_lines
-    touch_line touch_lines placed_from split_at after_key value_line number_line same_bytes all_digits value_from is_number lines_text written
-    written_in
+unfolding outcome_number ◌reads◌ all_read sheet_with holding held_letter held_zero one_touch warmings read_forms named_form sheet_part
+    body_part head_part tables_part run_part sizes_part prices_part warm_part steps_part kind_line number_lines row_line row_lines
+    hold_line hold_lines touch_line touch_lines placed_from split_at after_key value_line number_line same_bytes all_digits value_from
+    is_number lines_text written written_in
 warmings-hold = refl
 
 -- a call that is not made for form 3 refuses such a sheet with 4 on the form line, one made for it alone a sheet of form 2
 not_taken : outcome_number (read_forms 1 2 (sheet_with 3 (holding 2 (1 ∷ 1 ∷ []) ++ one_touch))) ≡ 4
 unfolding outcome_number sheet_with holding one_touch read_forms named_form sheet_part body_part head_part tables_part run_part sizes_part
-    prices_part warm_part steps_part kind_line number_lines row_line row_lines hold_line hold_lines touch_line touch_lines placed_from split_at
-    after_key value_line number_line same_bytes all_digits value_from is_number lines_text written written_in
+    prices_part warm_part steps_part kind_line number_lines row_line row_lines hold_line hold_lines touch_line touch_lines placed_from
+    split_at after_key value_line number_line same_bytes all_digits value_from is_number lines_text written written_in
 not_taken = refl
 
 taken-alone : outcome_number (read_forms 3 3 (sheet_with 2 one_touch)) ≡ 4
-unfolding outcome_number sheet_with one_touch read_forms named_form sheet_part body_part head_part tables_part run_part sizes_part prices_part
-    warm_part steps_part kind_line number_lines row_line row_lines hold_line hold_lines touch_line touch_lines placed_from split_at after_key
-    value_line number_line same_bytes all_digits value_from is_number lines_text written written_in
+unfolding outcome_number sheet_with one_touch read_forms named_form sheet_part body_part head_part tables_part run_part sizes_part
+    prices_part warm_part steps_part kind_line number_lines row_line row_lines hold_line hold_lines touch_line touch_lines placed_from
+    split_at after_key value_line number_line same_bytes all_digits value_from is_number lines_text written written_in
 taken-alone = refl
 
 -- ---- the letter w of form 4
@@ -353,27 +360,29 @@ marked refs marks =
 
 -- one touch that modifies; and two touches of four steps, of which the second does: read, with a mark for each step, and written
 one-read : read_sheet (marking 4 1 (0 at 1 followed w ∷ [])) ≡ accepted (marked (0 ∷ []) (true ∷ []))
-unfolding w ww ◌at◌followed◌ price sheet_with holding touching marking marked read_forms named_form sheet_part body_part head_part tables_part
-    run_part sizes_part prices_part warm_part steps_part kind_line number_lines row_line row_lines hold_line hold_lines touch_line touch_lines
-    placed_from split_at after_key value_line number_line same_bytes all_digits value_from is_number lines_text written written_in
+unfolding w ww ◌at◌followed◌ price sheet_with holding touching marking marked read_forms named_form sheet_part body_part head_part
+    tables_part run_part sizes_part prices_part warm_part steps_part kind_line number_lines row_line row_lines hold_line hold_lines
+    touch_line touch_lines placed_from split_at after_key value_line number_line same_bytes all_digits value_from is_number lines_text
+    written written_in
 one-read = refl
 
 one_written : sheet_text (marked (0 ∷ []) (true ∷ [])) ≡ marking 4 1 (0 at 1 followed w ∷ [])
-unfolding w ww ◌at◌followed◌ price sheet_with holding touching marking marked touches_from sheet_text sheet_part body_part head_part tables_part
-    run_part sizes_part prices_part warm_part steps_part lines_text written written_in
+unfolding w ww ◌at◌followed◌ price sheet_with holding touching marking marked touches_from sheet_text sheet_part body_part head_part
+    tables_part run_part sizes_part prices_part warm_part steps_part lines_text written written_in
 one_written = refl
 
 second-read : read_sheet (marking 4 4 (2 at 2 followed [] ∷ 1 at 3 followed w ∷ []))
     ≡ accepted (marked (idle ∷ 2 ∷ 1 ∷ idle ∷ []) (false ∷ false ∷ true ∷ false ∷ []))
-unfolding w ww ◌at◌followed◌ price sheet_with holding touching marking marked read_forms named_form sheet_part body_part head_part tables_part
-    run_part sizes_part prices_part warm_part steps_part kind_line number_lines row_line row_lines hold_line hold_lines touch_line touch_lines
-    placed_from split_at after_key value_line number_line same_bytes all_digits value_from is_number lines_text written written_in
+unfolding w ww ◌at◌followed◌ price sheet_with holding touching marking marked read_forms named_form sheet_part body_part head_part
+    tables_part run_part sizes_part prices_part warm_part steps_part kind_line number_lines row_line row_lines hold_line hold_lines
+    touch_line touch_lines placed_from split_at after_key value_line number_line same_bytes all_digits value_from is_number lines_text
+    written written_in
 second-read = refl
 
 second-written : sheet_text (marked (idle ∷ 2 ∷ 1 ∷ idle ∷ []) (false ∷ false ∷ true ∷ false ∷ []))
     ≡ marking 4 4 (2 at 2 followed [] ∷ 1 at 3 followed w ∷ [])
-unfolding w ww ◌at◌followed◌ price sheet_with holding touching marking marked touches_from sheet_text sheet_part body_part head_part tables_part
-    run_part sizes_part prices_part warm_part steps_part lines_text written written_in
+unfolding w ww ◌at◌followed◌ price sheet_with holding touching marking marked touches_from sheet_text sheet_part body_part head_part
+    tables_part run_part sizes_part prices_part warm_part steps_part lines_text written written_in
 second-written = refl
 
 -- the letter stands once, lower-case, right after the step's digits, and in form 4 alone: else 3. The step is read without it: 4 and 16
@@ -410,8 +419,8 @@ markings =
     ∷ []
 
 pub markings-hold : all_read markings ≡ true
-unfolding outcome_number ◌reads◌ all_read to_segs to_rows to_refs refs_part plain_part markings w ww ◌at◌followed◌ price sheet_with holding
-    touching marking marked read_forms named_form sheet_part body_part head_part tables_part run_part sizes_part prices_part warm_part steps_part
-    kind_line number_lines row_line row_lines hold_line hold_lines touch_line touch_lines placed_from split_at after_key value_line number_line
-    same_bytes all_digits value_from is_number lines_text written written_in
+unfolding outcome_number ◌reads◌ all_read to_segs to_rows to_refs refs_part plain_part markings w ww ◌at◌followed◌ price sheet_with
+    holding touching marking marked read_forms named_form sheet_part body_part head_part tables_part run_part sizes_part prices_part
+    warm_part steps_part kind_line number_lines row_line row_lines hold_line hold_lines touch_line touch_lines placed_from split_at
+    after_key value_line number_line same_bytes all_digits value_from is_number lines_text written written_in
 markings-hold = refl

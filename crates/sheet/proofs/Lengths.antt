@@ -18,7 +18,8 @@ use Rattle.model.specs.Sheets.{largest_a, most_segs, largest_size, most_rows, mo
 use Rattle.model.specs.declared.Kind.{Kind}
 use Rattle.model.specs.declared.Kind.TheVariants.{Time, Space}
 use Rattle.model.specs.declared.PriceRow.{PriceRow}
-use Rattle.text.specs.Keys.{form_key, kind_key, a_key, segs_key, size_key, rows_key, warm_key, hold_key, steps_key, refs_key, ref_key, kind_word}
+use Rattle.text.specs.Keys.{form_key, kind_key, a_key, segs_key, size_key, rows_key, warm_key, hold_key, steps_key, refs_key, ref_key}
+use Rattle.text.specs.Keys.{kind_word}
 use Rattle.text.specs.Texts.{line_text, number_text, lines_text}
 use Rattle.text.proofs.Lengths.{number-within}
 use Rattle.text.proofs.Runs.{Each, each_map, lines-length}
@@ -307,7 +308,8 @@ filled-warm true n =
 filled-warm false n = refl
 
 -- its entries fit in each form
-filled-entries : (later : Bool) (n k : ℕ) → 256 ≤ n → k ≤ most_steps → EntriesFit later (length (replicate n largest_size)) (replicate k 255)
+filled-entries : (later : Bool) (n k : ℕ) → 256 ≤ n → k ≤ most_steps
+    → EntriesFit later (length (replicate n largest_size)) (replicate k 255)
 filled-entries true n k n₁ k₂ = (
   rw length-replicate (omega arith),
   each_same (EntryFits (length (replicate n largest_size))) 255 (λ prev. inl (rw length-replicate (omega arith))) k none,
@@ -357,7 +359,8 @@ largest-valid form f₁ f₂ =
 -- n lines of one number, each of w bytes
 same_lines : (key : List ℕ) (x w n : ℕ) → length (number_text key x) ≡ w → length (lines_text (number_text key) (replicate n x)) ≡ n * w
 same_lines key x w n e =
-    let l = lines-length (number_text key) Exact w w (λ prev y f. f) none (replicate n x) (each_same Exact x (λ prev. omega arith) n none) in
+    let l = lines-length (number_text key) Exact w w (λ prev y f. f) none (replicate n x)
+    (each_same Exact x (λ prev. omega arith) n none) in
     omega (arith, rw length-replicate at l)
   where
     Exact : Option ℕ → ℕ → Type 0
@@ -498,7 +501,8 @@ filled-first n m k h g =
 
 filled-later : (form n m k : ℕ) → leb 2 form ≡ true → m ≤ most_rows → n ≤ 10000 → k < 10000 → length (sheet_text (filled form n m k))
     ≡ length (number_text form_key form)
-    + (11 + (6 + (length (number_text segs_key n) + (n * 10 + (length (number_text rows_key m) + (m * 16 + warmest_length (leb 3 form) n)))))
+    + (11 + (6 + (length (number_text segs_key
+    n) + (n * 10 + (length (number_text rows_key m) + (m * 16 + warmest_length (leb 3 form) n)))))
     + (length (number_text steps_key k) + (length (number_text refs_key k) + (touch_width (leb 4 form) * k + (digits_below (suc k) - 1)))))
 unfolding filled
 filled-later form n m k e h g l =

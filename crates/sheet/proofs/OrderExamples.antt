@@ -47,9 +47,9 @@ text1 =
     "kind=time\na=12\nsegs=3\nsize=4095\nsize=7\nsize=30\nrows=2\nrow=0/65535\nrow=65535/1\nrefs=4\nref=2\nref=0\nref=2\nref=1\n"
 
 form-1 : BothWays form1 text1
-unfolding form1 text1 bytes read_forms named_form sheet_part body_part head_part tables_part run_part sizes_part prices_part refs_part plain_part
-    kind_line number_lines row_line row_lines split_at after_key value_line number_line same_bytes all_digits value_from is_number sheet_text
-    lines_text written written_in
+unfolding form1 text1 bytes read_forms named_form sheet_part body_part head_part tables_part run_part sizes_part prices_part refs_part
+    plain_part kind_line number_lines row_line row_lines split_at after_key value_line number_line same_bytes all_digits value_from
+    is_number sheet_text lines_text written written_in
 form-1 = record { written_so = refl; read_so = refl }
 
 -- ---- form 2: form= first, steps= before refs=, and each touch with its step
@@ -71,9 +71,9 @@ text2 =
     "form=2\nkind=space\na=255\nsegs=2\nsize=1\nsize=20\nrows=1\nrow=10/3\nsteps=12\nrefs=3\nref=1@1\nref=0@4\nref=1@11\n"
 
 form-2 : BothWays form2 text2
-unfolding form2 text2 bytes read_forms named_form sheet_part body_part head_part tables_part run_part sizes_part prices_part steps_part kind_line
-    number_lines row_line row_lines touch_line touch_lines placed_from touches_from split_at after_key value_line number_line same_bytes all_digits
-    value_from is_number sheet_text lines_text written written_in
+unfolding form2 text2 bytes read_forms named_form sheet_part body_part head_part tables_part run_part sizes_part prices_part steps_part
+    kind_line number_lines row_line row_lines touch_line touch_lines placed_from touches_from split_at after_key value_line number_line
+    same_bytes all_digits value_from is_number sheet_text lines_text written written_in
 form-2 = record { written_so = refl; read_so = refl }
 
 -- ---- form 3: warm= and hold= between the rows and steps=
@@ -100,9 +100,9 @@ text3 =
     ++ bytes "steps=3\nrefs=2\nref=2@1\nref=1@3\n"
 
 form_3 : BothWays form3 text3
-unfolding form3 text3 bytes read_forms named_form sheet_part body_part head_part tables_part run_part sizes_part prices_part warm_part steps_part
-    kind_line number_lines row_line row_lines hold_line hold_lines touch_line touch_lines placed_from touches_from split_at after_key value_line
-    number_line same_bytes all_digits value_from is_number sheet_text lines_text written written_in
+unfolding form3 text3 bytes read_forms named_form sheet_part body_part head_part tables_part run_part sizes_part prices_part warm_part
+    steps_part kind_line number_lines row_line row_lines hold_line hold_lines touch_line touch_lines placed_from touches_from split_at
+    after_key value_line number_line same_bytes all_digits value_from is_number sheet_text lines_text written written_in
 form_3 = record { written_so = refl; read_so = refl }
 
 -- ---- form 4: the letter w after the step of a touch that modifies
@@ -123,7 +123,7 @@ text4 =
     ++ bytes "steps=4\nrefs=3\nref=0@1w\nref=1@2\nref=0@4w\n"
 
 form-4 : BothWays form4 text4
-unfolding form4 text4 bytes read_forms named_form sheet_part body_part head_part tables_part run_part sizes_part prices_part warm_part steps_part
-    kind_line number_lines row_line row_lines hold_line hold_lines touch_line touch_lines placed_from touches_from split_at after_key value_line
-    number_line same_bytes all_digits value_from is_number sheet_text lines_text written written_in
+unfolding form4 text4 bytes read_forms named_form sheet_part body_part head_part tables_part run_part sizes_part prices_part warm_part
+    steps_part kind_line number_lines row_line row_lines hold_line hold_lines touch_line touch_lines placed_from touches_from split_at
+    after_key value_line number_line same_bytes all_digits value_from is_number sheet_text lines_text written written_in
 form-4 = record { written_so = refl; read_so = refl }

@@ -6,7 +6,8 @@ use mathlib.Core.List.{List, [], ◌∷◌, ◌++◌, append-nil, map}
 use lib.Dec.{leb}
 use lib.ListN.{length}
 use Rattle.decimal.specs.Decimal.{written}
-use Rattle.text.specs.Keys.{kind_key, a_key, segs_key, size_key, rows_key, row_key, warm_key, hold_key, steps_key, refs_key, ref_key, kind_word}
+use Rattle.text.specs.Keys.{kind_key, a_key, segs_key, size_key, rows_key, row_key, warm_key, hold_key, steps_key, refs_key, ref_key}
+use Rattle.text.specs.Keys.{kind_word}
 use Rattle.text.specs.Texts.{line_text, number_text, lines_text}
 use Rattle.text.proofs.Runs.{lines-append, lines-map}
 use Rattle.model.specs.Sheets.{HeadValue, SheetValue}

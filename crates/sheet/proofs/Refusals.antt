@@ -131,7 +131,8 @@ row-refuses prev s = stepping (value_line row_key s) _ (line-refuses row_key s) 
 -- the line ref= of form 2 on
 touch-refuses : (letters : Bool) (segs steps before : ℕ) (s : List ℕ) → Refuses (touch_line letters segs steps before s)
 unfolding touch_line
-touch-refuses letters segs steps before s = stepping (value_line ref_key s) _ (line-refuses ref_key s) λ v rest. go (split_at at_sign v) rest
+touch-refuses letters segs steps before s = stepping (value_line ref_key s) _ (line-refuses ref_key s) λ v rest. go (split_at at_sign v)
+    rest
   where
     of : (x y : List ℕ) (modifies : Bool) (rest : List ℕ) → Refuses (touch_of segs steps before x y modifies rest)
     of x y modifies rest =
@@ -193,7 +194,8 @@ head-refuses taken later s =
     stepping _ _ (stepping (kind_line s) _ (kind-refuses s) (λ kind rest. testing taken _ _ (reading kind rest) beyond)) λ kind s₁.
     stepping (number_line a_key 0 largest_a s₁) _ (number-refuses a_key 0 largest_a s₁) λ a s₂.
     stepping (sizes_part.reads s₂) _
-    (stepping (number_line segs_key 1 most_segs s₂) _ (number-refuses segs_key 1 most_segs s₂) (numbers-refuse size_key 1 largest_size)) λ sizes
+    (stepping (number_line segs_key 1 most_segs s₂) _ (number-refuses segs_key 1 most_segs s₂) (numbers-refuse size_key 1 largest_size))
+    λ sizes
     s₃.
     stepping (prices_part.reads s₃) _
     (stepping (number_line rows_key 1 most_rows s₃) _ (number-refuses rows_key 1 most_rows s₃) rows-refuse) λ rows s₄.
@@ -208,7 +210,8 @@ entries-refuse true letters segs s =
     stepping (number_line refs_key 0 steps s₁) _ (number-refuses refs_key 0 steps s₁) (touches-refuse letters segs steps)
 entries-refuse false letters segs s =
     stepping ((refs_part segs).reads s) _
-    (stepping (number_line refs_key 0 most_steps s) _ (number-refuses refs_key 0 most_steps s) (numbers-refuse ref_key 0 (segs - 1))) λ refs s₁.
+    (stepping (number_line refs_key 0 most_steps s) _ (number-refuses refs_key 0 most_steps s) (numbers-refuse ref_key 0 (segs - 1)))
+    λ refs s₁.
     reading _ s₁
 
 -- and the lines of a sheet

@@ -38,7 +38,8 @@ written-then-read lo hi v l h c =
     rw (n, le-ltb (form_bytes v.form) (length (sheet_text v)) (text-within v c), e)
 
 -- what a call that takes some forms accepts, one that takes every form does, with the same value
-pub every-form : (lo hi : ℕ) → hi ≤ newest_form → (s : List ℕ) (v : SheetValue) → read_forms lo hi s ≡ accepted v → read_sheet s ≡ accepted v
+pub every-form : (lo hi : ℕ) → hi ≤ newest_form → (s : List ℕ) (v : SheetValue) → read_forms lo hi s ≡ accepted v → read_sheet s
+    ≡ accepted v
 every-form lo hi new s v e =
     let c = accepted-valid lo hi new s v e in
     ap read_sheet (sym (read-then-written lo hi s v e)) ∙ written-then-read 1 newest_form v c.some_form c.form_within c

@@ -10,11 +10,13 @@ use borrow.Author.Tests.{le-leb, leb-true, leb-false}
 use lib.Dec.{eqb, leb}
 use lib.ListN.{length, take}
 use Rattle.decimal.specs.Decimal.{written}
-use Rattle.text.specs.Keys.{line_feed, form_key, kind_key, a_key, segs_key, size_key, rows_key, row_key, warm_key, hold_key, steps_key, refs_key}
+use Rattle.text.specs.Keys.{line_feed, form_key, kind_key, a_key, segs_key, size_key, rows_key, row_key, warm_key, hold_key, steps_key}
+use Rattle.text.specs.Keys.{refs_key}
 use Rattle.text.specs.Keys.{ref_key, kind_word}
 use Rattle.text.specs.Texts.{line_text, number_text, lines_text}
 use Rattle.text.proofs.Runs.{Each, lines-map}
-use Rattle.model.specs.Sheets.{HeadValue, SheetValue, idle, marks_of, newest_form, largest_a, most_segs, largest_size, most_rows, most_steps}
+use Rattle.model.specs.Sheets.{HeadValue, SheetValue, idle, marks_of, newest_form, largest_a, most_segs, largest_size, most_rows}
+use Rattle.model.specs.Sheets.{most_steps}
 use Rattle.model.specs.declared.Kind.{Kind}
 use Rattle.model.specs.declared.Kind.TheVariants.{Time, Space}
 use Rattle.model.specs.declared.Refusal.TheVariants.{LineMalformed, OutOfRange}
@@ -143,7 +145,8 @@ TouchesFit letters segs steps n e =
     × ((length (touches_of e) ≡ n) × (Each (EntryFits segs) none e.entries × MarksFit letters segs e.entries e.marks))
 
 -- n lines of touches, where an idle entry is no segment
-touches-kept : (letters : Bool) (segs steps n : ℕ) → segs ≤ idle → Kept (touches_part letters segs steps n) (TouchesFit letters segs steps n)
+touches-kept : (letters : Bool) (segs steps n : ℕ) → segs ≤ idle
+    → Kept (touches_part letters segs steps n) (TouchesFit letters segs steps n)
 touches-kept letters segs steps n h = record { both = record { forth = forth; back = back } }
   where
     lines : Entries → List Line
@@ -337,7 +340,8 @@ module _ (lo hi : ℕ) where
   )
 
   -- a body begins with its key and not with that of a form
-  body-first : (form : ℕ) (v : SheetValue) (rest : List ℕ) → same_bytes (take 5 (text_of ((body_part lo form).lines v) ++ rest)) form_key ≡ false
+  body-first : (form : ℕ) (v : SheetValue) (rest : List ℕ) → same_bytes (take 5 (text_of ((body_part lo form).lines v) ++ rest)) form_key
+      ≡ false
   unfolding body_part head_part lines_text same_bytes
   body-first form v rest = refl
 
@@ -417,7 +421,8 @@ module _ (lo hi : ℕ) where
 -- ---- the form that the first line names
 
 -- a line kind= is no form line
-kind-no-form : (k : Kind) (rest : List ℕ) → number_line form_key 2 newest_form (line_text kind_key (kind_word k) ++ rest) ≡ refused LineMalformed
+kind-no-form : (k : Kind) (rest : List ℕ) → number_line form_key 2 newest_form (line_text kind_key (kind_word k) ++ rest)
+    ≡ refused LineMalformed
 unfolding number_line value_line split_at after_key
 kind-no-form Time rest = refl
 kind-no-form Space rest = refl
@@ -441,4 +446,5 @@ named-later v rest e h =
 pub named-first : (v : SheetValue) (rest : List ℕ) → leb 2 v.form ≡ false → named_form (sheet_text v ++ rest) ≡ 1
 unfolding named_form sheet_text sheet_part
 named-first v rest e =
-    ap (λ s. form_in (number_line form_key 2 newest_form (s ++ rest))) (first-text 1 newest_form v e) ∙ ap form_in (body-no-form v.form v rest)
+    ap (λ s. form_in (number_line form_key 2 newest_form (s ++ rest))) (first-text 1 newest_form v e)
+    ∙ ap form_in (body-no-form v.form v rest)

@@ -83,7 +83,8 @@ module _ {v : SheetValue} {n a : ℕ} {row : PriceRow} {sizes refs : List ℕ} {
     allowed = accepted-permitted (trace_of v) p (verdict-of y)
 
     answer : plain
-        ≡ priced (schedule_memory (trace_of v) p) (schedule_load (trace_of v) p) (schedule_total (trace_of v) (row_at v n).h (row_at v n).d p)
+        ≡ priced (schedule_memory (trace_of v) p) (schedule_load (trace_of v) p)
+        (schedule_total (trace_of v) (row_at v n).h (row_at v n).d p)
     answer = o.plain_is ∙ accepted-answer _ _ _ _ (verdict-of y)
 
     -- what counting the stores needs

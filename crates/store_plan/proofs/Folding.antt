@@ -96,7 +96,8 @@ pub record Folding (segments : ℕ) (refs : List ℕ) (marks : ℕ → Bool) (fo
   pub flagged_of : (T : Trace) → segs T ≡ segments → T.entries ≡ refs → Flagged T marks found flags on t
 
 module _ (segments : ℕ) (refs : List ℕ) (marks : ℕ → Bool) (found : Found) (few : segments ≤ 256) (short : length refs ≤ 2048) where
-  pub folding_start : (flags on : List Bool) → flags ≡ no_flags → on ≡ no_decisions → Folding segments refs marks found flags on (length refs)
+  pub folding_start : (flags on : List Bool) → flags ≡ no_flags → on ≡ no_decisions
+      → Folding segments refs marks found flags on (length refs)
   unfolding no_flags no_decisions
   folding_start flags on ef eo =
       record {

@@ -14,7 +14,7 @@ use Rattle.model.specs.Sheets.{marks_of, most_rows, trace_of, row_in, RunWithin,
 use Rattle.model.specs.Traces.{Trace}
 use Rattle.model.specs.Values.{zeros, value_of}
 use Rattle.model.specs.declared.PriceRow.{PriceRow}
-use Rattle.model.proofs.Tables.{get_d_tabulate, tabulate-const, tabulate-set}
+use Rattle.model.proofs.Tables.{get_or-tabulate, tabulate-const, tabulate-set}
 use Rattle.stores.specs.Modtotal.{mod_added, modtotal}
 use Rattle.stores.proofs.Unmarked.{unmarked-total}
 use Rattle.model.specs.Rows.{row_figures, zero_figures}
@@ -87,7 +87,8 @@ module _ (T : Trace) (marks : ℕ → Bool) (rows : List PriceRow) where
   modtotals-none = tabulate-const most_rows 0 (entry_in 0) (λ r lt. entry-none 0 r (omega arith))
 
   -- one row more
-  pub modtotals-next : (n m : ℕ) (totals : List ℕ) → n < most_rows → totals ≡ first_modtotals T marks rows n → m ≡ modtotal_in T marks rows n
+  pub modtotals-next : (n m : ℕ) (totals : List ℕ) → n < most_rows → totals ≡ first_modtotals T marks rows n → m
+      ≡ modtotal_in T marks rows n
       → set totals n m ≡ first_modtotals T marks rows (n + 1)
   unfolding first_modtotals
   modtotals-next n m totals lt e f =
@@ -105,7 +106,7 @@ module _ (T : Trace) (marks : ℕ → Bool) (rows : List PriceRow) where
   -- and the entry of each
   pub modtotals-at : (n r : ℕ) → r < n → n ≤ most_rows → get_or (first_modtotals T marks rows n) r 0 ≡ modtotal_in T marks rows r
   unfolding first_modtotals
-  modtotals-at n r lt most = get_d_tabulate most_rows (entry_in n) r 0 (omega arith) ∙ entry_is n r lt
+  modtotals-at n r lt most = get_or-tabulate most_rows (entry_in n) r 0 (omega arith) ∙ entry_is n r lt
 
 -- opttotal of a row of a standing sheet among the figures of all rows
 module _ (s : Sheet) (c : Standing s) where

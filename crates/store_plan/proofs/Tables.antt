@@ -13,7 +13,7 @@ use Rattle.model.specs.Sheets.{RunWithin}
 use Rattle.model.specs.Traces.{Trace, segs, steps, entry, size_of, swap_of}
 use Rattle.model.specs.declared.PriceRow.{PriceRow}
 use Rattle.model.proofs.LastTouches.{last_table-step, last_table-idle}
-use Rattle.model.proofs.Tables.{get_d_tabulate, tabulate-const, tabulate-eq, tabulate-set}
+use Rattle.model.proofs.Tables.{get_or-tabulate, tabulate-const, tabulate-eq, tabulate-set}
 use Rattle.model.proofs.Touches.{touched-at, touched-is, idle-touched, entry-ref}
 use Rattle.stores.specs.Modtotal.{excess, since_mark, since_through, store_cost, joins_before}
 use Rattle.store_plan.specs.declared.mod_pass.touching.Touched.{Touched}
@@ -24,7 +24,7 @@ use Rattle.store_plan.proofs.Touches.{code-plus, code-after, code-store, code-jo
 module _ (T : Trace) (marks : ℕ → Bool) (row : PriceRow) where
   since_at : (t i : ℕ) → i < 256 → get_or (since_table T marks row t) i 0 ≡ code_of (since_mark T marks row.h row.d t i)
   unfolding since_table
-  since_at t i lt = get_d_tabulate 256 (λ i. code_of (since_mark T marks row.h row.d t i)) i 0 lt
+  since_at t i lt = get_or-tabulate 256 (λ i. code_of (since_mark T marks row.h row.d t i)) i 0 lt
 
   -- before step 1 no segment has had a modifying touch
   since_start : none_since ≡ since_table T marks row 0

@@ -189,11 +189,11 @@ table =
     ∷ []
 
 pub table-holds : all_hold table ≡ true
-unfolding all_hold holds all_priced same first_bytes bytes_of table run entries_of marked entry_of mark_of saved interleaved warm_first waiting
-    alone all_warm mixed listed held schedule_memory schedule_load misses volume load optmem opttotal sum tabulate touching later
+unfolding all_hold holds all_priced same first_bytes bytes_of table run entries_of marked entry_of mark_of saved interleaved warm_first
+    waiting alone all_warm mixed listed held schedule_memory schedule_load misses volume load optmem opttotal sum tabulate touching later
     unreferenced kept ref_cost next_kept held_byte held_bytes dirty stores_at_ends marked_load marked_total since_mark store_cost
-    stores_of is_modified_stay is_stay every_step some_step all any held_before held_after modifies_in mod_added modtotal joins_before next_marked
-    mod_held mod_schedule
+    stores_of is_modified_stay is_stay every_step some_step all any held_before held_after modifies_in mod_added modtotal joins_before
+    next_marked mod_held mod_schedule
 table-holds = refl
 
 -- Stays and stores by themselves, no theorem in between. Segment i is held in step n where bit i of the number for that step is 1; the
@@ -289,6 +289,6 @@ known_stores =
     ∷ []
 
 pub stores-known : all_known known_stores ≡ true
-unfolding all_known known_stores stored_in held_by entries_of marked entry_of mark_of listed sum stores_of is_modified_stay is_stay every_step
-    some_step all any held_before held_after modifies_in
+unfolding all_known known_stores stored_in held_by entries_of marked entry_of mark_of listed sum stores_of is_modified_stay is_stay
+    every_step some_step all any held_before held_after modifies_in
 stores-known = refl

@@ -38,12 +38,13 @@ bytes_of (x ∷ xs) = (x ∷ replicate 31 0) ++ bytes_of xs
 
 -- the schedule of document 01, and that of request F-13
 keeps : schedule_for sheet 0 ≡ gives (bytes_of (1 ∷ 2 ∷ 2 ∷ 1 ∷ []))
-unfolding sheet bytes_of schedule_for optimal_schedule optimal_byte optimal_held next_kept kept sum tabulate touching later unreferenced listed
+unfolding sheet bytes_of schedule_for optimal_schedule optimal_byte optimal_held next_kept kept sum tabulate touching later unreferenced
+    listed
 keeps = refl
 
 stays : modified_for sheet 0 ≡ gives (bytes_of (1 ∷ 3 ∷ 3 ∷ 1 ∷ []))
-unfolding sheet bytes_of modified_for mod_schedule mod_held joins_before next_marked since_mark store_cost next_kept kept held_byte held_bytes sum
-    tabulate touching later unreferenced listed
+unfolding sheet bytes_of modified_for mod_schedule mod_held joins_before next_marked since_mark store_cost next_kept kept held_byte
+    held_bytes sum tabulate touching later unreferenced listed
 stays = refl
 
 -- 7 where there is no such row
@@ -60,11 +61,12 @@ price_numbers : PriceAnswer → List ℕ
 price_numbers p = verdict_number p.verdict ∷ p.memory.0 ∷ p.load.0 ∷ p.total ∷ []
 
 -- the prices of both with stores counted; 7 before 8; 8, 9 and 10
-priced : price_numbers (price_for sheet 0 (bytes_of (1 ∷ 2 ∷ 2 ∷ 1 ∷ []))) ++ price_numbers (price_for sheet 0 (bytes_of (1 ∷ 3 ∷ 3 ∷ 1 ∷ [])))
+priced : price_numbers (price_for sheet 0 (bytes_of (1 ∷ 2 ∷ 2 ∷ 1 ∷ []))) ++ price_numbers
+    (price_for sheet 0 (bytes_of (1 ∷ 3 ∷ 3 ∷ 1 ∷ [])))
     ≡ 0 ∷ 4 ∷ 5 ∷ 23 ∷ 0 ∷ 6 ∷ 3 ∷ 21 ∷ []
-unfolding sheet bytes_of price_numbers price_for priced_at schedule_verdict steps_verdict step_verdict missing some_enters enters held listed
-    ref_cost schedule_memory schedule_load marked_load marked_total stores_of is_modified_stay is_stay every_step some_step all any held_before held_after
-    modifies_in sum tabulate touching later unreferenced
+unfolding sheet bytes_of price_numbers price_for priced_at schedule_verdict steps_verdict step_verdict missing some_enters enters held
+    listed ref_cost schedule_memory schedule_load marked_load marked_total stores_of is_modified_stay is_stay every_step some_step all any
+    held_before held_after modifies_in sum tabulate touching later unreferenced
 priced = refl
 
 refused : price_numbers (price_for sheet 1 [])
@@ -72,6 +74,6 @@ refused : price_numbers (price_for sheet 1 [])
     ++ price_numbers (price_for sheet 0 (bytes_of (2 ∷ 2 ∷ 2 ∷ 1 ∷ [])))
     ++ price_numbers (price_for sheet 0 (bytes_of (3 ∷ 2 ∷ 2 ∷ 1 ∷ [])))
     ≡ 7 ∷ 0 ∷ 0 ∷ 0 ∷ 8 ∷ 0 ∷ 0 ∷ 0 ∷ 9 ∷ 0 ∷ 0 ∷ 0 ∷ 10 ∷ 0 ∷ 0 ∷ 0 ∷ []
-unfolding sheet bytes_of price_numbers price_for priced_at schedule_verdict steps_verdict step_verdict missing some_enters enters held listed
-    touching
+unfolding sheet bytes_of price_numbers price_for priced_at schedule_verdict steps_verdict step_verdict missing some_enters enters held
+    listed touching
 refused = refl

@@ -70,7 +70,8 @@ module _ (T : Trace) (marks : ℕ → Bool) (h d : ℕ) where
     where
       go : (m : Bool) → touched T t i ≡ m
           → is_reuse (cond m (cond (marks t) (some 0) (since_through T marks h d t i)) (since_mark T marks h d t i)) ≡ true
-          → (is_reuse (since_mark T marks h d t i) ≡ true → is_reuse (unreferenced T t i) ≡ true) → is_reuse (unreferenced T (suc t) i) ≡ true
+          → (is_reuse (since_mark T marks h d t i) ≡ true → is_reuse (unreferenced T t i) ≡ true) → is_reuse (unreferenced T (suc t) i)
+          ≡ true
       go true m e again = rw (unreferenced-touched T t i m)
       go false m e again = rw (unreferenced-later T t i m) (reuse-later (unreferenced T t i) ∙ again e)
 
@@ -149,7 +150,8 @@ module _ (T : Trace) (marks : ℕ → Bool) (h d : ℕ) where
         arith,
         marked-lower-bound T marks h d (mod_schedule T marks h d) (mod-permitted few) few,
         modtotal-touches T marks h d,
-        potential-ge (steps T) (segs T) (cost_cell T marks h d S) (mod_cost T marks h d) so_far (λ t i lt l. so_far-step t i lt (omega arith)),
+        potential-ge (steps T) (segs T) (cost_cell T marks h d S) (mod_cost T marks h d) so_far
+            (λ t i lt l. so_far-step t i lt (omega arith)),
         sum-zero (segs T) (so_far (steps T)) (λ i l. rw (next-end T h d i, mark-end T marks (joins_before T marks h d) i)),
         total-cells T marks h d S,
         total-by-marks T marks h d (mod_schedule T marks h d) (mod-permitted few),

@@ -104,7 +104,8 @@ module _ (T : Trace) (S : ℕ → ℕ → Bool) (i first last : ℕ) where
         let it = any-there (suc last) (λ t. leb first t && modifies_in T marks i t) e in
         found it.0 it.1.0 (and_both (leb first it.0) (modifies_in T marks i it.0) it.1.1)
       where
-        found : (n : ℕ) → n < suc last → (leb first n ≡ true) × (modifies_in T marks i n ≡ true) → (t : ℕ) × Modifying T marks i first last t
+        found : (n : ℕ) → n < suc last → (leb first n ≡ true) × (modifies_in T marks i n ≡ true)
+            → (t : ℕ) × Modifying T marks i first last t
         found zero lt m = absurd (false≢true m.1)
         found (suc t) lt m =
             let both = and_both (touched T t i) (marks t) m.1 in
@@ -124,6 +125,7 @@ module _ (T : Trace) (S : ℕ → ℕ → Bool) (i first last : ℕ) where
         let both = and_both (is_stay T S i first last) (some_step first last (modifies_in T marks i)) e in
         (tested-stay both.0, tested-modifying both.1)
 
-    pub modified-tested : Stay T S i first last → (t : ℕ) → Modifying T marks i first last t → is_modified_stay T marks S i first last ≡ true
+    pub modified-tested : Stay T S i first last → (t : ℕ) → Modifying T marks i first last t → is_modified_stay T marks S i first last
+        ≡ true
     unfolding is_modified_stay
     modified-tested s t m = rw (stay-tested s, modifying-tested t m)

@@ -115,7 +115,8 @@ module _ (T : Trace) (marks : ℕ → Bool) (h d : ℕ) (S : ℕ → ℕ → Boo
         start-over true x = omega arith
         start-over false x = omega arith
     all-before (suc t) le =
-        before-step h d (unit_of T i) (swap_of T i) (unreferenced T t i) (since_mark T marks h d t i) some-u some-w (touched T t i) (marks t)
+        before-step h d (unit_of T i) (swap_of T i) (unreferenced T t i) (since_mark T marks h d t i) some-u some-w (touched T t i)
+        (marks t)
         (S t i) (S (suc t) i) (dirty T marks S t i) (stays t i le l) (all-before t (omega arith)) (tight t le)
 
     all_after : (k t : ℕ) → t + k ≡ steps T
@@ -140,7 +141,8 @@ module _ (T : Trace) (marks : ℕ → Bool) (h d : ℕ) (S : ℕ → ℕ → Boo
     all_after (suc k) t e =
         let lt : t < steps T = omega arith in
         rw (next-step T h d t i lt, mark-step T marks (joins_before T marks h d) t i lt)
-        (after-step h d (unit_of T i) (swap_of T i) (unreferenced T t i) (since_mark T marks h d t i) some-u some-w (touched T t i) (marks t)
+        (after-step h d (unit_of T i) (swap_of T i) (unreferenced T t i) (since_mark T marks h d t i) some-u some-w (touched T t i)
+        (marks t)
         (S t i) (S (suc t) i) (dirty T marks S t i) (next T h d (suc t) i) (next_join T marks h d (suc t) i) (stays t i lt l)
         (holds t i lt) (dirty-held T marks S t i) (strict-k t lt) (strict-j t lt) (all-before t (omega arith)) (tight t lt)
         (all_after k (suc t) (omega arith)))

@@ -76,6 +76,7 @@ module _ (T : Trace) (marks : ℕ → Bool) (none : (t : ℕ) → t < steps T �
       ∙ decided-optimal T h d
     where
       at : (k t i : ℕ) → suc t + k ≤ steps T
-          → next_kept T h d k (suc t) i || next_marked T marks (joins_before T marks h d) k (suc t) i ≡ next_decided T (kept T h d) k (suc t) i
+          → next_kept T h d k (suc t) i || next_marked T marks (joins_before T marks h d) k (suc t) i
+          ≡ next_decided T (kept T h d) k (suc t) i
       at k t i le =
           rw (next-unmarked (joins_before T marks h d) k (suc t) i le, or-false (next_kept T h d k (suc t) i), next-kept T h d k (suc t) i)

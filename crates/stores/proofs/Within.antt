@@ -37,7 +37,8 @@ module _ (T : Trace) (ok : RunWithin T) where
         (omega arith)
 
     -- those of the first n steps, and all
-    pub added-within : (n : ℕ) → sum n (touching T (λ t i. cond (marks t) (store_cost T marks h d t i) 0)) ≤ n * (largest_price * largest_swap)
+    pub added-within : (n : ℕ) → sum n
+        (touching T (λ t i. cond (marks t) (store_cost T marks h d t i) 0)) ≤ n * (largest_price * largest_swap)
     added-within n = touching-within T n (largest_price * largest_swap) _ (λ t i lt l. touch-within t i l)
 
     pub mod_added-within : mod_added T marks h d ≤ most_steps * (largest_price * largest_swap)

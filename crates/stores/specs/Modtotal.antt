@@ -1,5 +1,6 @@
 -- Modified segments (request F-13), the part that theorems pin, so that nothing in it needs to be believed: the least total with stores
--- counted, by a formula, and the schedule that has it. That no permitted schedule costs less than `modtotal`, that `mod_schedule` costs just
+-- counted, by a formula, and the schedule that has it. That no permitted schedule costs less than `modtotal`, that `mod_schedule` costs
+-- just
 -- that, and that it is the one which the rule for ties picks is the record `MarkedDemand` (Demand.antt), proved of every run of a sheet
 -- (`run-demand`, proofs/Demand.antt); it speaks of costs by Stays.antt alone.
 use Rattle.std.specs.Prelude.{ℕ, zero, suc, ◌+◌, ◌-◌, ◌*◌, min, Bool, false, cond, ◌||◌, List}

@@ -1,10 +1,12 @@
 // The number of a line, its text as bytes, and where a byte stands in it.
-ghost use Rattle.std.specs.Prelude.{◌≤◌, length};
+ghost use Rattle.std.specs.Prelude.{ℕ, ◌≡◌, ◌≢◌, ◌<◌, ◌≤◌, length, slice_index};
 
 // The first place from `at` on, and before `end`, that has the byte; `end` where none has.
 pub fn find(s: &[u8], at: usize, end: usize, byte: u8) -> usize
     requires { (at ≤ end) × (end ≤ length s.now) }
-    ensures { (at ≤ result) × (result ≤ end) }
+    ensures bounds { (at ≤ result) × (result ≤ end) }
+    ensures before { (k : ℕ) → at ≤ k → k < result → slice_index s.now k ≢ byte }
+    ensures found { result < end → slice_index s.now result ≡ byte }
 {
     let mut i = at;
     while i < end {

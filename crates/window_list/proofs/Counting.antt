@@ -16,10 +16,11 @@ use Rattle.model.specs.Sums.{sum, tabulate}
 use Rattle.model.specs.Traces.{Trace, segs, steps, entry, touching, refs_by, refs_of, unreferenced}
 use Rattle.model.specs.LastTouches.{start_table, last_from, last_table}
 use Rattle.model.proofs.Sums.{sum-none, sum-suc, sum-within}
-use Rattle.model.proofs.Tables.{length-tabulate, get_d_tabulate, tabulate-eq, tabulate-const, tabulate-set}
+use Rattle.model.proofs.Tables.{length-tabulate, get_or-tabulate, tabulate-eq, tabulate-const, tabulate-set}
 use Rattle.model.proofs.Touches.{touching_at, touching-idle}
 use Rattle.model.proofs.Loads.{touching-within}
-use Rattle.model.proofs.LastTouches.{length-last_table, last_table-at, start_table-is, last_table-step, last_table-idle, unreferenced-within}
+use Rattle.model.proofs.LastTouches.{length-last_table, last_table-at, start_table-is, last_table-step, last_table-idle}
+use Rattle.model.proofs.LastTouches.{unreferenced-within}
 use Rattle.window_list.specs.inner.Counts.{lengths, of_length, no_counts, Room, with_interval, with_ends, reuse_count, end_count}
 use Rattle.window_list.specs.inner.Counts.{reuse_counts, interval_counts}
 
@@ -36,11 +37,12 @@ counted T t i f g few short adds = rw (last_table-at T t i 0 few) (go (unreferen
         let within = unreferenced-within T t i k e in
         let same : t - (t - k) + 1 ≡ suc k = omega arith in
         let here : f (suc k) + 1 ≡ g (suc k) = omega (arith, rw (e, eq-eqb (suc k) (suc k) refl) at (adds (suc k))) in
-        rw (e, le-leb (t - k) t (omega arith), same, get_d_tabulate lengths f (suc k) 0 (omega arith), here)
+        rw (e, le-leb (t - k) t (omega arith), same, get_or-tabulate lengths f (suc k) 0 (omega arith), here)
         (tabulate-set lengths f g (suc k) (omega arith) (λ j l other. omega (arith, rw (e, ne_eqb j (suc k) other) at (adds j))))
 
 -- one segment's end more
-pub ends-step : (old counts new marks : List ℕ) (t i : ℕ) → counts ≡ with_ends old marks t i → new ≡ with_interval counts (get_or marks i 0) t
+pub ends-step : (old counts new marks : List ℕ) (t i : ℕ) → counts ≡ with_ends old marks t i → new
+    ≡ with_interval counts (get_or marks i 0) t
     → new ≡ with_ends old marks t (i + 1)
 unfolding with_ends
 ends-step old counts new marks t i e f = f ∙ rw (e, add-one i)
@@ -80,7 +82,7 @@ end-few T n u =
 
 -- there is room for one more in the counts of few intervals
 room : (f : ℕ → ℕ) → ((u : ℕ) → f u < 65535) → Room (tabulate lengths f)
-room f few = (length-tabulate lengths f, λ u l. rw (get_d_tabulate lengths f u 0 l) (few u))
+room f few = (length-tabulate lengths f, λ u l. rw (get_or-tabulate lengths f u 0 l) (few u))
 
 pub reuse-room : (T : Trace) (n : ℕ) → n ≤ 2048 → Room (reuse_counts T n)
 unfolding reuse_counts

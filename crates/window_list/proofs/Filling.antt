@@ -17,7 +17,7 @@ use Rattle.model.specs.Traces.{Trace, segs, steps, refs_by, refs_of, unreference
 use Rattle.model.proofs.FirstTouches.{touched_of, first_of, first-touches}
 use Rattle.model.proofs.Loads.{over_touches-eq, over_touches-total}
 use Rattle.model.proofs.Sums.{sum-eq}
-use Rattle.model.proofs.Tables.{length-tabulate, get_d_tabulate}
+use Rattle.model.proofs.Tables.{length-tabulate, get_or-tabulate}
 use Rattle.windows.specs.Windows.{over_intervals, longer_than, window_at}
 use Rattle.windows.proofs.Intervals.{intervals-add}
 use Rattle.window_list.specs.inner.Counts.{lengths, of_length, reuse_count, end_count, interval_counts}
@@ -41,7 +41,7 @@ longer-next n k = go (eqb (suc n) (suc k)) refl (ltb n (suc k)) refl
 longer-counts : (T : Trace) (n : ℕ) → n < 2048 → longer_than T n ≡ longer_than T (suc n) + get_or (interval_counts T (segs T)) (suc n) 0
 unfolding longer_than over_intervals interval_counts reuse_count end_count
 longer-counts T n short =
-    rw (get_d_tabulate lengths (λ u. reuse_count T (steps T) u + end_count T (segs T) u) (suc n) 0 (omega arith))
+    rw (get_or-tabulate lengths (λ u. reuse_count T (steps T) u + end_count T (segs T) u) (suc n) 0 (omega arith))
     (intervals-add T (λ k. cond (ltb n (suc k)) 1 0) (λ k. cond (ltb (suc n) (suc k)) 1 0) (of_length (suc n)) (longer-next n))
 
 -- each touch begins one interval: there are as many of them as touches, where no segment counts as touched before step 1

@@ -14,7 +14,7 @@ use Rattle.model.specs.declared.Kind.{Kind}
 use Rattle.model.specs.declared.Kind.TheVariants.{Time, Space}
 use Rattle.model.proofs.Loads.{over_touches-eq}
 use Rattle.model.proofs.Sums.{sum-eq}
-use Rattle.model.proofs.Tables.{length-tabulate, get_d_tabulate, tabulate-eq}
+use Rattle.model.proofs.Tables.{length-tabulate, get_or-tabulate, tabulate-eq}
 use Rattle.windows.specs.Answers.{wsoccs}
 use Rattle.windows.specs.Windows.{over_intervals, longer_than, window_at, window_list, Windowed}
 use Rattle.windows.proofs.Intervals.{intervals-add, intervals-zero}
@@ -80,7 +80,7 @@ module _ (T : Trace) (ok : Windowed T) where
   -- and has steps entries, that of the window w at place w - 1
   pub list-wsocc : (w : ℕ) → 1 ≤ w → w ≤ steps T → get_or (window_list T) (w - 1) 0 ≡ wsocc T (w - 1) 1
   unfolding window_list
-  list-wsocc w one within = get_d_tabulate (steps T) (window_at T) (w - 1) 0 (omega arith) ∙ window-wsocc (w - 1)
+  list-wsocc w one within = get_or-tabulate (steps T) (window_at T) (w - 1) 0 (omega arith) ∙ window-wsocc (w - 1)
 
 pub list_length_lem : (T : Trace) → length (window_list T) ≡ steps T
 unfolding window_list

@@ -51,7 +51,8 @@ touches-append marks (x ∷ xs) ys before =
     go (eqb x idle) _ (touches-append marks xs ys (suc before) ∙ ap (λ b. touches_from marks (suc before) xs ++ touches_from marks b ys) e)
   where
     go : (b : Bool) (t : Touch)
-        → touches_from marks (suc before) (xs ++ ys) ≡ touches_from marks (suc before) xs ++ touches_from marks (suc (length xs) + before) ys
+        → touches_from marks (suc before) (xs ++ ys) ≡ touches_from marks (suc before) xs ++ touches_from marks (suc (length xs) + before)
+        ys
         → cond b (touches_from marks (suc before) (xs ++ ys)) (t ∷ touches_from marks (suc before) (xs ++ ys))
         ≡ cond b (touches_from marks (suc before) xs) (t ∷ touches_from marks (suc before) xs)
         ++ touches_from marks (suc (length xs) + before) ys

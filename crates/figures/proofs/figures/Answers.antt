@@ -19,14 +19,16 @@ slice_bounds-all_sizes-end c =
     omega (arith, sizes-length (goal.at.slice_bounds-all_sizes-end c).Start, c.requires.segs_le_most_segs.0)
 
 pub slice_bounds-sizes-end : goal.slice_bounds-sizes-end
-slice_bounds-sizes-end c = sym (length-take-le _ _ (omega (arith, sizes-length (goal.at.slice_bounds-sizes-end c).Start, c.requires.segs_le_most_segs.0)))
+slice_bounds-sizes-end c = sym
+    (length-take-le _ _ (omega (arith, sizes-length (goal.at.slice_bounds-sizes-end c).Start, c.requires.segs_le_most_segs.0)))
 
 pub slice_bounds-holds-end : goal.slice_bounds-holds-end
 slice_bounds-holds-end c =
     omega (arith, holds-length (goal.at.slice_bounds-holds-end c).Start, c.requires.segs_le_most_segs.2)
 
 pub slice_bounds-warm-end : goal.slice_bounds-warm-end
-slice_bounds-warm-end c = sym (length-take-le _ _ (omega (arith, holds-length (goal.at.slice_bounds-warm-end c).Start, c.requires.segs_le_most_segs.2)))
+slice_bounds-warm-end c = sym (length-take-le _ _
+    (omega (arith, holds-length (goal.at.slice_bounds-warm-end c).Start, c.requires.segs_le_most_segs.2)))
 
 pub tally-tally-requires : goal.tally-tally-requires
 unfolding head_value_of

@@ -20,8 +20,10 @@ use Rattle.join.proofs.join.Goals as goal
 -- the steps are within the arrays, and as many entries are taken
 module _ (s : Start) where
   steps-in : (s.args.first.steps ≤ length s.args.first.touches) × (s.args.second.steps ≤ length s.args.second.touches)
-  steps-in =
-      (omega (arith, s.requires.0.steps_within, s.requires.0.touches_whole), omega (arith, s.requires.1.steps_within, s.requires.1.touches_whole))
+  steps-in = (
+    omega (arith, s.requires.0.steps_within, s.requires.0.touches_whole),
+    omega (arith, s.requires.1.steps_within, s.requires.1.touches_whole),
+  )
 
   steps-taken : (s.args.first.steps ≡ length (take s.args.first.steps s.args.first.touches))
       × (s.args.second.steps ≡ length (take s.args.second.steps s.args.second.touches))

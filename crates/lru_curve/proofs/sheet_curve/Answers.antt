@@ -23,7 +23,9 @@ slice_bounds-ones_verdict-end c = sym (length-take-le _ _ (omega (arith, c.requi
 pub returns-then-out-segs : goal.returns-then-out-segs
 returns-then-out-segs c =
     let n = segs-counted c.args.s c.requires in
-    rw c.refused-then-out-segs.ensures (curve-short (value_of c.args.s) _ (sym (ones-are (goal.at.returns-then-out-segs c).After-ones_verdict) ∙ cc) (omega (arith, c.if-out-segs.true)))
+    rw c.refused-then-out-segs.ensures
+    (curve-short (value_of c.args.s) _ (sym (ones-are (goal.at.returns-then-out-segs c).After-ones_verdict) ∙ cc)
+    (omega (arith, c.if-out-segs.true)))
 
 pub slice_bounds-sizes-end-in-Accepted : goal.slice_bounds-sizes-end-in-Accepted
 slice_bounds-sizes-end-in-Accepted c = omega (arith, c.requires)
@@ -52,5 +54,6 @@ pub returns-else-out-segs : goal.returns-else-out-segs
 unfolding value_of head_value_of
 returns-else-out-segs c =
     let n = segs-counted c.args.s c.requires in
-    curve-placed (value_of c.args.s) _ (sym (ones-are (goal.at.returns-else-out-segs c).After-ones_verdict) ∙ cc) _ (omega (arith, c.if-out-segs.false)) _ (sym n) _
+    curve-placed (value_of c.args.s) _ (sym (ones-are (goal.at.returns-else-out-segs c).After-ones_verdict) ∙ cc) _
+    (omega (arith, c.if-out-segs.false)) _ (sym n) _
     c.curve-looked.ensures

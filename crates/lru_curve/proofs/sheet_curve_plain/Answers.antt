@@ -23,7 +23,9 @@ slice_bounds-ones_verdict-end c = sym (length-take-le _ _ (omega (arith, c.requi
 pub returns-then-place-segs : goal.returns-then-place-segs
 returns-then-place-segs c =
     let n = segs-counted c.args.s c.requires in
-    rw c.refused-then-place-segs.ensures (plain-short (value_of c.args.s) _ (sym (ones-are (goal.at.returns-then-place-segs c).After-ones_verdict) ∙ cc) (omega (arith, c.if-place-segs.true)))
+    rw c.refused-then-place-segs.ensures
+    (plain-short (value_of c.args.s) _ (sym (ones-are (goal.at.returns-then-place-segs c).After-ones_verdict) ∙ cc)
+    (omega (arith, c.if-place-segs.true)))
 
 pub slice_bounds-sizes-end-in-Accepted : goal.slice_bounds-sizes-end-in-Accepted
 slice_bounds-sizes-end-in-Accepted c = omega (arith, c.requires)
@@ -52,5 +54,6 @@ pub returns-else-place-segs : goal.returns-else-place-segs
 unfolding value_of head_value_of
 returns-else-place-segs c =
     let n = segs-counted c.args.s c.requires in
-    plain-placed (value_of c.args.s) _ (sym (ones-are (goal.at.returns-else-place-segs c).After-ones_verdict) ∙ cc) _ (omega (arith, c.if-place-segs.false)) _ (sym n)
+    plain-placed (value_of c.args.s) _ (sym (ones-are (goal.at.returns-else-place-segs c).After-ones_verdict) ∙ cc) _
+    (omega (arith, c.if-place-segs.false)) _ (sym n)
     c.curve.ensures

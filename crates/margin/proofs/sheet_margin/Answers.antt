@@ -29,7 +29,7 @@ place : (p : After-reference_place-t) → PlaceFound (trace_of (Value p)) p.args
 unfolding value_of
 place p = p.reference_place-t.ensures (trace_of (Value p)) refl (segs-counted p.args.s p.requires)
 
-in-steps : (e : Else-steps-t) → e.reference_place-t.result < steps (trace_of ((value_of e.args.s)))
+in-steps : (e : Else-steps-t) → e.reference_place-t.result < steps (trace_of (value_of e.args.s))
 in-steps e = omega (arith, steps-counted e.args.s e.requires, e.if-steps-t.false)
 
 pub returns-then-s-row : goal.returns-then-s-row
@@ -52,7 +52,8 @@ pub returns-then-steps-t : goal.returns-then-steps-t
 returns-then-steps-t c =
     let m = steps-counted c.args.s c.requires in
     c.refused-then-steps-t.ensures
-    ∙ sym (margin-beyond ((value_of c.args.s)) c.args.row c.args.reference (row_is (goal.at.returns-then-steps-t c).After-reference_place-t) (counted (goal.at.returns-then-steps-t c).After-reference_place-t)
+    ∙ sym (margin-beyond (value_of c.args.s) c.args.row c.args.reference (row_is (goal.at.returns-then-steps-t c).After-reference_place-t)
+    (counted (goal.at.returns-then-steps-t c).After-reference_place-t)
     ((place (goal.at.returns-then-steps-t c).After-reference_place-t).none (omega (arith, c.if-steps-t.true))))
 
 pub slice_bounds-touch_margin-end : goal.slice_bounds-touch_margin-end
@@ -67,13 +68,21 @@ slice_bounds-touch_margin-end-3 c = sym (length-take-le _ _ (omega (arith, c.req
 pub touch_margin-requires : goal.touch_margin-requires
 unfolding value_of head_value_of
 touch_margin-requires c =
-    record { run_within = c.requires.valid.run; t_in_bounds = (in-steps (goal.at.touch_margin-requires c).Else-steps-t, found-touch (trace_of ((value_of c.args.s))) _ _ (counted (goal.at.touch_margin-requires c).After-reference_place-t) (in-steps (goal.at.touch_margin-requires c).Else-steps-t) (place (goal.at.touch_margin-requires c).After-reference_place-t)) }
+    record {
+      run_within = c.requires.valid.run;
+      t_in_bounds = (
+        in-steps (goal.at.touch_margin-requires c).Else-steps-t,
+        found-touch (trace_of (value_of c.args.s)) _ _ (counted (goal.at.touch_margin-requires c).After-reference_place-t)
+            (in-steps (goal.at.touch_margin-requires c).Else-steps-t) (place (goal.at.touch_margin-requires c).After-reference_place-t),
+      );
+    }
 
 pub returns : goal.returns
 unfolding value_of head_value_of
 returns c =
     let (there, is) = (place (goal.at.returns c).After-reference_place-t).found (in-steps (goal.at.returns c).Else-steps-t) in
     let price = row_of c.args.s c.requires c.args.row (omega (arith, c.if-s-row.false)) in
-    c.touch_margin.ensures ((value_of c.args.s)) c.args.row refl price
-    ∙ (ap (touch_margin ((value_of c.args.s)) c.args.row) is
-    ∙ sym (margin-at ((value_of c.args.s)) c.args.row c.args.reference (row_is (goal.at.returns c).After-reference_place-t) (counted (goal.at.returns c).After-reference_place-t) there))
+    c.touch_margin.ensures (value_of c.args.s) c.args.row refl price
+    ∙ (ap (touch_margin (value_of c.args.s) c.args.row) is
+    ∙ sym (margin-at (value_of c.args.s) c.args.row c.args.reference (row_is (goal.at.returns c).After-reference_place-t)
+    (counted (goal.at.returns c).After-reference_place-t) there))

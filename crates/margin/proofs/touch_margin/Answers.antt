@@ -13,7 +13,8 @@ use Rattle.model.proofs.Bounds.{retention_within, swap_within}
 use Rattle.model.proofs.Touches.{entry-ref}
 use Rattle.margin.specs.inner.Times.{time_of}
 use Rattle.margin.proofs.TouchMargins.{priced-room, first-touch, reuse-touch}
-use Rattle.margin.proofs.touch_margin.Goals.{After-retention_cost, After-shared_slice_known-5-1, After-swap_cost, After-unreferenced_time-before, Start}
+use Rattle.margin.proofs.touch_margin.Goals.{After-retention_cost, After-shared_slice_known-5-1, After-swap_cost}
+use Rattle.margin.proofs.touch_margin.Goals.{After-unreferenced_time-before, Start}
 use Rattle.margin.proofs.touch_margin.Goals as goal
 
 -- the run at hand, the touched segment and its size
@@ -30,42 +31,53 @@ here : (s : Start) → entry (Run s) s.args.t ≡ Segment s
 here s = entry-ref (Run s) s.args.t s.requires.t_in_bounds.0
 
 time_is : (u : After-unreferenced_time-before) → u.unreferenced_time-before.result
-    ≡ time_of (unreferenced ((run_of u.args.kind u.args.a u.args.sizes.now u.args.warm.now u.args.refs.now)) u.args.t ((get_or u.args.refs.now u.args.t 0)))
-time_is u = u.unreferenced_time-before.ensures ((run_of u.args.kind u.args.a u.args.sizes.now u.args.warm.now u.args.refs.now)) refl u.requires.t_in_bounds.1 (sym u.is_warm.ensures)
+    ≡ time_of (unreferenced (run_of u.args.kind u.args.a u.args.sizes.now u.args.warm.now u.args.refs.now) u.args.t
+    (get_or u.args.refs.now u.args.t 0))
+time_is u = u.unreferenced_time-before.ensures (run_of u.args.kind u.args.a u.args.sizes.now u.args.warm.now u.args.refs.now) refl
+    u.requires.t_in_bounds.1 (sym u.is_warm.ensures)
 
 -- the size is a 16-bit number, and neither cost exceeds what may be priced
-size_room : (z : After-shared_slice_known-5-1) → (get_or z.args.sizes.now ((get_or z.args.refs.now z.args.t 0)) 0) < 2 ^ 16
-size_room z = omega (arith, z.type_inv.sizes ((get_or z.args.refs.now z.args.t 0)))
+size_room : (z : After-shared_slice_known-5-1) → (get_or z.args.sizes.now (get_or z.args.refs.now z.args.t 0) 0) < 2 ^ 16
+size_room z = omega (arith, z.type_inv.sizes (get_or z.args.refs.now z.args.t 0))
 
 retention-room : (c : After-retention_cost) → c.retention_cost.result.0 < 2 ^ 32
 retention-room c =
-    let size_room' : (get_or c.args.sizes.now ((get_or c.args.refs.now c.args.t 0)) 0) < 2 ^ 16 = omega (arith, c.type_inv.sizes ((get_or c.args.refs.now c.args.t 0))) in
+    let size_room' : (get_or c.args.sizes.now (get_or c.args.refs.now c.args.t 0) 0) < 2 ^
+    16 = omega (arith, c.type_inv.sizes (get_or c.args.refs.now c.args.t 0)) in
     let k = c.unreferenced_time-before.result.time in
     rw c.retention_cost.ensures
-    (retention_within c.args.kind ((get_or c.args.sizes.now ((get_or c.args.refs.now c.args.t 0)) 0)) k (size_room') (omega (arith, c.unreferenced_time-before.type_inv)))
+    (retention_within c.args.kind (get_or c.args.sizes.now (get_or c.args.refs.now c.args.t 0) 0) k (size_room')
+    (omega (arith, c.unreferenced_time-before.type_inv)))
 
 swap-room : (c : After-swap_cost) → c.swap_cost.result.0 < 2 ^ 32
 swap-room c =
-    let size_room' : (get_or c.args.sizes.now ((get_or c.args.refs.now c.args.t 0)) 0) < 2 ^ 16 = omega (arith, c.type_inv.sizes ((get_or c.args.refs.now c.args.t 0))) in
-    rw c.swap_cost.ensures (swap_within c.args.a ((get_or c.args.sizes.now ((get_or c.args.refs.now c.args.t 0)) 0)) (omega (arith, c.ranges)) (size_room'))
+    let size_room' : (get_or c.args.sizes.now (get_or c.args.refs.now c.args.t 0) 0) < 2 ^
+    16 = omega (arith, c.type_inv.sizes (get_or c.args.refs.now c.args.t 0)) in
+    rw c.swap_cost.ensures (swap_within c.args.a (get_or c.args.sizes.now (get_or c.args.refs.now c.args.t 0) 0) (omega (arith, c.ranges))
+    (size_room'))
 
 pub returns-then-not-reuse : goal.returns-then-not-reuse
 returns-then-not-reuse c v n run row =
     c.refused.ensures
-    ∙ sym (first-touch ((run_of c.args.kind c.args.a c.args.sizes.now c.args.warm.now c.args.refs.now)) _ _ (here (goal.at.returns-then-not-reuse c).Start) _ (time_is (goal.at.returns-then-not-reuse c).After-unreferenced_time-before) _ v n run row (not-true _ c.if-not-reuse.true-raw))
+    ∙ sym (first-touch (run_of c.args.kind c.args.a c.args.sizes.now c.args.warm.now c.args.refs.now) _ _
+    (here (goal.at.returns-then-not-reuse c).Start) _ (time_is (goal.at.returns-then-not-reuse c).After-unreferenced_time-before) _ v
+    n run row (not-true _ c.if-not-reuse.true-raw))
 
 pub margin-requires : goal.margin-requires
 margin-requires c =
     let retained : c.priced-retained.result.0 < 2 ^ 62 =
-    rw c.priced-retained.ensures (priced-room c.args.row.d _ (omega (arith, c.ranges)) (retention-room (goal.at.margin-requires c).After-retention_cost)) in
+    rw c.priced-retained.ensures (priced-room c.args.row.d _ (omega (arith, c.ranges))
+    (retention-room (goal.at.margin-requires c).After-retention_cost)) in
     let swapped : c.priced-swapped.result.0 < 2 ^ 62 =
-    rw c.priced-swapped.ensures (priced-room c.args.row.h _ (omega (arith, c.ranges)) (swap-room (goal.at.margin-requires c).After-swap_cost)) in
+    rw c.priced-swapped.ensures (priced-room c.args.row.h _ (omega (arith, c.ranges))
+    (swap-room (goal.at.margin-requires c).After-swap_cost)) in
     omega arith
 
 pub returns : goal.returns
 returns c v n run row =
     ap (λ m. record { verdict = Accepted; margin = m }) (to_z-of_z w64 _ (record { sfits = c.margin.type_inv }) ∙ c.margin.ensures)
-    ∙ sym (reuse-touch ((run_of c.args.kind c.args.a c.args.sizes.now c.args.warm.now c.args.refs.now)) _ _ (here (goal.at.returns c).Start) _ (time_is (goal.at.returns c).After-unreferenced_time-before) _ v n run row _ _ _ _ c.retention_cost.ensures
+    ∙ sym (reuse-touch (run_of c.args.kind c.args.a c.args.sizes.now c.args.warm.now c.args.refs.now) _ _ (here (goal.at.returns c).Start)
+    _ (time_is (goal.at.returns c).After-unreferenced_time-before) _ v n run row _ _ _ _ c.retention_cost.ensures
     c.swap_cost.ensures c.priced-retained.ensures c.priced-swapped.ensures (not-false _ c.if-not-reuse.false-raw))
 
 pub priced-retained-requires : goal.priced-retained-requires

@@ -20,7 +20,8 @@ told p =
     p.pages_length-length.ensures ∙ sym (taken-length a.kind a.a a.figures a.rows (omega (arith, p.ranges)) few room fit)
 
 pub returns-then-out-length : goal.returns-then-out-length
-returns-then-out-length c = rw c.refused.ensures (text-short _ _ (omega (arith, told (goal.at.returns-then-out-length c).After-pages_length-length, c.if-out-length.true)))
+returns-then-out-length c = rw c.refused.ensures
+    (text-short _ _ (omega (arith, told (goal.at.returns-then-out-length c).After-pages_length-length, c.if-out-length.true)))
 
 pub put_pages-requires : goal.put_pages-requires
 put_pages-requires c =

@@ -28,7 +28,8 @@ pub returns-in-Refused : goal.returns-in-Refused
 returns-in-Refused c =
     let e = number-refused c.form_line.ensures c.in-Refused.is in
     answer-short _ _ _ _ _ c.too_long.ensures c.if-too_long.false
-    (stage-refused (λ q. answer_of (at_end q)) _ _ _ _ (none-answered c.no_sheet-in-Refused.result _ _ _ _ _ c.no_sheet-in-Refused.ensures) e)
+    (stage-refused (λ q. answer_of (at_end q)) _ _ _ _
+    (none-answered c.no_sheet-in-Refused.result _ _ _ _ _ c.no_sheet-in-Refused.ensures) e)
 
 pub returns-in-Number : goal.returns-in-Number
 unfolding body_part

@@ -25,7 +25,10 @@ pub counted_lines-requires : goal.counted_lines-requires
 unfolding split_at
 counted_lines-requires c =
     let p = c.requires in
-    record { count_value = (refl, refl); out_len_bound = (omega (arith, ap length p.idle_all, idles-length most_steps), omega (arith, p.few)) }
+    record {
+      count_value = (refl, refl);
+      out_len_bound = (omega (arith, ap length p.idle_all, idles-length most_steps), omega (arith, p.few));
+    }
 
 pub returns : goal.returns
 returns c =

@@ -44,13 +44,15 @@ pub slice_bounds-refs_lines-end-in-Number : goal.slice_bounds-refs_lines-end-in-
 slice_bounds-refs_lines-end-in-Number c = omega (arith, out_within (goal.at.slice_bounds-refs_lines-end-in-Number c).In-Number)
 
 pub slice_bounds-refs_lines-end-in-Number-2 : goal.slice_bounds-refs_lines-end-in-Number-2
-slice_bounds-refs_lines-end-in-Number-2 c = sym (length-take-le _ _ (omega (arith, out_within (goal.at.slice_bounds-refs_lines-end-in-Number-2 c).In-Number)))
+slice_bounds-refs_lines-end-in-Number-2
+    c = sym (length-take-le _ _ (omega (arith, out_within (goal.at.slice_bounds-refs_lines-end-in-Number-2 c).In-Number)))
 
 pub slice_bounds-refs_lines-end-in-Number-3 : goal.slice_bounds-refs_lines-end-in-Number-3
 slice_bounds-refs_lines-end-in-Number-3 c = omega (arith, marks-within (goal.at.slice_bounds-refs_lines-end-in-Number-3 c).In-Number)
 
 pub slice_bounds-refs_lines-end-in-Number-4 : goal.slice_bounds-refs_lines-end-in-Number-4
-slice_bounds-refs_lines-end-in-Number-4 c = sym (length-take-le _ _ (omega (arith, marks-within (goal.at.slice_bounds-refs_lines-end-in-Number-4 c).In-Number)))
+slice_bounds-refs_lines-end-in-Number-4
+    c = sym (length-take-le _ _ (omega (arith, marks-within (goal.at.slice_bounds-refs_lines-end-in-Number-4 c).In-Number)))
 
 pub refs_lines-lines-requires : goal.refs_lines-lines-requires
 unfolding idles blank_marks
@@ -85,7 +87,8 @@ returns-in-Number c =
     let ms = c.refs_lines-lines.new.marks in
     let h = (sym (length-take-le _ _ (omega (arith, out_within (goal.at.returns-in-Number c).In-Number)))) in
     let l = c.refs_lines-lines.auto.entries ∙ sym h in
-    let l₂ = c.refs_lines-lines.auto.marks ∙ sym ((sym (length-take-le _ _ (omega (arith, marks-within (goal.at.returns-in-Number c).In-Number))))) in
+    let l₂ = c.refs_lines-lines.auto.marks
+    ∙ sym ((sym (length-take-le _ _ (omega (arith, marks-within (goal.at.returns-in-Number c).In-Number))))) in
     let r = c.number_line.ensures in
     let q = c.refs_lines-lines.ensures.reads in
     let f = q.same ∙ ap (λ z. refs_lines a.letters a.segs z (tail a.s.now c.in-Number.at)) (sym h) in
@@ -94,7 +97,8 @@ returns-in-Number c =
     record {
       reads = rw (entries-front a.letters n xs a.out.now ms a.marks.now l l₂) t;
       filled = front-filled n xs a.out.now a.out.now l (out_within (goal.at.returns-in-Number c).In-Number) refl;
-      marked = marks-filled a.letters n ms a.marks.now l₂ (marks-within (goal.at.returns-in-Number c).In-Number) c.refs_lines-lines.ensures.unmarked;
+      marked = marks-filled a.letters n ms a.marks.now l₂ (marks-within (goal.at.returns-in-Number c).In-Number)
+          c.refs_lines-lines.ensures.unmarked;
     }
 
 pub slice_bounds-refs_lines-start : goal.slice_bounds-refs_lines-start

@@ -14,7 +14,8 @@ pub slice_bounds-holds-end : goal.slice_bounds-holds-end
 slice_bounds-holds-end c = omega (arith, c.least-count.ensures, holds-length (goal.at.slice_bounds-holds-end c).Start)
 
 pub slice_bounds-start_table-end : goal.slice_bounds-start_table-end
-slice_bounds-start_table-end c = sym (length-take-le _ _ ((omega (arith, c.least-count.ensures, holds-length (goal.at.slice_bounds-start_table-end c).Start))))
+slice_bounds-start_table-end c = sym
+    (length-take-le _ _ ((omega (arith, c.least-count.ensures, holds-length (goal.at.slice_bounds-start_table-end c).Start))))
 
 pub returns : goal.returns
 returns c =

@@ -13,7 +13,14 @@ use Rattle.recorder.specs.declared.Recorder.{Recorder}
 
 -- a recorder with a head and no step taken yet: the warm segments count as touched
 abbrev pub begun : Head → Recorder
-begun head = record { head = head; steps = 0; last = start_table (head_warm head); buckets = all_empty; cost = record { 0 = 0 }; volume = 0 }
+begun head = record {
+  head = head;
+  steps = 0;
+  last = start_table (head_warm head);
+  buckets = all_empty;
+  cost = record { 0 = 0 };
+  volume = 0;
+}
 
 -- r is what the pass has after a sheet with the references xs more, where p is what it has after the sheet's own n
 abbrev pub Continued : Head → Passed → ℕ → List ℕ → Passed → Type 0

@@ -17,8 +17,12 @@ in_rows : (c : In-loop-i) → (c.loop-i.i < most_rows) × (c.loop-i.i < length c
 in_rows c =
     let n = counted c in
     let few = c.loop-i-test.true in
-    let whole = ap length c.loop-i.invariant.filled ∙ length_front _ c.args.out.now c.loop-i.i (omega (arith, c.count-n.ensures, n.within)) in
-    (omega (arith, c.count-n.ensures, n.most), omega (arith, c.count-n.ensures, n.within), omega (arith, c.count-n.ensures, n.within, whole))
+    let whole = ap length c.loop-i.invariant.filled ∙ length_front _ c.args.out.now c.loop-i.i
+    (omega (arith, c.count-n.ensures, n.within)) in (
+      omega (arith, c.count-n.ensures, n.most),
+      omega (arith, c.count-n.ensures, n.within),
+      omega (arith, c.count-n.ensures, n.within, whole),
+    )
 
 pub loop-i-init : goal.loop-i-init
 loop-i-init c = record { within = omega arith; filled = front-none _ _ }

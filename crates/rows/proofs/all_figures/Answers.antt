@@ -13,7 +13,8 @@ slice_bounds-figures-end c = sym (length-take-le _ _ (omega (arith, c.requires))
 
 pub figures-requires : goal.figures-requires
 unfolding value_of
-figures-requires c = let p = c.requires in record { segs_le_most_segs = (p.segs_within, p.rows_within, p.warm_within); rows_within = (p.valid.rows, p.valid.run) }
+figures-requires c = let p = c.requires in
+    record { segs_le_most_segs = (p.segs_within, p.rows_within, p.warm_within); rows_within = (p.valid.rows, p.valid.run) }
 
 pub returns : goal.returns
 unfolding value_of

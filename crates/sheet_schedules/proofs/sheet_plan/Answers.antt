@@ -63,7 +63,10 @@ write_plan-requires c =
     let x = c.args.s in
     let ok = c.requires in
     let m = steps-counted c.args.s c.requires in
-    record { run_within = (ok.valid.run, λ four. marks-counted x ok ∙ marks-steps x ok four ∙ sym m); refs_in_bounds = omega (arith, m, room (goal.at.write_plan-requires c).After-write_plan-arg-1) }
+    record {
+      run_within = (ok.valid.run, λ four. marks-counted x ok ∙ marks-steps x ok four ∙ sym m);
+      refs_in_bounds = omega (arith, m, room (goal.at.write_plan-requires c).After-write_plan-arg-1);
+    }
 
 pub returns : goal.returns
 unfolding value_of head_value_of

@@ -45,7 +45,9 @@ of-sheet : (c : After-with_stores-arg-1) → let x = c.args.s in
 unfolding value_of head_value_of
 of-sheet c =
     let there' : c.args.row < c.args.s.head.rows = omega (arith, c.if-s-row.false) in
-    let plain' : c.price-plain.result ≡ price_answer (trace_of (value_of c.args.s)) (row_at (value_of c.args.s) c.args.row).h (row_at (value_of c.args.s) c.args.row).d c.args.schedule.now = rw (row_of c.args.s c.requires c.args.row (there')) c.price-plain.ensures in
+    let plain' : c.price-plain.result ≡ price_answer (trace_of (value_of c.args.s)) (row_at (value_of c.args.s) c.args.row).h
+    (row_at (value_of c.args.s) c.args.row).d c.args.schedule.now = rw (row_of c.args.s c.requires c.args.row (there'))
+    c.price-plain.ensures in
     sheet-plain c.args.s c.requires (omega (arith, c.if-s-eq0.false)) c.args.row
     (there') c.args.schedule.now (plain')
 
@@ -89,4 +91,5 @@ with_stores-requires c =
 
 pub returns : goal.returns
 returns c =
-    c.with_stores.ensures (value_of c.args.s) c.args.row (of-sheet (goal.at.returns c).After-with_stores-arg-1) ∙ at_row (goal.at.returns c).After-price-plain
+    c.with_stores.ensures (value_of c.args.s) c.args.row (of-sheet (goal.at.returns c).After-with_stores-arg-1)
+    ∙ at_row (goal.at.returns c).After-price-plain

@@ -15,7 +15,11 @@ stored_load-stores-requires c =
     record { sizes_len_bound = parts.0; marks_len = parts.1 }
 
 pub overflow_add-load : goal.overflow_add-load
-overflow_add-load c = omega (arith, within (goal.at.overflow_add-load c).After-stored_load-stores, c.stored_load-stores.ensures.result_bound)
+overflow_add-load c = omega (
+  arith,
+  within (goal.at.overflow_add-load c).After-stored_load-stores,
+  c.stored_load-stores.ensures.result_bound,
+)
 
 pub total-requires : goal.total-requires
 total-requires c = omega (arith, within (goal.at.total-requires c).After-stored_load-stores, c.stored_load-stores.ensures.result_bound)

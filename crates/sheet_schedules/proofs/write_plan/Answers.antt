@@ -4,7 +4,10 @@ use Rattle.sheet_schedules.proofs.write_plan.Goals as goal
 
 pub write_modified-requires : goal.write_modified-requires
 write_modified-requires c =
-    record { markable = record { run = c.requires.run_within.0; marks_all = c.requires.run_within.1 c.if-form-ge4.true }; refs_in_bounds = c.requires.refs_in_bounds }
+    record {
+      markable = record { run = c.requires.run_within.0; marks_all = c.requires.run_within.1 c.if-form-ge4.true };
+      refs_in_bounds = c.requires.refs_in_bounds;
+    }
 
 pub returns-then-form-ge4 : goal.returns-then-form-ge4
 returns-then-form-ge4 c =

@@ -14,8 +14,11 @@ slice_bounds-write_decided-end c =
     sym (length-take-le _ _ (omega (arith, c.requires.markable.run.steps_within)))
 
 pub write_decided-requires : goal.write_decided-requires
-write_decided-requires c =
-    (c.requires.markable.run.segs_within, length-take-le _ _ (omega (arith, c.requires.markable.run.steps_within)), c.requires.refs_in_bounds)
+write_decided-requires c = (
+  c.requires.markable.run.segs_within,
+  length-take-le _ _ (omega (arith, c.requires.markable.run.steps_within)),
+  c.requires.refs_in_bounds,
+)
 
 pub returns : goal.returns
 returns c =

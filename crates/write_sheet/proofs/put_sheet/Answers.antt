@@ -35,20 +35,41 @@ room m = ap (λ v. length (sheet_text v)) (same m)
 
 pub put_head-run-requires : goal.put_head-run-requires
 put_head-run-requires c =
-    omega (arith, room (goal.at.put_head-run-requires c).After-least-marked, parts-length ((clamped c.args.sheet c.least-steps.result c.least-marked.result)), c.requires, c.put_form-first.ensures.ends)
+    omega (
+      arith,
+      room (goal.at.put_head-run-requires c).After-least-marked,
+      parts-length (clamped c.args.sheet c.least-steps.result c.least-marked.result),
+      c.requires,
+      c.put_form-first.ensures.ends,
+    )
 
 pub put_run-requires : goal.put_run-requires
 put_run-requires c =
-    let l = parts-length ((clamped c.args.sheet c.least-steps.result c.least-marked.result)) in
-    (simp length-take (omega arith), omega (arith, room (goal.at.put_run-requires c).After-least-marked, l, c.requires, c.put_form-first.ensures.ends, c.put_head-run.ensures.ends))
+    let l = parts-length (clamped c.args.sheet c.least-steps.result c.least-marked.result) in (
+      simp length-take (omega arith),
+      omega (
+        arith,
+        room (goal.at.put_run-requires c).After-least-marked,
+        l,
+        c.requires,
+        c.put_form-first.ensures.ends,
+        c.put_head-run.ensures.ends,
+      ),
+    )
 
 pub returns : goal.returns
 returns c =
-    put_same (text-parts ((clamped c.args.sheet c.least-steps.result c.least-marked.result)) ∙ ap sheet_text (same (goal.at.returns c).After-least-marked))
+    put_same (text-parts (clamped c.args.sheet c.least-steps.result c.least-marked.result)
+    ∙ ap sheet_text (same (goal.at.returns c).After-least-marked))
     (put_then c.put_form-first.ensures (put_then c.put_head-run.ensures c.put_run.ensures))
 
 pub put_form-first-requires : goal.put_form-first-requires
-put_form-first-requires c = omega (arith, room (goal.at.put_form-first-requires c).After-least-marked, parts-length ((clamped c.args.sheet c.least-steps.result c.least-marked.result)), c.requires)
+put_form-first-requires c = omega (
+  arith,
+  room (goal.at.put_form-first-requires c).After-least-marked,
+  parts-length (clamped c.args.sheet c.least-steps.result c.least-marked.result),
+  c.requires,
+)
 
 pub slice_bounds-touches-end : goal.slice_bounds-touches-end
 slice_bounds-touches-end c = let e = lengths (goal.at.slice_bounds-touches-end c).Start in omega arith

@@ -27,7 +27,10 @@ bucket_of-k-requires c =
 pub add_end-requires : goal.add_end-requires
 add_end-requires c =
     let each = c.loop-i.invariant.roomy.each _ c.bucket_of-k.ensures.within in
-    record { within = omega (arith, each, c.loop-i-test.true, c.requires.sizes_len_bound.0); limited = touch-limited (goal.at.add_end-requires c).After-bucket_of-k }
+    record {
+      within = omega (arith, each, c.loop-i-test.true, c.requires.sizes_len_bound.0);
+      limited = touch-limited (goal.at.add_end-requires c).After-bucket_of-k;
+    }
 
 pub overflow_add-i : goal.overflow_add-i
 overflow_add-i c = omega (arith, c.loop-i-test.true, c.requires.sizes_len_bound.0)

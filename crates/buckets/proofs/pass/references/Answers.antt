@@ -77,7 +77,14 @@ bucket_of-k-requires c =
 
 pub add_touch-requires : goal.add_touch-requires
 add_touch-requires c =
-    record { within = omega (arith, c.loop-t.invariant.roomy.each _ c.bucket_of-k.ensures.within, few (goal.at.add_touch-requires c).In-loop-t); limited = touch-limited (goal.at.add_touch-requires c).After-bucket_of-k }
+    record {
+      within = omega (
+        arith,
+        c.loop-t.invariant.roomy.each _ c.bucket_of-k.ensures.within,
+        few (goal.at.add_touch-requires c).In-loop-t,
+      );
+      limited = touch-limited (goal.at.add_touch-requires c).After-bucket_of-k;
+    }
 
 pub overflow_add-last : goal.overflow_add-last
 overflow_add-last c = omega (arith, few (goal.at.overflow_add-last c).In-loop-t)
@@ -102,7 +109,8 @@ loop-t-preserved-then-i-sizes c =
           c.add_touch.ensures;
       passed = λ list of warm before at run is.
           rw same
-          (pass_step list _ _ _ _ (c.loop-t.invariant.passed list of warm before at run is) run (in-run (goal.at.loop-t-preserved-then-i-sizes c).In-loop-t before at) _
+          (pass_step list _ _ _ _ (c.loop-t.invariant.passed list of warm before at run is) run
+          (in-run (goal.at.loop-t-preserved-then-i-sizes c).In-loop-t before at) _
           (here (goal.at.loop-t-preserved-then-i-sizes c).In-loop-t warm before at) c.if-i-sizes.true _ lim
           (placed-is _ _ list _ _ _ _ c.touch_of-x.ensures.exact (c.bucket_of-k.ensures.exact list of))
           _ c.add_touch.ensures);

@@ -21,7 +21,8 @@ pub record Passing (kind : Kind) (a rows : ℕ) (hs ds sizes : List ℕ) (steps 
 
 abbrev pub invariant-loop-t : goal.invariant-loop-t
 invariant-loop-t l =
-    Passing l.kind l.a l.rows l.hs l.ds l.sizes l.steps l.refs (record { buckets = l.initial.buckets; last = l.initial.last }) (record { buckets = l.buckets; last = l.last }) l.t
+    Passing l.kind l.a l.rows l.hs l.ds l.sizes l.steps l.refs (record { buckets = l.initial.buckets; last = l.initial.last })
+    (record { buckets = l.buckets; last = l.last }) l.t
 
 abbrev pub decreases-loop-t : goal.decreases-loop-t
 decreases-loop-t l = length l.refs - l.t

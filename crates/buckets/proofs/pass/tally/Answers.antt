@@ -34,7 +34,9 @@ passed : (c : After-references-passed)
     c.args.warm.now
     c.args.refs.now)
 passed c =
-    let of-rows' : RowsOf c.args.rows c.load_prices-loads.result c.memory_prices-memories.result (take c.args.rows c.args.prices) = prices-of _ _ _ _ (omega (arith, c.ranges, c.requires.0)) c.requires.1 c.load_prices-loads.ensures c.memory_prices-memories.ensures in
+    let of-rows' : RowsOf c.args.rows c.load_prices-loads.result c.memory_prices-memories.result
+    (take c.args.rows c.args.prices) = prices-of _ _ _ _ (omega (arith, c.ranges, c.requires.0)) c.requires.1
+    c.load_prices-loads.ensures c.memory_prices-memories.ensures in
     c.references-passed.ensures _ (of-rows') _ [] refl c.requires.2
     (pass_start _ _ _ (λ i. refl) _ _ c.empty_buckets-empty.ensures c.start_table-table.ensures)
 
@@ -58,5 +60,6 @@ unfolding tally_of passed_after
 returns c =
     rw (
       ap (λ (x : Passed). x.buckets) (passed (goal.at.returns c).After-references-passed),
-      c.ends-ended.ensures _ (of-rows (goal.at.returns c).After-memory_prices-memories) _ _ refl c.requires.2 (ap (λ (x : Passed). x.last) (passed (goal.at.returns c).After-references-passed)),
+      c.ends-ended.ensures _ (of-rows (goal.at.returns c).After-memory_prices-memories) _ _ refl c.requires.2
+          (ap (λ (x : Passed). x.last) (passed (goal.at.returns c).After-references-passed)),
     ) refl

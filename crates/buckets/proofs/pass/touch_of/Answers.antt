@@ -18,8 +18,24 @@ retained c =
 
 pub returns-then-mark-steps : goal.returns-then-mark-steps
 returns-then-mark-steps c =
-    record { within = record { is_bucket = omega arith; size_within = omega arith; retention_within = retained c; swap_within = swapped (goal.at.returns-then-mark-steps c).After-swap_cost-w }; exact = reuse-is _ _ _ _ _ _ c.swap_cost-w.ensures c.if-mark-steps.true _ c.retention_cost-r.ensures }
+    record {
+      within = record {
+        is_bucket = omega arith;
+        size_within = omega arith;
+        retention_within = retained c;
+        swap_within = swapped (goal.at.returns-then-mark-steps c).After-swap_cost-w;
+      };
+      exact = reuse-is _ _ _ _ _ _ c.swap_cost-w.ensures c.if-mark-steps.true _ c.retention_cost-r.ensures;
+    }
 
 pub returns-else-mark-steps : goal.returns-else-mark-steps
 returns-else-mark-steps c =
-    record { within = record { is_bucket = omega arith; size_within = omega arith; retention_within = omega arith; swap_within = swapped (goal.at.returns-else-mark-steps c).After-swap_cost-w }; exact = first_is _ _ _ _ _ _ c.swap_cost-w.ensures c.if-mark-steps.false }
+    record {
+      within = record {
+        is_bucket = omega arith;
+        size_within = omega arith;
+        retention_within = omega arith;
+        swap_within = swapped (goal.at.returns-else-mark-steps c).After-swap_cost-w;
+      };
+      exact = first_is _ _ _ _ _ _ c.swap_cost-w.ensures c.if-mark-steps.false;
+    }

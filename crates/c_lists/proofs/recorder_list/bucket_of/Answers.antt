@@ -10,8 +10,18 @@ returns-then-not-again c = record { within = omega arith; exact = λ rows of. rw
 
 pub returns-then-k-list : goal.returns-then-k-list
 returns-then-k-list c =
-    let f = c.first_kept-k.ensures in record { within = omega (arith, f.within); exact = λ rows of. rw (not-false c.args.again c.if-not-again.false-raw) (found-row _ _ _ rows of _ _ f c.if-k-list.true) }
+    let f = c.first_kept-k.ensures in
+    record {
+      within = omega (arith, f.within);
+      exact = λ rows of. rw (not-false c.args.again c.if-not-again.false-raw)
+          (found-row _ _ _ rows of _ _ f c.if-k-list.true);
+    }
 
 pub returns-else-k-list : goal.returns-else-k-list
 returns-else-k-list c =
-    let f = c.first_kept-k.ensures in record { within = omega arith; exact = λ rows of. rw (not-false c.args.again c.if-not-again.false-raw) (found_none _ _ _ rows of _ _ f c.if-k-list.false) }
+    let f = c.first_kept-k.ensures in
+    record {
+      within = omega arith;
+      exact = λ rows of. rw (not-false c.args.again c.if-not-again.false-raw)
+          (found_none _ _ _ rows of _ _ f c.if-k-list.false);
+    }

@@ -26,7 +26,7 @@ pub overflow_add-result-2 : goal.overflow_add-result-2
 overflow_add-result-2 c = omega (arith, few c)
 
 pub overflow_mul-result : goal.overflow_mul-result
-overflow_mul-result c = omega (arith, ((narrows-by-three _ _ _ _ _ c.requires.1 c.requires.2 _ _ _ c.unkept-first.ensures c.unkept-second.ensures c.unkept-third.ensures)).within, c.requires.2)
+overflow_mul-result c = omega (arith, (returns c).within, c.requires.2)
 
 pub overflow_add-result-3 : goal.overflow_add-result-3
-overflow_add-result-3 c = omega (arith, ((narrows-by-three _ _ _ _ _ c.requires.1 c.requires.2 _ _ _ c.unkept-first.ensures c.unkept-second.ensures c.unkept-third.ensures)).within, c.requires.2)
+overflow_add-result-3 c = omega (arith, (returns c).within, c.requires.2)

@@ -9,13 +9,13 @@ returns c =
     c.unkept-third.ensures c.unkept-fourth.ensures
 
 pub overflow_add-result : goal.overflow_add-result
-overflow_add-result c = omega (arith, ((narrows-by-four _ _ _ _ c.requires.1 _ _ _ _ c.unkept-first.ensures c.unkept-second.ensures c.unkept-third.ensures c.unkept-fourth.ensures)).within, c.requires.1)
+overflow_add-result c = omega (arith, (returns c).within, c.requires.1)
 
 pub overflow_add-result-2 : goal.overflow_add-result-2
-overflow_add-result-2 c = omega (arith, ((narrows-by-four _ _ _ _ c.requires.1 _ _ _ _ c.unkept-first.ensures c.unkept-second.ensures c.unkept-third.ensures c.unkept-fourth.ensures)).within, c.requires.1)
+overflow_add-result-2 c = omega (arith, (returns c).within, c.requires.1)
 
 pub overflow_add-result-3 : goal.overflow_add-result-3
-overflow_add-result-3 c = omega (arith, ((narrows-by-four _ _ _ _ c.requires.1 _ _ _ _ c.unkept-first.ensures c.unkept-second.ensures c.unkept-third.ensures c.unkept-fourth.ensures)).within, c.requires.1)
+overflow_add-result-3 c = omega (arith, (returns c).within, c.requires.1)
 
 pub overflow_add-result-4 : goal.overflow_add-result-4
-overflow_add-result-4 c = omega (arith, ((narrows-by-four _ _ _ _ c.requires.1 _ _ _ _ c.unkept-first.ensures c.unkept-second.ensures c.unkept-third.ensures c.unkept-fourth.ensures)).within, c.requires.1)
+overflow_add-result-4 c = omega (arith, (returns c).within, c.requires.1)

@@ -11,7 +11,8 @@ use Rattle.c_lists.proofs.recorder_list.take_all.Given as goal
 abbrev pub invariant-loop-t : goal.invariant-loop-t
 invariant-loop-t l =
     (l.t ≤ length l.refs)
-    × ((v : SheetValue) → Valid v → l.initial.list ≡ list_of (recorder_of v) → l.list ≡ list_of (recorder_of (appended v (take l.t l.refs))))
+    × ((v : SheetValue) → Valid v → l.initial.list ≡ list_of (recorder_of v) → l.list
+    ≡ list_of (recorder_of (appended v (take l.t l.refs))))
 
 abbrev pub decreases-loop-t : goal.decreases-loop-t
 decreases-loop-t l = length l.refs - l.t

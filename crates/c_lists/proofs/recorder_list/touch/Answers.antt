@@ -24,7 +24,9 @@ take-requires c =
 pub returns : goal.returns
 returns c =
     let a = c.args in record {
-      verdict = touchable a.list.now a.segment (omega (arith, c.if-segs-segment.false, c.least-segs.ensures)) (omega (arith, c.if-steps.false));
-      changed = touched a.list.now a.segment (omega (arith, c.if-segs-segment.false, c.least-segs.ensures)) (omega (arith, c.if-steps.false)) _
+      verdict = touchable a.list.now a.segment (omega (arith, c.if-segs-segment.false, c.least-segs.ensures))
+          (omega (arith, c.if-steps.false));
+      changed = touched a.list.now a.segment (omega (arith, c.if-segs-segment.false, c.least-segs.ensures))
+          (omega (arith, c.if-steps.false)) _
           c.take.ensures;
     }

@@ -1,7 +1,7 @@
 -- `tables::buckets_of` meets its contract. The loop's invariant: the first k buckets are stored. The measure is what is left of the
 -- buckets.
 use Rattle.buckets.specs.Buckets.{no_bucket}
-use Rattle.model.proofs.Tables.{length-tabulate, get_d_tabulate}
+use Rattle.model.proofs.Tables.{length-tabulate, get_or-tabulate}
 use Rattle.c_lists.specs.Tables.{bucket_in}
 use Rattle.c_lists.proofs.BucketSums.{filled_start, filled_step, filled_end}
 use borrow.Author.Rules.{rules}
@@ -14,7 +14,7 @@ pub loop-k-preserved : goal.loop-k-preserved
 loop-k-preserved c =
     filled_step 65 _ _ _ _ no_bucket c.loop-k.invariant
     c.loop-k-test.true
-    (get_d_tabulate 65 (bucket_in c.args.sums.now) _ no_bucket
+    (get_or-tabulate 65 (bucket_in c.args.sums.now) _ no_bucket
     c.loop-k-test.true)
 
 pub returns : goal.returns

@@ -25,7 +25,8 @@ value c = value_of _ c.requires _ (byte c)
 fits : (c : Else-d-eq16) → c.loop-n.value * 16 + get_or c.args.values.now (get_or c.args.s.now c.loop-n.n 0) 0 < 2 ^ 32
 fits c =
     let byte' : get_or c.args.s.now c.loop-n.n 0 < 256 = omega (arith, c.type_inv.s c.loop-n.n) in
-    let value' : get_or c.args.values.now (get_or c.args.s.now c.loop-n.n 0) 0 ≡ digit_of (get_or c.args.s.now c.loop-n.n 0) = value_of _ c.requires _ (byte') in
+    let value' : get_or c.args.values.now (get_or c.args.s.now c.loop-n.n 0) 0
+    ≡ digit_of (get_or c.args.s.now c.loop-n.n 0) = value_of _ c.requires _ (byte') in
     along-fits _ _ _ c.loop-n.invariant c.loop-n-test.true c.if-b-eq10.false c.if-n-eq-MAX_DIGITS.false _ (value') c.if-d-eq16.false
 
 pub loop-n-init : goal.loop-n-init
@@ -37,11 +38,17 @@ returns-then-n-eq0 c =
 
 pub returns-then-b-eq10 : goal.returns-then-b-eq10
 returns-then-b-eq10 c =
-    record { result_value = along-feed _ _ _ c.loop-n.invariant c.loop-n-test.true c.if-b-eq10.true (omega arith); next_within = omega arith }
+    record {
+      result_value = along-feed _ _ _ c.loop-n.invariant c.loop-n-test.true c.if-b-eq10.true (omega arith);
+      next_within = omega arith;
+    }
 
 pub returns-then-n-eq-MAX_DIGITS : goal.returns-then-n-eq-MAX_DIGITS
 returns-then-n-eq-MAX_DIGITS c =
-    record { result_value = along-full _ _ _ c.loop-n.invariant c.loop-n-test.true c.if-b-eq10.false c.if-n-eq-MAX_DIGITS.true; next_within = tt }
+    record {
+      result_value = along-full _ _ _ c.loop-n.invariant c.loop-n-test.true c.if-b-eq10.false c.if-n-eq-MAX_DIGITS.true;
+      next_within = tt;
+    }
 
 pub overflow_cast-d : goal.overflow_cast-d
 overflow_cast-d c = omega (arith, byte c)
@@ -52,7 +59,11 @@ bounds-values-b c =
 
 pub returns-then-d-eq16 : goal.returns-then-d-eq16
 returns-then-d-eq16 c =
-    record { result_value = along-none _ _ _ c.loop-n.invariant c.loop-n-test.true c.if-b-eq10.false (sym c.if-d-eq16.true ∙ value (goal.at.returns-then-d-eq16 c).Else-n-eq-MAX_DIGITS); next_within = tt }
+    record {
+      result_value = along-none _ _ _ c.loop-n.invariant c.loop-n-test.true c.if-b-eq10.false
+          (sym c.if-d-eq16.true ∙ value (goal.at.returns-then-d-eq16 c).Else-n-eq-MAX_DIGITS);
+      next_within = tt;
+    }
 
 pub overflow_mul-value : goal.overflow_mul-value
 overflow_mul-value c = omega (arith, fits c)
@@ -65,7 +76,8 @@ overflow_add-value c = omega (arith, fits c)
 
 pub loop-n-preserved : goal.loop-n-preserved
 loop-n-preserved c =
-    along-next _ _ _ c.loop-n.invariant c.loop-n-test.true c.if-b-eq10.false c.if-n-eq-MAX_DIGITS.false _ (value (goal.at.loop-n-preserved c).Else-n-eq-MAX_DIGITS) c.if-d-eq16.false
+    along-next _ _ _ c.loop-n.invariant c.loop-n-test.true c.if-b-eq10.false c.if-n-eq-MAX_DIGITS.false _
+    (value (goal.at.loop-n-preserved c).Else-n-eq-MAX_DIGITS) c.if-d-eq16.false
 
 pub returns : goal.returns
 returns c = record { result_value = along-end _ _ _ c.loop-n.invariant c.loop-n-test.false; next_within = tt }

@@ -28,7 +28,10 @@ returns-then-s-gt50 c =
 
 pub returns-then-s-ne32 : goal.returns-then-s-ne32
 returns-then-s-ne32 c =
-    record { result_value = line-unparted _ c.if-s-lt2.false (within 48 50 _ c.if-s-lt48.false c.if-s-gt50.false) c.if-s-ne32.true; next_within = tt }
+    record {
+      result_value = line-unparted _ c.if-s-lt2.false (within 48 50 _ c.if-s-lt48.false c.if-s-gt50.false) c.if-s-ne32.true;
+      next_within = tt;
+    }
 
 pub address-requires : goal.address-requires
 address-requires c = c.requires.1

@@ -73,13 +73,15 @@ pub returns-then-segment-eq-MAX_SEGS : goal.returns-then-segment-eq-MAX_SEGS
 returns-then-segment-eq-MAX_SEGS c =
     c.refused-then-segment-eq-MAX_SEGS.ensures
     ∙ going_many_segs _ _ _ _ _ _ _ _ c.loop-at.invariant _ c.in-Address.next
-    (ap (first_at _) (sym c.in-Address.is) ∙ c.line.ensures.result_value) _ c.place_of-place.ensures _ c.number_at-segment.ensures c.if-segment-eq-MAX_SEGS.true
+    (ap (first_at _) (sym c.in-Address.is) ∙ c.line.ensures.result_value) _ c.place_of-place.ensures _ c.number_at-segment.ensures
+    c.if-segment-eq-MAX_SEGS.true
 
 pub returns-then-steps-eq-MAX_STEPS : goal.returns-then-steps-eq-MAX_STEPS
 returns-then-steps-eq-MAX_STEPS c =
     c.refused-then-steps-eq-MAX_STEPS.ensures
     ∙ going_many_steps _ _ _ _ _ _ _ _ c.loop-at.invariant _ c.in-Address.next
-    (ap (first_at _) (sym c.in-Address.is) ∙ c.line.ensures.result_value) _ c.place_of-place.ensures _ c.number_at-segment.ensures c.if-steps-eq-MAX_STEPS.true
+    (ap (first_at _) (sym c.in-Address.is) ∙ c.line.ensures.result_value) _ c.place_of-place.ensures _ c.number_at-segment.ensures
+    c.if-steps-eq-MAX_STEPS.true
 
 pub bounds-pages-place : goal.bounds-pages-place
 bounds-pages-place c = place-below (goal.at.bounds-pages-place c).After-place_of-place
@@ -119,7 +121,8 @@ loop-at-smaller c =
 pub loop-at-preserved : goal.loop-at-preserved
 loop-at-preserved c =
     going_next _ _ _ _ _ _ _ _ c.loop-at.invariant _ c.in-Address.next
-    (ap (first_at _) (sym c.in-Address.is) ∙ c.line.ensures.result_value) _ c.place_of-place.ensures _ c.number_at-segment.ensures c.if-segment-eq-MAX_SEGS.false
+    (ap (first_at _) (sym c.in-Address.is) ∙ c.line.ensures.result_value) _ c.place_of-place.ensures _ c.number_at-segment.ensures
+    c.if-segment-eq-MAX_SEGS.false
     c.if-steps-eq-MAX_STEPS.false (next-within (goal.at.loop-at-preserved c).In-Address).1 _ c.larger-segs.ensures
 
 pub returns : goal.returns

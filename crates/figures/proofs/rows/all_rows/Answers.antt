@@ -29,9 +29,10 @@ row_count : (s : Start) → length (list s) ≡ s.args.rows
 row_count s = length-take-le s.args.rows s.args.prices (omega (arith, s.well_formed, s.requires.0))
 
 -- a turn's row is one of the sheet's
-is_row : (c : In-loop-r) → c.loop-r.r < length ((take c.args.rows c.args.prices))
+is_row : (c : In-loop-r) → c.loop-r.r < length (take c.args.rows c.args.prices)
 is_row c =
-    let row_count' : length ((take c.args.rows c.args.prices)) ≡ c.args.rows = length-take-le c.args.rows c.args.prices (omega (arith, c.well_formed, c.requires.0)) in
+    let row_count' : length (take c.args.rows c.args.prices) ≡ c.args.rows = length-take-le c.args.rows c.args.prices
+    (omega (arith, c.well_formed, c.requires.0)) in
     omega (arith, row_count', c.loop-r-test.true)
 
 -- and within the array's 64
@@ -41,27 +42,35 @@ few c = omega (arith, c.loop-r-test.true, c.requires.0)
 -- the sums of all buckets with those of the warm segments
 all-from : (c : After-start_swaps-start)
     → with_start c.start_swaps-start.result c.add_up-touches.result
-    ≡ all_from ((take c.args.rows c.args.prices)) ((run_of c.args.kind c.args.a c.args.sizes.now c.args.warm.now c.args.refs.now)) c.args.tally c.requires.1
+    ≡ all_from (take c.args.rows c.args.prices) (run_of c.args.kind c.args.a c.args.sizes.now c.args.warm.now c.args.refs.now)
+    c.args.tally c.requires.1
 all-from c =
-    tallied-all ((take c.args.rows c.args.prices)) ((run_of c.args.kind c.args.a c.args.sizes.now c.args.warm.now c.args.refs.now)) c.args.tally c.requires.1 c.add_up-touches.ensures
+    tallied-all (take c.args.rows c.args.prices) (run_of c.args.kind c.args.a c.args.sizes.now c.args.warm.now c.args.refs.now)
+    c.args.tally c.requires.1 c.add_up-touches.ensures
     (c.start_swaps-start.ensures ∙ starts-are c.args.kind c.args.a c.args.sizes.now c.args.warm.now c.args.refs.now)
 
 -- after both sums and the row's prices, the sweep is at the turn's row
 swept-to : (c : After-row-1)
-    → SweptTo ((take c.args.rows c.args.prices)) ((run_of c.args.kind c.args.a c.args.sizes.now c.args.warm.now c.args.refs.now)) c.args.tally
+    → SweptTo (take c.args.rows c.args.prices) (run_of c.args.kind c.args.a c.args.sizes.now c.args.warm.now c.args.refs.now) c.args.tally
     c.requires.1
     c.loop-r.r
     (get_or c.args.prices c.loop-r.r (record { h = 0; d = 0 }))
     c.by_kind.result c.add_up-touches.result.volume
     c.with_start-all.result c.add-kept.result c.add-ends.result
 swept-to c =
-    let all-from' : with_start c.start_swaps-start.result c.add_up-touches.result ≡ all_from ((take c.args.rows c.args.prices)) ((run_of c.args.kind c.args.a c.args.sizes.now c.args.warm.now c.args.refs.now)) c.args.tally c.requires.1 = tallied-all ((take c.args.rows c.args.prices)) ((run_of c.args.kind c.args.a c.args.sizes.now c.args.warm.now c.args.refs.now)) c.args.tally c.requires.1 c.add_up-touches.ensures (c.start_swaps-start.ensures ∙ starts-are c.args.kind c.args.a c.args.sizes.now c.args.warm.now c.args.refs.now) in
+    let all-from' : with_start c.start_swaps-start.result c.add_up-touches.result
+    ≡ all_from (take c.args.rows c.args.prices) (run_of c.args.kind c.args.a c.args.sizes.now c.args.warm.now c.args.refs.now)
+    c.args.tally c.requires.1 = tallied-all (take c.args.rows c.args.prices)
+    (run_of c.args.kind c.args.a c.args.sizes.now c.args.warm.now c.args.refs.now) c.args.tally c.requires.1 c.add_up-touches.ensures
+    (c.start_swaps-start.ensures ∙ starts-are c.args.kind c.args.a c.args.sizes.now c.args.warm.now c.args.refs.now) in
     let r = c.loop-r.r in
     let touches = c.add_up-touches.ensures in
     record {
       row_is = sym (get_or-take c.args.rows c.args.prices r (record { h = 0; d = 0 }) c.loop-r-test.true);
-      cost_is = c.by_kind.ensures ∙ tallied-cost ((take c.args.rows c.args.prices)) ((run_of c.args.kind c.args.a c.args.sizes.now c.args.warm.now c.args.refs.now)) c.args.tally c.requires.1 touches;
-      volume_is = tallied-volume ((take c.args.rows c.args.prices)) ((run_of c.args.kind c.args.a c.args.sizes.now c.args.warm.now c.args.refs.now)) c.args.tally c.requires.1 touches;
+      cost_is = c.by_kind.ensures ∙ tallied-cost (take c.args.rows c.args.prices)
+          (run_of c.args.kind c.args.a c.args.sizes.now c.args.warm.now c.args.refs.now) c.args.tally c.requires.1 touches;
+      volume_is = tallied-volume (take c.args.rows c.args.prices)
+          (run_of c.args.kind c.args.a c.args.sizes.now c.args.warm.now c.args.refs.now) c.args.tally c.requires.1 touches;
       all_is = c.with_start-all.ensures ∙ all-from';
       kept_is = summed-more c.args.tally.buckets r c.loop-r.invariant.1 c.add-kept.ensures;
       ends_is = summed-more c.args.tally.ends r c.loop-r.invariant.2 c.add-ends.ensures;
@@ -69,21 +78,24 @@ swept-to c =
 
 pub add_up-touches-requires : goal.add_up-touches-requires
 add_up-touches-requires c =
-    tallied-buckets ((take c.args.rows c.args.prices)) ((run_of c.args.kind c.args.a c.args.sizes.now c.args.warm.now c.args.refs.now)) c.args.tally c.requires.1
+    tallied-buckets (take c.args.rows c.args.prices) (run_of c.args.kind c.args.a c.args.sizes.now c.args.warm.now c.args.refs.now)
+    c.args.tally c.requires.1
 
 pub start_swaps-start-requires : goal.start_swaps-start-requires
 start_swaps-start-requires c = c.requires.1.run_ok.segs_within
 
 pub with_start-all-requires : goal.with_start-all-requires
 with_start-all-requires c =
-    rw (all-from c) (all-fits ((take c.args.rows c.args.prices)) ((run_of c.args.kind c.args.a c.args.sizes.now c.args.warm.now c.args.refs.now)) c.args.tally c.requires.1)
+    rw (all-from c) (all-fits (take c.args.rows c.args.prices)
+    (run_of c.args.kind c.args.a c.args.sizes.now c.args.warm.now c.args.refs.now) c.args.tally c.requires.1)
 
 pub loop-r-init : goal.loop-r-init
 loop-r-init c = (
   omega arith,
   c.none-kept.ensures ∙ sym (summed-none c.args.tally.buckets),
   c.none-ends.ensures ∙ sym (summed-none c.args.tally.ends),
-  c.no_figures-out.ensures ∙ figures-none ((take c.args.rows c.args.prices)) ((run_of c.args.kind c.args.a c.args.sizes.now c.args.warm.now c.args.refs.now)),
+  c.no_figures-out.ensures ∙ figures-none (take c.args.rows c.args.prices)
+      (run_of c.args.kind c.args.a c.args.sizes.now c.args.warm.now c.args.refs.now),
 )
 
 pub offset_bounds-buckets-r : goal.offset_bounds-buckets-r
@@ -102,14 +114,16 @@ pub add-kept-requires : goal.add-kept-requires
 add-kept-requires c =
     let r = c.loop-r.r in
     rw (c.loop-r.invariant.1, ← summed-suc c.args.tally.buckets r)
-    (tallied-buckets ((take c.args.rows c.args.prices)) ((run_of c.args.kind c.args.a c.args.sizes.now c.args.warm.now c.args.refs.now)) c.args.tally c.requires.1 (suc r) (omega (arith, c.loop-r-test.true, c.requires.0)))
+    (tallied-buckets (take c.args.rows c.args.prices) (run_of c.args.kind c.args.a c.args.sizes.now c.args.warm.now c.args.refs.now)
+    c.args.tally c.requires.1 (suc r) (omega (arith, c.loop-r-test.true, c.requires.0)))
 
 pub add-ends-requires : goal.add-ends-requires
 add-ends-requires c =
     let r = c.loop-r.r in
     rw (c.loop-r.invariant.2, ← summed-suc c.args.tally.ends r)
     (holds_more (summed c.args.tally.ends (suc r))
-    (tallied-ends ((take c.args.rows c.args.prices)) ((run_of c.args.kind c.args.a c.args.sizes.now c.args.warm.now c.args.refs.now)) c.args.tally c.requires.1 (suc r) (omega (arith, c.loop-r-test.true, c.requires.0))))
+    (tallied-ends (take c.args.rows c.args.prices) (run_of c.args.kind c.args.a c.args.sizes.now c.args.warm.now c.args.refs.now)
+    c.args.tally c.requires.1 (suc r) (omega (arith, c.loop-r-test.true, c.requires.0))))
 
 pub offset_bounds-prices-r : goal.offset_bounds-prices-r
 offset_bounds-prices-r c = omega (arith, few (goal.at.offset_bounds-prices-r c).In-loop-r)
@@ -119,7 +133,8 @@ bounds-prices-r c = few (goal.at.bounds-prices-r c).In-loop-r
 
 pub row_figures-requires : goal.row_figures-requires
 row_figures-requires c =
-    tallied_fits ((take c.args.rows c.args.prices)) ((run_of c.args.kind c.args.a c.args.sizes.now c.args.warm.now c.args.refs.now)) c.args.tally c.requires.1 c.loop-r.r (is_row (goal.at.row_figures-requires c).In-loop-r) (swept-to c)
+    tallied_fits (take c.args.rows c.args.prices) (run_of c.args.kind c.args.a c.args.sizes.now c.args.warm.now c.args.refs.now)
+    c.args.tally c.requires.1 c.loop-r.r (is_row (goal.at.row_figures-requires c).In-loop-r) (swept-to c)
 
 pub offset_bounds-out-r : goal.offset_bounds-out-r
 offset_bounds-out-r c = omega (arith, few (goal.at.offset_bounds-out-r c).In-loop-r)
@@ -138,11 +153,19 @@ loop-r-preserved c =
       omega (arith, c.loop-r-test.true),
       swept.kept_is,
       swept.ends_is,
-      figures-suc ((take c.args.rows c.args.prices)) ((run_of c.args.kind c.args.a c.args.sizes.now c.args.warm.now c.args.refs.now)) r (omega (arith, c.loop-r-test.true, c.requires.0)) c.loop-r.invariant.3
-          (tallied_row ((take c.args.rows c.args.prices)) ((run_of c.args.kind c.args.a c.args.sizes.now c.args.warm.now c.args.refs.now)) c.args.tally c.requires.1 r (is_row (goal.at.loop-r-preserved c).In-loop-r) swept c.row_figures.ensures),
+      figures-suc (take c.args.rows c.args.prices) (run_of c.args.kind c.args.a c.args.sizes.now c.args.warm.now c.args.refs.now) r
+          (omega (arith, c.loop-r-test.true, c.requires.0)) c.loop-r.invariant.3
+          (tallied_row (take c.args.rows c.args.prices) (run_of c.args.kind c.args.a c.args.sizes.now c.args.warm.now c.args.refs.now)
+          c.args.tally c.requires.1 r (is_row (goal.at.loop-r-preserved c).In-loop-r) swept c.row_figures.ensures),
     )
 
 pub returns : goal.returns
 returns c =
-    let whole : c.loop-r.r ≡ length ((take c.args.rows c.args.prices)) = omega (arith, row_count (goal.at.returns c).Start, c.loop-r-test.false, c.loop-r.invariant.0) in
-    c.loop-r.invariant.3 ∙ rw whole (figures-all ((take c.args.rows c.args.prices)) ((run_of c.args.kind c.args.a c.args.sizes.now c.args.warm.now c.args.refs.now)))
+    let whole : c.loop-r.r ≡ length (take c.args.rows c.args.prices) = omega (
+      arith,
+      row_count (goal.at.returns c).Start,
+      c.loop-r-test.false,
+      c.loop-r.invariant.0,
+    ) in
+    c.loop-r.invariant.3 ∙ rw whole
+    (figures-all (take c.args.rows c.args.prices) (run_of c.args.kind c.args.a c.args.sizes.now c.args.warm.now c.args.refs.now))

@@ -11,7 +11,10 @@ fits-product c = product-within c.args.a c.args.z (2 ^ 8) (2 ^ 16) (omega arith)
 
 pub returns-then-mark-eq0 : goal.returns-then-mark-eq0
 returns-then-mark-eq0 c =
-    record { within = omega (arith, c.swap_cost.ensures, fits-product (goal.at.returns-then-mark-eq0 c).Start); exact = rw (eq-eqb c.args.mark 0 c.if-mark-eq0.true) c.swap_cost.ensures }
+    record {
+      within = omega (arith, c.swap_cost.ensures, fits-product (goal.at.returns-then-mark-eq0 c).Start);
+      exact = rw (eq-eqb c.args.mark 0 c.if-mark-eq0.true) c.swap_cost.ensures;
+    }
 
 pub returns : goal.returns
 returns c = record { within = omega arith; exact = rw (ne_eqb c.args.mark 0 c.if-mark-eq0.false) }

@@ -39,7 +39,13 @@ plus-swap-requires c = omega (arith, in_table (goal.at.plus-swap-requires c).In-
 
 pub plus-swapz-requires : goal.plus-swapz-requires
 plus-swapz-requires c =
-    omega (arith, in_table (goal.at.plus-swapz-requires c).In-loop-i, c.loop-i.invariant.2, c.times.ensures, adds-within (goal.at.plus-swapz-requires c).After-start_swap-w)
+    omega (
+      arith,
+      in_table (goal.at.plus-swapz-requires c).In-loop-i,
+      c.loop-i.invariant.2,
+      c.times.ensures,
+      adds-within (goal.at.plus-swapz-requires c).After-start_swap-w,
+    )
 
 pub loop-i-preserved : goal.loop-i-preserved
 loop-i-preserved c = (

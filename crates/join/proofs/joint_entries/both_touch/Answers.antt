@@ -4,7 +4,7 @@ use mathlib.Core.Path.{◌≡◌, sym}
 use native.Mathlib.Omega.{arith}
 use lib.ListN.{length}
 use Rattle.model.specs.Sheets.{idle}
-use Rattle.model.proofs.Lists.{get_d_any}
+use Rattle.model.proofs.Lists.{get_or-any}
 use Rattle.join.proofs.Entries.{both-none, both-step, both-stop, both-common}
 use Rattle.join.proofs.joint_entries.both_touch.Goals.{In-loop-t}
 use Rattle.join.proofs.joint_entries.both_touch.Goals as goal
@@ -33,7 +33,7 @@ returns-then-both_at c =
     let a = c.args in
     let t = c.loop-t.t in
     let (l, u, v) = within (goal.at.returns-then-both_at c).In-loop-t in
-    both-stop a.xs.now a.ys.now t a.n l _ _ _ (get_d_any a.xs.now t 0 idle u) (get_d_any a.ys.now t 0 idle v)
+    both-stop a.xs.now a.ys.now t a.n l _ _ _ (get_or-any a.xs.now t 0 idle u) (get_or-any a.ys.now t 0 idle v)
     c.both_at.ensures c.if-both_at.true
 
 pub loop-t-preserved : goal.loop-t-preserved
@@ -42,8 +42,8 @@ loop-t-preserved c =
     let t = c.loop-t.t in
     let (l, u, v) = within (goal.at.loop-t-preserved c).In-loop-t in (
       omega arith,
-      both-step a.xs.now a.ys.now t c.loop-t.invariant.1 _ _ _ (get_d_any a.xs.now t 0 idle u)
-          (get_d_any a.ys.now t 0 idle v) c.both_at.ensures c.if-both_at.false,
+      both-step a.xs.now a.ys.now t c.loop-t.invariant.1 _ _ _ (get_or-any a.xs.now t 0 idle u)
+          (get_or-any a.ys.now t 0 idle v) c.both_at.ensures c.if-both_at.false,
     )
 
 pub returns : goal.returns

@@ -45,7 +45,7 @@ pub loop-t-preserved : goal.loop-t-preserved
 loop-t-preserved c =
     let t = c.loop-t.t in (
       omega (arith, c.loop-t-test.true),
-      filling-next ((entries_of c.args.n c.args.xs.now c.args.ys.now c.args.steps)) (idles most_steps) _ t 0 _ c.loop-t.invariant.1
+      filling-next (entries_of c.args.n c.args.xs.now c.args.ys.now c.args.steps) (idles most_steps) _ t 0 _ c.loop-t.invariant.1
           (omega (arith, count (goal.at.loop-t-preserved c).Start, c.loop-t-test.true))
           (omega (arith, count (goal.at.loop-t-preserved c).Start, idles-length most_steps, c.requires.1))
           (entries_at c.args.n c.args.xs.now c.args.ys.now c.args.steps t c.loop-t-test.true _ _ _
@@ -55,4 +55,5 @@ loop-t-preserved c =
 
 pub returns : goal.returns
 returns c =
-    filling-all ((entries_of c.args.n c.args.xs.now c.args.ys.now c.args.steps)) (idles most_steps) _ c.loop-t.t c.loop-t.invariant.1 (omega (arith, count (goal.at.returns c).Start, c.loop-t-test.false))
+    filling-all (entries_of c.args.n c.args.xs.now c.args.ys.now c.args.steps) (idles most_steps) _ c.loop-t.t c.loop-t.invariant.1
+    (omega (arith, count (goal.at.returns c).Start, c.loop-t-test.false))

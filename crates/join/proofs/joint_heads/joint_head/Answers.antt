@@ -59,5 +59,6 @@ slice_bounds-joint_numbers-end-4 c = sym
 
 pub returns : goal.returns
 returns c =
-    joint-held c.args.p c.args.q (segs-in (goal.at.returns c).Start) (more-segs-in (goal.at.returns c).Start) (warm-in (goal.at.returns c).Start) (more-warm-in (goal.at.returns c).Start) (rows_in (goal.at.returns c).Start) _ _ _
+    joint-held c.args.p c.args.q (segs-in (goal.at.returns c).Start) (more-segs-in (goal.at.returns c).Start)
+    (warm-in (goal.at.returns c).Start) (more-warm-in (goal.at.returns c).Start) (rows_in (goal.at.returns c).Start) _ _ _
     c.joint_numbers-all_sizes.ensures c.joint_numbers-all_holds.ensures c.first_rows.ensures

@@ -23,7 +23,7 @@ pub overflow_add-count : goal.overflow_add-count
 overflow_add-count c = omega (arith, c.requires.few)
 
 pub loop-k-init : goal.loop-k-init
-loop-k-init c = (omega arith, filling-none ((moved_after c.args.xs.now c.args.n c.args.ys.now)) (zeros most_segs) _ c.no_numbers-all.ensures)
+loop-k-init c = (omega arith, filling-none (moved_after c.args.xs.now c.args.n c.args.ys.now) (zeros most_segs) _ c.no_numbers-all.ensures)
 
 pub number_at-requires : goal.number_at-requires
 number_at-requires c = (c.requires, c.loop-k-test.true)
@@ -35,7 +35,7 @@ pub loop-k-preserved : goal.loop-k-preserved
 loop-k-preserved c =
     let k = c.loop-k.k in (
       omega (arith, c.loop-k-test.true),
-      filling-next ((moved_after c.args.xs.now c.args.n c.args.ys.now)) (zeros most_segs) _ k 0 _ c.loop-k.invariant.1
+      filling-next (moved_after c.args.xs.now c.args.n c.args.ys.now) (zeros most_segs) _ k 0 _ c.loop-k.invariant.1
           (omega (arith, numbers-length c.args.xs.now c.args.n c.args.ys.now, c.loop-k-test.true))
           (omega (arith, few (goal.at.loop-k-preserved c).Start, zeros-length most_segs))
           c.number_at.ensures,
@@ -43,5 +43,5 @@ loop-k-preserved c =
 
 pub returns : goal.returns
 returns c =
-    filling-all ((moved_after c.args.xs.now c.args.n c.args.ys.now)) (zeros most_segs) _ c.loop-k.k c.loop-k.invariant.1
+    filling-all (moved_after c.args.xs.now c.args.n c.args.ys.now) (zeros most_segs) _ c.loop-k.k c.loop-k.invariant.1
     (omega (arith, numbers-length c.args.xs.now c.args.n c.args.ys.now, c.loop-k-test.false))

@@ -19,7 +19,13 @@ pub returns-then-m-n : goal.returns-then-m-n
 returns-then-m-n c =
     sym
     (rows-unlike (take c.args.m c.args.ps) (take c.args.n c.args.qs)
-    (λ same. absurd (omega (arith, first_count (goal.at.returns-then-m-n c).Start, second-count (goal.at.returns-then-m-n c).Start, same, c.if-m-n.true))))
+    (λ same. absurd (omega (
+      arith,
+      first_count (goal.at.returns-then-m-n c).Start,
+      second-count (goal.at.returns-then-m-n c).Start,
+      same,
+      c.if-m-n.true,
+    ))))
 
 pub loop-r-init : goal.loop-r-init
 loop-r-init c = (omega (arith, c.if-m-n.false), omega arith, refl)
@@ -29,7 +35,8 @@ returns-then-not-same_row c =
     sym
     (c.loop-r.invariant.2
     ∙ rows-off c.args.ps c.args.qs c.args.m c.args.n c.loop-r.r (record { h = 0; d = 0 }) (omega (arith, c.well_formed, c.requires))
-    (omega (arith, c.well_formed, c.requires)) c.loop-r-test.true (omega (arith, c.loop-r-test.true, c.loop-r.invariant.0)) _ c.same_row.ensures
+    (omega (arith, c.well_formed, c.requires)) c.loop-r-test.true (omega (arith, c.loop-r-test.true, c.loop-r.invariant.0)) _
+    c.same_row.ensures
     (not-true _ c.if-not-same_row.true-raw))
 
 pub loop-r-preserved : goal.loop-r-preserved

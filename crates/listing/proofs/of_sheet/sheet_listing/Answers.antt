@@ -30,11 +30,21 @@ all_modtotals-totals-requires c =
 pub write-requires : goal.write-requires
 write-requires c = (
   c.requires.rows_within,
-  rw (c.all_figures-all.ensures, c.sheet_refs-refs.ensures, listing-of c.args.s c.requires c.if-has_modtotal.totals (totals (goal.at.write-requires c).Joined-has_modtotal))
+  rw (
+    c.all_figures-all.ensures,
+    c.sheet_refs-refs.ensures,
+    listing-of c.args.s c.requires c.if-has_modtotal.totals
+        (totals (goal.at.write-requires c).Joined-has_modtotal),
+  )
       (listing-fits c.args.s c.requires),
 )
 
 pub returns : goal.returns
 returns c =
-    rw (c.all_figures-all.ensures, c.sheet_refs-refs.ensures, listing-of c.args.s c.requires c.if-has_modtotal.totals (totals (goal.at.returns c).Joined-has_modtotal))
+    rw (
+      c.all_figures-all.ensures,
+      c.sheet_refs-refs.ensures,
+      listing-of c.args.s c.requires c.if-has_modtotal.totals
+          (totals (goal.at.returns c).Joined-has_modtotal),
+    )
     at c.write.ensures

@@ -18,7 +18,8 @@ overflow_cast-x c = omega (arith, c.type_inv.refs c.loop-t.t)
 
 pub overflow_add-looked : goal.overflow_add-looked
 overflow_add-looked c =
-    let front = length-take-le c.loop-t.n c.loop-t.list (omega (arith, c.loop-t.invariant.list_whole, c.loop-t.invariant.few, c.requires)) in
+    let front = length-take-le c.loop-t.n c.loop-t.list
+    (omega (arith, c.loop-t.invariant.list_whole, c.loop-t.invariant.few, c.requires)) in
     omega (
       arith,
       looked_most _ _ _ _ _ _ _ c.loop-t.invariant c.requires.0 c.requires.1,

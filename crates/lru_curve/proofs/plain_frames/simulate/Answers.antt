@@ -53,8 +53,10 @@ pub overflow_sub-n : goal.overflow_sub-n
 overflow_sub-n c = let is = in_use_lem (goal.at.overflow_sub-n c).After-used_after-n in search rules
 
 pub to_front-requires-else-p-n : goal.to_front-requires-else-p-n
-to_front-requires-else-p-n c =
-    (omega (arith, in_use_lem (goal.at.to_front-requires-else-p-n c).After-used_after-n), length-set c.loop-t.frames _ _ ∙ c.loop-t.invariant.list_whole)
+to_front-requires-else-p-n c = (
+  omega (arith, in_use_lem (goal.at.to_front-requires-else-p-n c).After-used_after-n),
+  length-set c.loop-t.frames _ _ ∙ c.loop-t.invariant.list_whole,
+)
 
 pub loop-t-preserved-else-p-n : goal.loop-t-preserved-else-p-n
 loop-t-preserved-else-p-n c =

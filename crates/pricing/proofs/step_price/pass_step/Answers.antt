@@ -9,7 +9,11 @@ pub loop-m-init : goal.loop-m-init
 loop-m-init c = (omega arith, passed_none _ _ _)
 
 pub pass_word-c-requires : goal.pass_word-c-requires
-pass_word-c-requires c = record { step = c.requires.step; x_value = c.requires.x_value; m_bound = (c.loop-m-test.true, c.loop-m.invariant.1) }
+pass_word-c-requires c = record {
+  step = c.requires.step;
+  x_value = c.requires.x_value;
+  m_bound = (c.loop-m-test.true, c.loop-m.invariant.1);
+}
 
 pub loop-m-preserved : goal.loop-m-preserved
 loop-m-preserved c =

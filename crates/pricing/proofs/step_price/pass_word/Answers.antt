@@ -22,7 +22,7 @@ differs : (c : In-loop-old)
     → c.loop-old.i + count_trailing_zeros 64 (bit_xor c.loop-old.old c.loop-old.new)
     < 64 * c.args.m + 64
 differs c =
-    differs-below ((run_of c.args.kind c.args.a c.args.sizes.now c.args.warm.now c.args.refs.now)) _ _ _ _ _ _ _
+    differs-below (run_of c.args.kind c.args.a c.args.sizes.now c.args.warm.now c.args.refs.now) _ _ _ _ _ _ _
     c.loop-old.invariant c.loop-old-test.true
 
 pub loop-old-init : goal.loop-old-init
@@ -31,9 +31,11 @@ loop-old-init c =
     record {
       within = omega arith;
       close = omega arith;
-      before = rest-start ((run_of c.args.kind c.args.a c.args.sizes.now c.args.warm.now c.args.refs.now)) _ _ _ c.requires.step _ _ _ few c.word_at-old.type_inv c.word_at-old.ensures;
+      before = rest-start (run_of c.args.kind c.args.a c.args.sizes.now c.args.warm.now c.args.refs.now) _ _ _ c.requires.step _ _ _ few
+          c.word_at-old.type_inv c.word_at-old.ensures;
       after =
-          rest-start ((run_of c.args.kind c.args.a c.args.sizes.now c.args.warm.now c.args.refs.now)) _ _ _ c.requires.step _ _ _ few c.word_at-new.type_inv (rw (add-one c.args.t) at c.word_at-new.ensures);
+          rest-start (run_of c.args.kind c.args.a c.args.sizes.now c.args.warm.now c.args.refs.now) _ _ _ c.requires.step _ _ _ few
+          c.word_at-new.type_inv (rw (add-one c.args.t) at c.word_at-new.ensures);
       passed = c.requires.m_bound.1;
     }
 
@@ -67,11 +69,12 @@ loop-old-smaller c = omega (arith, differs (goal.at.loop-old-smaller c).In-loop-
 
 pub loop-old-preserved : goal.loop-old-preserved
 loop-old-preserved c =
-    passes_on ((run_of c.args.kind c.args.a c.args.sizes.now c.args.warm.now c.args.refs.now)) _ _ _ _ _ _ _ _ _ c.requires.step.place c.loop-old.invariant c.loop-old-test.true
+    passes_on (run_of c.args.kind c.args.a c.args.sizes.now c.args.warm.now c.args.refs.now) _ _ _ _ _ _ _ _ _ c.requires.step.place
+    c.loop-old.invariant c.loop-old-test.true
     (omega (arith, c.requires.m_bound.0)) refl
     (rw c.requires.x_value at c.pass-c.ensures)
 
 pub returns : goal.returns
 returns c =
-    passes-end ((run_of c.args.kind c.args.a c.args.sizes.now c.args.warm.now c.args.refs.now)) _ _ _ _ _ _ _
+    passes-end (run_of c.args.kind c.args.a c.args.sizes.now c.args.warm.now c.args.refs.now) _ _ _ _ _ _ _
     c.loop-old.invariant c.loop-old-test.false

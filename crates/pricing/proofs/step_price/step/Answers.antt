@@ -23,7 +23,8 @@ returns-then-lacks c =
     let A = c.args in
     let at = c.requires.step in
     step-lacks _ at.limits _ _ at.place _ c.segment_of-x.ensures
-    (lacks-told ((run_of c.args.kind c.args.a c.args.sizes.now c.args.warm.now c.args.refs.now)) A.start A.schedule.now A.t at A.t c.segment_of-x.result _
+    (lacks-told (run_of c.args.kind c.args.a c.args.sizes.now c.args.warm.now c.args.refs.now) A.start A.schedule.now A.t at A.t
+    c.segment_of-x.result _
     c.lacks.ensures ∙ c.if-lacks.true)
 
 pub pass_step-found-requires : goal.pass_step-found-requires
@@ -35,7 +36,8 @@ returns-then-found c =
     let A = c.args in
     let at = c.requires.step in
     step-enters _ at.limits _ _ at.place _ c.segment_of-x.ensures
-    (lacks-told ((run_of c.args.kind c.args.a c.args.sizes.now c.args.warm.now c.args.refs.now)) A.start A.schedule.now A.t at A.t c.segment_of-x.result _
+    (lacks-told (run_of c.args.kind c.args.a c.args.sizes.now c.args.warm.now c.args.refs.now) A.start A.schedule.now A.t at A.t
+    c.segment_of-x.result _
     c.lacks.ensures ∙ c.if-lacks.false)
     (sym c.pass_step-found.ensures.entered ∙ c.if-found.true)
 
@@ -51,9 +53,11 @@ moved-requires c =
       held_bound = through-within _ at.limits _ _ _ (omega (arith, at.place, at.limits.steps_within)) c.requires.through;
       left_bound = rw c.size_at.ensures
           (left-within _ at.limits _ _ at.place _ c.segment_of-x.ensures _ _ c.requires.through c.pass_step-found.ensures
-          (lacks-told ((run_of c.args.kind c.args.a c.args.sizes.now c.args.warm.now c.args.refs.now)) A.start A.schedule.now A.t at A.t c.segment_of-x.result _
+          (lacks-told (run_of c.args.kind c.args.a c.args.sizes.now c.args.warm.now c.args.refs.now) A.start A.schedule.now A.t at A.t
+          c.segment_of-x.result _
           c.lacks.ensures ∙ c.if-lacks.false) c.if-found.false _
-          (loads-told ((run_of c.args.kind c.args.a c.args.sizes.now c.args.warm.now c.args.refs.now)) A.start A.schedule.now A.t at A.t c.segment_of-x.result _
+          (loads-told (run_of c.args.kind c.args.a c.args.sizes.now c.args.warm.now c.args.refs.now) A.start A.schedule.now A.t at A.t
+          c.segment_of-x.result _
           c.loads_none-before.ensures));
     }
 
@@ -62,8 +66,10 @@ returns c =
     let A = c.args in
     let at = c.requires.step in
     through-step _ at.limits _ _ at.place _ c.segment_of-x.ensures _ _ c.requires.through c.pass_step-found.ensures
-    (lacks-told ((run_of c.args.kind c.args.a c.args.sizes.now c.args.warm.now c.args.refs.now)) A.start A.schedule.now A.t at A.t c.segment_of-x.result _
+    (lacks-told (run_of c.args.kind c.args.a c.args.sizes.now c.args.warm.now c.args.refs.now) A.start A.schedule.now A.t at A.t
+    c.segment_of-x.result _
     c.lacks.ensures ∙ c.if-lacks.false) c.if-found.false _
-    (loads-told ((run_of c.args.kind c.args.a c.args.sizes.now c.args.warm.now c.args.refs.now)) A.start A.schedule.now A.t at A.t c.segment_of-x.result _
+    (loads-told (run_of c.args.kind c.args.a c.args.sizes.now c.args.warm.now c.args.refs.now) A.start A.schedule.now A.t at A.t
+    c.segment_of-x.result _
     c.loads_none-before.ensures) _
     (rw c.size_at.ensures at c.moved.ensures)

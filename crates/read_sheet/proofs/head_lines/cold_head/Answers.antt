@@ -32,7 +32,10 @@ place c = omega (arith, c.counted_lines-sized.ensures.reads.within, ap lines_nex
 
 pub counted_lines-sized-requires : goal.counted_lines-sized-requires
 unfolding split_at
-counted_lines-sized-requires c = record { count_value = (refl, refl); out_len_bound = (omega (arith, room (goal.at.counted_lines-sized-requires c).Start), omega arith) }
+counted_lines-sized-requires c = record {
+  count_value = (refl, refl);
+  out_len_bound = (omega (arith, room (goal.at.counted_lines-sized-requires c).Start), omega arith);
+}
 
 pub slice_bounds-price_lines-count : goal.slice_bounds-price_lines-count
 slice_bounds-price_lines-count c = place c
@@ -43,7 +46,8 @@ returns-in-Refused c =
     let s = c.args.s.now in
     let segs = c.counted_lines-sized.result.count in
     let xs = c.counted_lines-sized.new.out in
-    let d = counted-most segs_key size_key 1 1 largest_size _ most_segs s _ (room (goal.at.returns-in-Refused c).Start) c.counted_lines-sized.ensures.reads.same in
+    let d = counted-most segs_key size_key 1 1 largest_size _ most_segs s _ (room (goal.at.returns-in-Refused c).Start)
+    c.counted_lines-sized.ensures.reads.same in
     let e = d ∙ ap (λ l. parsed_lines s l (take segs xs)) c.in-Refused.is in
     head-refused s c.no_head.result _ segs xs (zeros most_segs) _ c.no_head.ensures
     (sym (stage-refused (λ q. q) _ _ _ (refused _) refl e)) (sized (goal.at.returns-in-Refused c).After-counted_lines-sized) refl
@@ -56,13 +60,15 @@ returns-in-Done c =
     let l = c.price_lines-priced.result.lines in
     let segs = c.counted_lines-sized.result.count in
     let xs = c.counted_lines-sized.new.out in
-    let d = counted-most segs_key size_key 1 1 largest_size _ most_segs s _ (room (goal.at.returns-in-Done c).Start) c.counted_lines-sized.ensures.reads.same in
+    let d = counted-most segs_key size_key 1 1 largest_size _ most_segs s _ (room (goal.at.returns-in-Done c).Start)
+    c.counted_lines-sized.ensures.reads.same in
     let e = d ∙ ap (λ l. parsed_lines s l (take segs xs)) c.in-Done.is in
     record {
       same =
           table-read c.args.kind c.args.a segs xs _ _ (zeros most_segs) s at l c.after.result e
           c.price_lines-priced.ensures.reads.same c.after.ensures;
-      within = moved-within s at l c.after.result (place (goal.at.returns-in-Done c).In-Done) c.price_lines-priced.ensures.reads.within c.after.ensures;
+      within = moved-within s at l c.after.result (place (goal.at.returns-in-Done c).In-Done) c.price_lines-priced.ensures.reads.within
+          c.after.ensures;
       filled =
           record {
             sizes = sized (goal.at.returns-in-Done c).After-counted_lines-sized;

@@ -41,7 +41,8 @@ returns-in-Refused c =
 
 pub returns-in-Done : goal.returns-in-Done
 returns-in-Done c =
-    warm-after _ _ _ _ _ _ _ (not-false _ c.if-not-later.false-raw) c.cold_head-found.ensures _ _ c.warm_lines-warmed.result.lines c.after.result
+    warm-after _ _ _ _ _ _ _ (not-false _ c.if-not-later.false-raw) c.cold_head-found.ensures _ _ c.warm_lines-warmed.result.lines
+    c.after.result
     c.in-Done.is c.warm_lines-warmed.ensures.reads.same c.warm_lines-warmed.ensures.reads.within
     (subst (Filled _ _) c.requires.holds_zero c.warm_lines-warmed.ensures.filled) c.after.ensures
 

@@ -37,7 +37,10 @@ pub returns-in-Value : goal.returns-in-Value
 unfolding row_line
 returns-in-Value c =
     let e = line-value _ _ _ c.value_line.ensures.same _ _ _ c.in-Value.is in
-    record { same = c.row_value.ensures.same _ ∙ sym e; within = omega (arith, c.row_value.ensures.within, within (goal.at.returns-in-Value c).In-Value) }
+    record {
+      same = c.row_value.ensures.same _ ∙ sym e;
+      within = omega (arith, c.row_value.ensures.within, within (goal.at.returns-in-Value c).In-Value);
+    }
 
 pub slice_bounds-row_value-start : goal.slice_bounds-row_value-start
 slice_bounds-row_value-start c = slice_bounds-row_value-count c

@@ -35,7 +35,8 @@ pub slice_bounds-hold_lines-end-in-Number : goal.slice_bounds-hold_lines-end-in-
 slice_bounds-hold_lines-end-in-Number c = omega (arith, counted-within (goal.at.slice_bounds-hold_lines-end-in-Number c).In-Number)
 
 pub slice_bounds-hold_lines-end-in-Number-2 : goal.slice_bounds-hold_lines-end-in-Number-2
-slice_bounds-hold_lines-end-in-Number-2 c = sym (length-take-le _ _ (omega (arith, counted-within (goal.at.slice_bounds-hold_lines-end-in-Number-2 c).In-Number)))
+slice_bounds-hold_lines-end-in-Number-2
+    c = sym (length-take-le _ _ (omega (arith, counted-within (goal.at.slice_bounds-hold_lines-end-in-Number-2 c).In-Number)))
 
 pub after-requires : goal.after-requires
 after-requires c =
@@ -58,7 +59,8 @@ returns-in-Number c =
     let r = c.number_line.ensures in
     let a = c.args in
     counted-reads (λ k. hold_lines a.segs k none) _ _ _ _ c.hold_lines-lines.result _ c.hold_lines-lines.new.out _
-    (number_read r c.in-Number.is) (number-place r c.in-Number.is) (counted-within (goal.at.returns-in-Number c).In-Number) c.hold_lines-lines.auto.out
+    (number_read r c.in-Number.is) (number-place r c.in-Number.is) (counted-within (goal.at.returns-in-Number c).In-Number)
+    c.hold_lines-lines.auto.out
     c.hold_lines-lines.ensures c.after.ensures
 
 pub slice_bounds-hold_lines-start : goal.slice_bounds-hold_lines-start

@@ -45,7 +45,8 @@ second-within c =
     let keyed' : same_bytes (take 4 c.args.s.now) ref_key ≡ true = sym c.has_key.ensures ∙ not-false _ c.if-not-has_key.false-raw in
     let first_some' : 0 < c.number_before-first.result.length = omega arith in
     let long' : 4 ≤ length c.args.s.now = long-key c.args.s.now ref_key (keyed') in
-    let first-within' : 4 + (c.number_before-first.result.length + 1) ≤ length c.args.s.now = tail-place c.args.s.now 4 _ (long') (omega (arith, c.number_before-first.ensures.within (first_some'))) in
+    let first-within' : 4 + (c.number_before-first.result.length + 1) ≤ length c.args.s.now = tail-place c.args.s.now 4 _ (long')
+    (omega (arith, c.number_before-first.ensures.within (first_some'))) in
     tail-place c.args.s.now _ _ (omega (arith, first-within'))
     c.step_before-second.ensures.within
 
@@ -63,7 +64,9 @@ returns c =
     let t = c.step_before-second.ensures in
     record {
       same = λ h.
-          short-touch _ _ _ _ _ _ _ _ _ _ (keyed (goal.at.returns c).Else-not-has_key) (c.number_before-first.ensures.same (first_some (goal.at.returns c).Else-k-eq0)) (t.letter (second-some (goal.at.returns c).Else-m-eq0))
+          short-touch _ _ _ _ _ _ _ _ _ _ (keyed (goal.at.returns c).Else-not-has_key)
+          (c.number_before-first.ensures.same (first_some (goal.at.returns c).Else-k-eq0))
+          (t.letter (second-some (goal.at.returns c).Else-m-eq0))
           (t.same (second-some (goal.at.returns c).Else-m-eq0)) c.if-segs-segment.false c.if-step-before.false c.if-steps-step.false;
       within = omega (arith, second-within (goal.at.returns c).Else-m-eq0);
     }

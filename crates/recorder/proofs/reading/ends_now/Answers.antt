@@ -17,7 +17,8 @@ slice_bounds-all_sizes-end c =
     omega (arith, sizes-length (goal.at.slice_bounds-all_sizes-end c).Start, c.least-segs.ensures)
 
 pub slice_bounds-sizes-end : goal.slice_bounds-sizes-end
-slice_bounds-sizes-end c = sym (length-take-le _ _ ((omega (arith, sizes-length (goal.at.slice_bounds-sizes-end c).Start, c.least-segs.ensures))))
+slice_bounds-sizes-end c = sym
+    (length-take-le _ _ ((omega (arith, sizes-length (goal.at.slice_bounds-sizes-end c).Start, c.least-segs.ensures))))
 
 pub load_prices-hs-requires : goal.load_prices-hs-requires
 load_prices-hs-requires c = omega (arith, c.least-rows.ensures)

@@ -17,7 +17,8 @@ pub occupancy-requires : goal.occupancy-requires
 occupancy-requires c = passed c.summable.ensures c.if-not-summable.false-raw
 
 pub returns-then-occupancy-ge-OCCUPANCY : goal.returns-then-occupancy-ge-OCCUPANCY
-returns-then-occupancy-ge-OCCUPANCY c = λ fits. absurd (omega (arith, c.if-occupancy-ge-OCCUPANCY.true, c.occupancy.ensures, fits.wsocc_fits))
+returns-then-occupancy-ge-OCCUPANCY c = λ fits.
+    absurd (omega (arith, c.if-occupancy-ge-OCCUPANCY.true, c.occupancy.ensures, fits.wsocc_fits))
 
 pub row_figures-requires : goal.row_figures-requires
 row_figures-requires c = let sums = passed c.summable.ensures c.if-not-summable.false-raw in

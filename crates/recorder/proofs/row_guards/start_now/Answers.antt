@@ -19,14 +19,16 @@ slice_bounds-all_sizes-end c =
     omega (arith, c.least-segs.ensures, sizes-length (goal.at.slice_bounds-all_sizes-end c).Start)
 
 pub slice_bounds-start_swaps-end : goal.slice_bounds-start_swaps-end
-slice_bounds-start_swaps-end c = sym (length-take-le _ _ ((omega (arith, c.least-segs.ensures, sizes-length (goal.at.slice_bounds-start_swaps-end c).Start))))
+slice_bounds-start_swaps-end c = sym
+    (length-take-le _ _ ((omega (arith, c.least-segs.ensures, sizes-length (goal.at.slice_bounds-start_swaps-end c).Start))))
 
 pub slice_bounds-holds-end : goal.slice_bounds-holds-end
 slice_bounds-holds-end c =
     omega (arith, c.least-count.ensures, holds-length (goal.at.slice_bounds-holds-end c).Start)
 
 pub slice_bounds-start_swaps-end-2 : goal.slice_bounds-start_swaps-end-2
-slice_bounds-start_swaps-end-2 c = sym (length-take-le _ _ ((omega (arith, c.least-count.ensures, holds-length (goal.at.slice_bounds-start_swaps-end-2 c).Start))))
+slice_bounds-start_swaps-end-2
+    c = sym (length-take-le _ _ ((omega (arith, c.least-count.ensures, holds-length (goal.at.slice_bounds-start_swaps-end-2 c).Start))))
 
 pub start_swaps-requires : goal.start_swaps-requires
 start_swaps-requires c =

@@ -28,7 +28,11 @@ returns-then-not-roomy c =
 
 pub pass_on-passed-requires : goal.pass_on-passed-requires
 pass_on-passed-requires c =
-    record { roomy = passed c.roomy.ensures c.if-not-roomy.false-raw; few_segs = omega arith; few_steps = few (goal.at.pass_on-passed-requires c).After-roomy }
+    record {
+      roomy = passed c.roomy.ensures c.if-not-roomy.false-raw;
+      few_segs = omega arith;
+      few_steps = few (goal.at.pass_on-passed-requires c).After-roomy;
+    }
 
 pub overflow_add-result : goal.overflow_add-result
 overflow_add-result c = omega (arith, few (goal.at.overflow_add-result c).After-roomy)

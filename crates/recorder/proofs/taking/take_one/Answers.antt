@@ -8,7 +8,10 @@ use Rattle.recorder.proofs.taking.take_one.Goals as goal
 pub bucket-k-requires : goal.bucket-k-requires
 bucket-k-requires c =
     let l = c.touch_of-x.ensures.within in
-    record { rows_le_most_rows = omega (arith, c.least-rows.ensures); retention_bound = (omega (arith, l.retention_within), omega (arith, l.swap_within)) }
+    record {
+      rows_le_most_rows = omega (arith, c.least-rows.ensures);
+      retention_bound = (omega (arith, l.retention_within), omega (arith, l.swap_within));
+    }
 
 pub returns : goal.returns
 returns c =

@@ -24,7 +24,8 @@ pub slice_bounds-number_lines-end-in-Number : goal.slice_bounds-number_lines-end
 slice_bounds-number_lines-end-in-Number c = omega (arith, counted-within (goal.at.slice_bounds-number_lines-end-in-Number c).In-Number)
 
 pub slice_bounds-number_lines-end-in-Number-2 : goal.slice_bounds-number_lines-end-in-Number-2
-slice_bounds-number_lines-end-in-Number-2 c = sym (length-take-le _ _ (omega (arith, counted-within (goal.at.slice_bounds-number_lines-end-in-Number-2 c).In-Number)))
+slice_bounds-number_lines-end-in-Number-2
+    c = sym (length-take-le _ _ (omega (arith, counted-within (goal.at.slice_bounds-number_lines-end-in-Number-2 c).In-Number)))
 
 pub after-requires : goal.after-requires
 after-requires c =
@@ -44,7 +45,8 @@ pub returns-in-Number : goal.returns-in-Number
 returns-in-Number c =
     let r = c.number_line.ensures in
     counted-reads _ _ _ _ _ c.number_lines-lines.result _ c.number_lines-lines.new.out _ (number_read r c.in-Number.is)
-    (number-place r c.in-Number.is) (counted-within (goal.at.returns-in-Number c).In-Number) c.number_lines-lines.auto.out c.number_lines-lines.ensures
+    (number-place r c.in-Number.is) (counted-within (goal.at.returns-in-Number c).In-Number) c.number_lines-lines.auto.out
+    c.number_lines-lines.ensures
     c.after.ensures
 
 pub slice_bounds-number_lines-start : goal.slice_bounds-number_lines-start

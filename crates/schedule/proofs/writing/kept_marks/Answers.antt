@@ -23,8 +23,10 @@ Run s = run_of s.args.kind s.args.a s.args.sizes.now s.args.warm.now s.args.refs
 pub loop-t-init : goal.loop-t-init
 loop-t-init c =
     rw c.no_marks-marks.ensures
-    (marked_start ((run_of c.args.kind c.args.a c.args.sizes.now c.args.warm.now c.args.refs.now)) c.args.row c.requires.segs_within c.requires.steps_within c.start_table-last.result
-    (c.start_table-last.ensures ∙ start_table-is ((run_of c.args.kind c.args.a c.args.sizes.now c.args.warm.now c.args.refs.now)) c.args.warm.now (λ i. refl)))
+    (marked_start (run_of c.args.kind c.args.a c.args.sizes.now c.args.warm.now c.args.refs.now) c.args.row c.requires.segs_within
+    c.requires.steps_within c.start_table-last.result
+    (c.start_table-last.ensures ∙ start_table-is (run_of c.args.kind c.args.a c.args.sizes.now c.args.warm.now c.args.refs.now)
+    c.args.warm.now (λ i. refl)))
 
 pub overflow_cast-i : goal.overflow_cast-i
 overflow_cast-i c = omega (arith, c.type_inv.refs c.loop-t.t)
@@ -60,7 +62,7 @@ pub loop-t-preserved-then-i-sizes : goal.loop-t-preserved-then-i-sizes
 loop-t-preserved-then-i-sizes c =
     let l = c.loop-t in
     marked_step
-    ((run_of c.args.kind c.args.a c.args.sizes.now c.args.warm.now c.args.refs.now))
+    (run_of c.args.kind c.args.a c.args.sizes.now c.args.warm.now c.args.refs.now)
     c.args.row
     c.requires.segs_within
     c.requires.steps_within
@@ -78,7 +80,8 @@ loop-t-preserved-then-i-sizes c =
 pub loop-t-preserved : goal.loop-t-preserved
 loop-t-preserved c =
     let l = c.loop-t in
-    marked_idle ((run_of c.args.kind c.args.a c.args.sizes.now c.args.warm.now c.args.refs.now)) c.args.row c.requires.segs_within c.requires.steps_within l.marks l.last l.t l.invariant
+    marked_idle (run_of c.args.kind c.args.a c.args.sizes.now c.args.warm.now c.args.refs.now) c.args.row c.requires.segs_within
+    c.requires.steps_within l.marks l.last l.t l.invariant
     c.loop-t-test.true c.if-i-sizes.false
 
 pub returns : goal.returns

@@ -17,7 +17,8 @@ Run s = run_of s.args.kind s.args.a s.args.sizes.now s.args.warm.now s.args.refs
 pub loop-t-init : goal.loop-t-init
 loop-t-init c =
     finding_start c.requires.run c.no_decisions-kept.ensures c.no_decisions-joined.ensures
-    (c.start_table-last.ensures ∙ start_table-is ((run_of c.args.kind c.args.a c.args.sizes.now c.args.warm.now c.args.refs.now)) c.args.warm.now (λ i. refl)) c.none_since-since.ensures
+    (c.start_table-last.ensures ∙ start_table-is (run_of c.args.kind c.args.a c.args.sizes.now c.args.warm.now c.args.refs.now)
+    c.args.warm.now (λ i. refl)) c.none_since-since.ensures
 
 pub overflow_cast-i : goal.overflow_cast-i
 overflow_cast-i c = omega (arith, c.type_inv.refs c.loop-t.t)

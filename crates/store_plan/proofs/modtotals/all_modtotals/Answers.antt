@@ -23,7 +23,10 @@ pub first_modtotals-requires : goal.first_modtotals-requires
 unfolding value_of head_value_of
 first_modtotals-requires c =
     let b = c.args.s in
-    let ok = c.requires.0 in record { run_within = (ok.valid.run, marks-counted b ok ∙ marks-steps b ok c.requires.1 ∙ sym (steps-counted b ok), ok.rows_within); by_index = opttotal-of b ok c.args.all c.requires.2 }
+    let ok = c.requires.0 in record {
+      run_within = (ok.valid.run, marks-counted b ok ∙ marks-steps b ok c.requires.1 ∙ sym (steps-counted b ok), ok.rows_within);
+      by_index = opttotal-of b ok c.args.all c.requires.2;
+    }
 
 pub returns : goal.returns
 unfolding value_of head_value_of

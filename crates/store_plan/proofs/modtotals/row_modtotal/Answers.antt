@@ -14,9 +14,11 @@ abbrev Run : Start → Trace
 Run s = run_of s.args.kind s.args.a s.args.sizes.now s.args.warm.now s.args.refs.now
 
 adds : (c : After-find) → let a = c.args in
-    a.total + c.find.result.added.0 ≡ modtotal ((run_of c.args.kind c.args.a c.args.sizes.now c.args.warm.now c.args.refs.now)) (marks_of a.marks.now) a.row.h a.row.d
+    a.total + c.find.result.added.0 ≡ modtotal (run_of c.args.kind c.args.a c.args.sizes.now c.args.warm.now c.args.refs.now)
+    (marks_of a.marks.now) a.row.h a.row.d
 adds c =
-    modtotal-adds ((run_of c.args.kind c.args.a c.args.sizes.now c.args.warm.now c.args.refs.now)) c.args.marks.now c.args.row c.requires.any_value.1 c.find.ensures.added_is
+    modtotal-adds (run_of c.args.kind c.args.a c.args.sizes.now c.args.warm.now c.args.refs.now) c.args.marks.now c.args.row
+    c.requires.any_value.1 c.find.ensures.added_is
 
 -- which is within 64 bits
 pub overflow_add-result : goal.overflow_add-result
@@ -25,13 +27,15 @@ overflow_add-result c =
     omega (
       arith,
       adds (goal.at.overflow_add-result c).After-find,
-      modtotal-within ((run_of c.args.kind c.args.a c.args.sizes.now c.args.warm.now c.args.refs.now)) c.requires.run_within.0 (marks_of c.args.marks.now) row.h row.d (omega (arith, c.ranges))
+      modtotal-within (run_of c.args.kind c.args.a c.args.sizes.now c.args.warm.now c.args.refs.now) c.requires.run_within.0
+          (marks_of c.args.marks.now) row.h row.d (omega (arith, c.ranges))
           (omega (arith, c.ranges)),
     )
 
 pub returns : goal.returns
 returns c =
-    modtotal-plain ((run_of c.args.kind c.args.a c.args.sizes.now c.args.warm.now c.args.refs.now)) c.args.marks.now c.args.row c.requires.any_value.1 (sym c.requires.any_value.0 ∙ c.if-any.false)
+    modtotal-plain (run_of c.args.kind c.args.a c.args.sizes.now c.args.warm.now c.args.refs.now) c.args.marks.now c.args.row
+    c.requires.any_value.1 (sym c.requires.any_value.0 ∙ c.if-any.false)
 
 pub returns-then-any : goal.returns-then-any
 returns-then-any c = adds (goal.at.returns-then-any c).After-find

@@ -40,7 +40,8 @@ loop-t-preserved-then-i-sizes c =
     let l = c.loop-t in
     let i = get_or a.refs.now l.t 0 in
     rw c.plus-load.ensures
-    (storing_touch a.a a.sizes.now a.refs.now (marks_of a.marks.now) a.schedule.now c.requires.sizes_len_bound.0 c.requires.sizes_len_bound.1
+    (storing_touch a.a a.sizes.now a.refs.now (marks_of a.marks.now) a.schedule.now c.requires.sizes_len_bound.0
+    c.requires.sizes_len_bound.1
     l.flags l.load.0 l.t l.invariant c.loop-t-test.true i c.stored.result.0 c.modified-m.result
     c.flag.result refl c.if-i-sizes.true (omega arith)
     (omega (arith, c.type_inv.sizes i)) c.modified-m.ensures c.stored.ensures
@@ -57,7 +58,8 @@ pub returns : goal.returns
 returns c =
     let a = c.args in
     let l = c.loop-t in record {
-      result_value = storing_end a.a a.sizes.now a.refs.now (marks_of a.marks.now) a.schedule.now c.requires.sizes_len_bound.0 c.requires.sizes_len_bound.1
+      result_value = storing_end a.a a.sizes.now a.refs.now (marks_of a.marks.now) a.schedule.now c.requires.sizes_len_bound.0
+          c.requires.sizes_len_bound.1
           l.flags l.load.0 l.t l.invariant c.loop-t-test.false;
       result_bound = omega (arith, l.invariant.load_within, l.invariant.within, c.requires.sizes_len_bound.1);
     }

@@ -7,7 +7,10 @@ pub returns-then-self-gt-MAX_RATE : goal.returns-then-self-gt-MAX_RATE
 returns-then-self-gt-MAX_RATE c = rw (lt-leb _ largest_rate c.if-self-gt-MAX_RATE.true)
 
 pub returns-then-self-gt-MAX_RATE-2 : goal.returns-then-self-gt-MAX_RATE-2
-returns-then-self-gt-MAX_RATE-2 c = rw (le-leb _ largest_rate c.if-self-gt-MAX_RATE.false, lt-leb _ largest_rate c.if-self-gt-MAX_RATE-2.true)
+returns-then-self-gt-MAX_RATE-2 c = rw (
+  le-leb _ largest_rate c.if-self-gt-MAX_RATE.false,
+  lt-leb _ largest_rate c.if-self-gt-MAX_RATE-2.true,
+)
 
 pub returns : goal.returns
 returns c = rw (le-leb _ largest_rate c.if-self-gt-MAX_RATE.false, le-leb _ largest_rate c.if-self-gt-MAX_RATE-2.false)

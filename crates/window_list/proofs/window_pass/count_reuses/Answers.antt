@@ -4,7 +4,7 @@ use mathlib.Core.Path.{◌≡◌, refl}
 use native.Mathlib.Omega.{arith}
 use lib.ListN.{length, get_or}
 use Rattle.model.specs.Traces.{entry}
-use Rattle.model.proofs.Lists.{get_d_any}
+use Rattle.model.proofs.Lists.{get_or-any}
 use Rattle.windows.specs.Windows.{window_run}
 use Rattle.window_list.specs.inner.Counts.{Room}
 use Rattle.window_list.proofs.Counting.{passing_start, passing_touch, passing_idle, passing-length, passing_done}
@@ -15,7 +15,8 @@ use Rattle.window_list.proofs.window_pass.count_reuses.Goals as goal
 pub loop-t-init : goal.loop-t-init
 loop-t-init c =
     let T = window_run c.args.sizes.now c.args.refs.now in
-    rw (c.requires.counts_value, c.start_table-last.ensures) (passing_start T c.requires.run_within.segs_within c.requires.run_within.steps_within (λ i. refl))
+    rw (c.requires.counts_value, c.start_table-last.ensures)
+    (passing_start T c.requires.run_within.segs_within c.requires.run_within.steps_within (λ i. refl))
 
 pub overflow_cast-i : goal.overflow_cast-i
 overflow_cast-i c = omega (arith, c.type_inv.refs c.loop-t.t)
@@ -56,10 +57,11 @@ loop-t-preserved c =
     let T = window_run a.sizes.now a.refs.now in
     let l = c.loop-t in
     let lt = c.loop-t-test.true in
-    let e : entry T l.t ≡ get_or a.refs.now l.t 0 = get_d_any a.refs.now l.t (length a.sizes.now) 0 lt in
+    let e : entry T l.t ≡ get_or a.refs.now l.t 0 = get_or-any a.refs.now l.t (length a.sizes.now) 0 lt in
     elim c.if-i-sizes.branch [
       | then-i-sizes w ↦ rw (w.counts-is, w.last-is, w.touches-is)
-          (passing_touch T c.requires.run_within.segs_within c.requires.run_within.steps_within l.counts w.count.new.counts l.last l.touches l.t _
+          (passing_touch T c.requires.run_within.segs_within c.requires.run_within.steps_within l.counts w.count.new.counts l.last
+          l.touches l.t _
           l.invariant lt e w.if-i-sizes.true w.count.ensures)
       | else-i-sizes w ↦ rw (w.counts-is, w.last-is, w.touches-is)
           (passing_idle T c.requires.run_within.segs_within c.requires.run_within.steps_within l.counts l.last l.touches l.t l.invariant lt

@@ -14,10 +14,12 @@ runIn s = window_run s.args.sizes.now s.args.refs.now
 
 pub returns-then-out-refs : goal.returns-then-out-refs
 returns-then-out-refs c =
-    text-short (window_list ((window_run c.args.sizes.now c.args.refs.now))) c.args.out.now (omega (arith, list_length_lem ((window_run c.args.sizes.now c.args.refs.now)), c.if-out-refs.true))
+    text-short (window_list (window_run c.args.sizes.now c.args.refs.now)) c.args.out.now
+    (omega (arith, list_length_lem (window_run c.args.sizes.now c.args.refs.now), c.if-out-refs.true))
 
 pub returns : goal.returns
 returns c =
     rw c.write_windows.ensures
-    (text-fits (window_list ((window_run c.args.sizes.now c.args.refs.now))) c.args.out.now (list_length_lem ((window_run c.args.sizes.now c.args.refs.now)))
+    (text-fits (window_list (window_run c.args.sizes.now c.args.refs.now)) c.args.out.now
+    (list_length_lem (window_run c.args.sizes.now c.args.refs.now))
     (omega (arith, c.if-out-refs.false)))

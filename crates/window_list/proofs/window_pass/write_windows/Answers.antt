@@ -20,18 +20,21 @@ taken-within : (c : In-loop-t)
     → get_or c.count_ends.new.counts (c.loop-t.t + 1) 0 ≤ c.loop-t.more
 taken-within c =
     let l = c.loop-t in
-    count-within ((window_run c.args.sizes.now c.args.refs.now)) c.args.out.now l.out _ l.value l.more l.t c.requires.run_within.steps_within c.requires.refs_in_bounds l.invariant.1
+    count-within (window_run c.args.sizes.now c.args.refs.now) c.args.out.now l.out _ l.value l.more l.t
+    c.requires.run_within.steps_within c.requires.refs_in_bounds l.invariant.1
     l.invariant.0
     c.loop-t-test.true
 
 pub slice_bounds-last-end : goal.slice_bounds-last-end
 slice_bounds-last-end c =
-    marks_whole ((window_run c.args.sizes.now c.args.refs.now)) c.requires.run_within.segs_within c.requires.run_within.steps_within _ _ c.count_reuses-passed.ensures.counts_after
+    marks_whole (window_run c.args.sizes.now c.args.refs.now) c.requires.run_within.segs_within c.requires.run_within.steps_within _ _
+    c.count_reuses-passed.ensures.counts_after
     c.count_reuses-passed.ensures.last_value
 
 pub slice_bounds-count_ends-end : goal.slice_bounds-count_ends-end
 slice_bounds-count_ends-end c =
-    sym (marks-length ((window_run c.args.sizes.now c.args.refs.now)) c.requires.run_within.segs_within c.requires.run_within.steps_within _ _ c.count_reuses-passed.ensures.counts_after
+    sym (marks-length (window_run c.args.sizes.now c.args.refs.now) c.requires.run_within.segs_within c.requires.run_within.steps_within _
+    _ c.count_reuses-passed.ensures.counts_after
     c.count_reuses-passed.ensures.last_value)
 
 pub overflow_cast-refs : goal.overflow_cast-refs
@@ -40,14 +43,17 @@ overflow_cast-refs c = omega (arith, c.requires.run_within)
 pub count_ends-requires : goal.count_ends-requires
 count_ends-requires c = (
   c.requires.run_within.steps_within,
-  ends-room ((window_run c.args.sizes.now c.args.refs.now)) c.requires.run_within.segs_within c.requires.run_within.steps_within _ _ c.count_reuses-passed.ensures.counts_after
+  ends-room (window_run c.args.sizes.now c.args.refs.now) c.requires.run_within.segs_within c.requires.run_within.steps_within _ _
+      c.count_reuses-passed.ensures.counts_after
       c.count_reuses-passed.ensures.last_value,
 )
 
 pub loop-t-init : goal.loop-t-init
 loop-t-init c = (
-  filling_start ((window_run c.args.sizes.now c.args.refs.now)) c.args.out.now _ listed-none c.requires.run_within.steps_within c.count_reuses-passed.ensures.touches_value,
-  ends-done ((window_run c.args.sizes.now c.args.refs.now)) c.requires.run_within.segs_within c.requires.run_within.steps_within _ _ c.count_reuses-passed.ensures.counts_after
+  filling_start (window_run c.args.sizes.now c.args.refs.now) c.args.out.now _ listed-none c.requires.run_within.steps_within
+      c.count_reuses-passed.ensures.touches_value,
+  ends-done (window_run c.args.sizes.now c.args.refs.now) c.requires.run_within.segs_within c.requires.run_within.steps_within _ _
+      c.count_reuses-passed.ensures.counts_after
       c.count_reuses-passed.ensures.last_value _
       c.count_ends.ensures,
 )
@@ -69,7 +75,8 @@ overflow_add-value c =
 pub loop-t-preserved : goal.loop-t-preserved
 loop-t-preserved c =
     let l = c.loop-t in (
-      filling_step ((window_run c.args.sizes.now c.args.refs.now)) c.args.out.now l.out _ l.value l.more l.t c.requires.run_within.steps_within c.requires.refs_in_bounds l.invariant.1
+      filling_step (window_run c.args.sizes.now c.args.refs.now) c.args.out.now l.out _ l.value l.more l.t
+          c.requires.run_within.steps_within c.requires.refs_in_bounds l.invariant.1
           l.invariant.0
           c.loop-t-test.true,
       l.invariant.1,

@@ -10,7 +10,8 @@ use Rattle.window_list.proofs.window_pass.write_windows.Given as goal
 
 abbrev pub invariant-loop-t : goal.invariant-loop-t
 invariant-loop-t l =
-    Filling (window_run l.sizes l.refs) l.initial.out l.out l.value l.more l.t × (l.counts ≡ interval_counts (window_run l.sizes l.refs) (length l.sizes))
+    Filling (window_run l.sizes l.refs) l.initial.out l.out l.value l.more l.t ×
+    (l.counts ≡ interval_counts (window_run l.sizes l.refs) (length l.sizes))
 
 abbrev pub decreases-loop-t : goal.decreases-loop-t
 decreases-loop-t l = length l.refs - l.t

@@ -32,7 +32,8 @@ pub slice_bounds-sizes-end : goal.slice_bounds-sizes-end
 slice_bounds-sizes-end c = let e = lengths (goal.at.slice_bounds-sizes-end c).Start in omega arith
 
 pub slice_bounds-segments_length-end : goal.slice_bounds-segments_length-end
-slice_bounds-segments_length-end c = let e = lengths (goal.at.slice_bounds-segments_length-end c).Start in sym (length-take-le _ _ (omega arith))
+slice_bounds-segments_length-end c = let e = lengths (goal.at.slice_bounds-segments_length-end c).Start in
+    sym (length-take-le _ _ (omega arith))
 
 pub segments_length-requires : goal.segments_length-requires
 segments_length-requires c = simp length-take (omega arith)

@@ -29,7 +29,8 @@ clampedAt r =
 -- it is the head's value
 same : (r : After-least-warm) → clampedAt r ≡ head_value_of r.args.head
 same r =
-    let lengths' : (length r.args.head.sizes ≡ 256) × (length r.args.head.prices ≡ 64) × (length r.args.head.holds ≡ 256) = (search rules, search rules, search rules) in
+    let lengths' : (length r.args.head.sizes ≡ 256) × (length r.args.head.prices ≡ 64) ×
+    (length r.args.head.holds ≡ 256) = (search rules, search rules, search rules) in
     let (l₁, l₂, l₃) = lengths' in
     head-clamped _ _ _ _ l₁ l₂ l₃
     r.least-segs.ensures r.least-rows.ensures r.least-warm.ensures
@@ -49,12 +50,25 @@ put_segments-priced-requires c =
     omega (arith, whole (goal.at.put_segments-priced-requires c).After-least-warm, c.requires)
 
 pub put_priced-held-requires : goal.put_priced-held-requires
-put_priced-held-requires c =
-    (omega arith, omega (arith, whole (goal.at.put_priced-held-requires c).After-least-warm, c.requires, c.put_segments-priced.ensures.ends))
+put_priced-held-requires c = (
+  omega arith,
+  omega (
+    arith,
+    whole (goal.at.put_priced-held-requires c).After-least-warm,
+    c.requires,
+    c.put_segments-priced.ensures.ends,
+  ),
+)
 
 pub put_warm-requires : goal.put_warm-requires
 put_warm-requires c =
-    omega (arith, whole (goal.at.put_warm-requires c).After-least-warm, c.requires, c.put_segments-priced.ensures.ends, c.put_priced-held.ensures.ends)
+    omega (
+      arith,
+      whole (goal.at.put_warm-requires c).After-least-warm,
+      c.requires,
+      c.put_segments-priced.ensures.ends,
+      c.put_priced-held.ensures.ends,
+    )
 
 pub returns : goal.returns
 unfolding head_text
