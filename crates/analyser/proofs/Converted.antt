@@ -1,4 +1,5 @@
 -- Converting there and back restores the bytes, and 17 comes exactly where there are fewer references than steps.
+use Rattle.std.specs.Prelude.{Ok, Err}
 use Prim.Native.Nat.{ℕ, zero, suc, ◌+◌, ◌≤◌, ◌<◌}
 use mathlib.Core.Path.{◌≡◌, refl, sym, ap, ◌∙◌}
 use mathlib.Core.Logic.{⊎_elim}
@@ -8,7 +9,6 @@ use native.Mathlib.Omega.{arith}
 use borrow.Author.Tests.{lt-ltb, ltb-true}
 use lib.Dec.{ltb}
 use lib.ListN.{length}
-use Rattle.model.specs.Places.{gives, refuses}
 use Rattle.model.specs.Sheets.{SheetValue, Valid, trace_of}
 use Rattle.model.specs.Traces.{Trace, segs, steps, entry, refs_by, refs_of}
 use Rattle.model.specs.declared.Refusal.TheVariants.{IdleStep}
@@ -75,32 +75,32 @@ module _ (v : SheetValue) (c : Valid v) where
 -- ---- there and back
 
 -- the sheet of form 2 that a text in form 1 is given for
-taken_back : (o : Outcome) (text : List ℕ) → on_sheet o refuses to_form_1 ≡ gives text
+taken_back : (o : Outcome) (text : List ℕ) → on_sheet o Err to_form_1 ≡ Ok text
     → (u : SheetValue) × (o ≡ accepted u) × (has_idle u ≡ false) × (text ≡ sheet_text (in_form 1 u))
 taken_back (rejected q) text e = absurd (let z : ◌≡◌ {A = ℕ} 0 1 = cc in omega arith)
 taken_back (accepted u) text e = go (has_idle u) refl e
   where
-    go : (b : Bool) → has_idle u ≡ b → cond b (refuses IdleStep) (gives (sheet_text (in_form 1 u))) ≡ gives text
+    go : (b : Bool) → has_idle u ≡ b → cond b (Err IdleStep) (Ok (sheet_text (in_form 1 u))) ≡ Ok text
         → (w : SheetValue) × (accepted u ≡ accepted w) × (has_idle w ≡ false) × (text ≡ sheet_text (in_form 1 w))
     go true f g = absurd (let z : ◌≡◌ {A = ℕ} 0 1 = cc in omega arith)
     go false f g = (u, refl, f, sym (given-same (sheet_text (in_form 1 u)) text g))
 
 module _ (s : List ℕ) where
-  to-2-back : (text : List ℕ) → to_form_2_result s ≡ gives text → to_form_1_result text ≡ gives s
+  to-2-back : (text : List ℕ) → to_form_2_result s ≡ Ok text → to_form_1_result text ≡ Ok s
   unfolding to_form_2_result to_form_1_result
   to-2-back text e =
       let given = given_by (λ u. sheet_text (in_form 2 u)) (read_forms 1 1 s) text e in
       let both = there_and_back s given.0 given.1 in
-      ap (λ (t : List ℕ). on_sheet (read_forms 2 2 t) refuses to_form_1) given.2
-      ∙ ap (λ o. on_sheet o refuses to_form_1) both.0 ∙ both.1
+      ap (λ (t : List ℕ). on_sheet (read_forms 2 2 t) Err to_form_1) given.2
+      ∙ ap (λ o. on_sheet o Err to_form_1) both.0 ∙ both.1
 
-  to-1-back : (text : List ℕ) → to_form_1_result s ≡ gives text → to_form_2_result text ≡ gives s
+  to-1-back : (text : List ℕ) → to_form_1_result s ≡ Ok text → to_form_2_result text ≡ Ok s
   unfolding to_form_2_result to_form_1_result
   to-1-back text e =
       let given = taken_back (read_forms 2 2 s) text e in
       let both = back-and-there s given.0 given.1 given.2 in
-      ap (λ (t : List ℕ). on_sheet (read_forms 1 1 t) refuses to_form_2) given.3
-      ∙ ap (λ o. on_sheet o refuses to_form_2) both.0 ∙ both.1
+      ap (λ (t : List ℕ). on_sheet (read_forms 1 1 t) Err to_form_2) given.3
+      ∙ ap (λ o. on_sheet o Err to_form_2) both.0 ∙ both.1
 
   pub there-and-back-of : ThereAndBack s
   unfolding to_form_2_result to_form_1_result

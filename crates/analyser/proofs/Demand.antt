@@ -1,5 +1,6 @@
 -- Demand 3 holds of every run of bytes that reads as an accepted sheet of form 1, 2 or 3, and of every row of it. What holds of form 4 is
 -- in Modified.antt.
+use Rattle.std.specs.Prelude.{Ok, is_ok}
 use Prim.Native.Nat.{ℕ, ◌*◌, ◌≤◌, ◌<◌}
 use mathlib.Core.Path.{◌≡◌, refl, sym, ap, ◌∙◌}
 use mathlib.Core.List.{List, ◌++◌}
@@ -13,12 +14,11 @@ use Rattle.model.specs.Places.{PlaceLeft}
 use Rattle.model.specs.Rows.{row_figures}
 use Rattle.model.specs.Schedules.{Permitted, schedule_memory, schedule_load, schedule_total}
 use Rattle.model.specs.Sheets.{SheetValue, Valid, trace_of, marks_of, row_at}
-use Rattle.model.specs.declared.Verdict.TheVariants.{Accepted}
 use Rattle.model.proofs.Demand.{demand-3}
 use Rattle.sheet.specs.Reading.{accepted, read_forms, read_sheet}
 use Rattle.sheet.proofs.Accepted.{accepted-valid, accepted-form}
 use Rattle.sheet.proofs.RoundTrip.{every-form}
-use Rattle.model.specs.RowAnswers.{figures_of, figures_at}
+use Rattle.model.specs.RowAnswers.{figures_of, figures_at, figures_given}
 use Rattle.pricing.proofs.Verdicts.{permitted-accepted}
 use Rattle.sheet_schedules.proofs.PlanResults.{schedule-length, schedule-placed, price-at}
 use Rattle.sheet_schedules.proofs.Prices.{accepted-at}
@@ -33,7 +33,7 @@ use Rattle.analyser.specs.Schedules.{price_of}
 -- of a sheet of any form
 module _ (s : List ℕ) (v : SheetValue) (reads : read_sheet s ≡ accepted v) (r : ℕ) (row : r < length v.head.rows) where
   -- the figures call answers the row's figures
-  pub figures_are : figures_answer s r ≡ record { verdict = Accepted; figures = figures_at v r }
+  pub figures_are : figures_answer s r ≡ Ok (figures_at v r)
   unfolding figures_answer figures_of
   figures_are = rw (reads, lt-ltb r (length v.head.rows) row)
 
@@ -67,7 +67,7 @@ module _ (s : List ℕ) (v : SheetValue) (reads : read_forms 1 3 s ≡ accepted 
   -- what the schedule call answers and leaves
   placed_at : (place : List ℕ) → 32 * length v.entries ≤ length place
       → PlaceLeft (schedule_result s r) place (row_schedule v r ++ drop (32 * length v.entries) place)
-      (record { verdict = Accepted; length = 32 * length v.entries })
+      (Ok (32 * length v.entries))
   unfolding schedule_result
   placed_at place fits = rw reads (schedule-placed v r place row fits)
 
@@ -95,10 +95,10 @@ module _ (s : List ℕ) (v : SheetValue) (reads : read_forms 1 3 s ≡ accepted 
       let d = demand-3 v valid.run.segs_within r row in
       let f = figures_are s v any r row in
       record {
-        figures_accepted = ap (λ a. a.verdict) f;
-        reported_optimum = ap (λ a. a.figures.opttotal) f;
-        reported_load = ap (λ a. a.figures.load.0) f;
-        reported_memory = ap (λ a. a.figures.optmem.0) f;
+        figures_accepted = ap is_ok f;
+        reported_optimum = ap (λ a. (figures_given a).opttotal) f;
+        reported_load = ap (λ a. (figures_given a).load.0) f;
+        reported_memory = ap (λ a. (figures_given a).optmem.0) f;
         lower = d.lower;
         least = d.least;
         schedule_accepted = λ place fits. sym (placed_at place fits).answer_is;

@@ -1,4 +1,5 @@
 -- Demand 3 holds of every run of bytes that reads as an accepted sheet, whatever its form, and of each of its rows.
+use Rattle.std.specs.Prelude.{Ok}
 use Prim.Native.Nat.{ℕ, ◌*◌, ◌≤◌, ◌<◌}
 use mathlib.Core.Path.{◌≡◌, refl, sym, ap, ◌∙◌}
 use mathlib.Core.Bool.{Bool, true, false, cond}
@@ -9,12 +10,11 @@ use lib.Dec.{leb}
 use lib.ListN.{length, take, drop, replicate, length-replicate}
 use lib.Seq.{drop_at}
 use Rattle.model.specs.Demand.{row_opttotal, row_schedule}
-use Rattle.model.specs.Places.{gives, answer_for, place_for}
+use Rattle.model.specs.Places.{answer_for, place_for}
 use Rattle.model.specs.Schedules.{Permitted, schedule_memory}
 use Rattle.model.specs.Sheets.{SheetValue, newest_form, trace_of}
 use Rattle.model.specs.Sums.{tabulate}
 use Rattle.model.specs.Traces.{refs_of}
-use Rattle.model.specs.declared.Verdict.TheVariants.{Accepted}
 use Rattle.sheet.specs.Reading.{accepted, read_forms, read_sheet}
 use Rattle.sheet.proofs.Accepted.{accepted-form}
 use Rattle.sheet.proofs.RoundTrip.{taken-form}
@@ -69,7 +69,7 @@ module _ (s : List ℕ) (v : SheetValue) (reads : read_sheet s ≡ accepted v) (
   -- what the schedule call of the form answers
   accepted-row : (b : Bool) → leb 4 v.form ≡ b → (place : List ℕ) → 32 * length v.entries ≤ length place
       → answer_for (cond b (modified_result s r) (schedule_result s r)) place
-      ≡ record { verdict = Accepted; length = 32 * length v.entries }
+      ≡ Ok (32 * length v.entries)
   accepted-row true e = (modified-row (is-four e)).schedule_accepted
   accepted-row false e = (plain_row (is_plain e)).schedule_accepted
 
@@ -118,12 +118,12 @@ module _ (s : List ℕ) (v : SheetValue) (reads : read_sheet s ≡ accepted v) (
   -- modtotal of each row, as it is listed, is the row's optimum
   listed-row : v.form ≡ 4
       → listing_result s
-      ≡ gives (listing 4 (refs_of (trace_of v)) (length v.entries) (length v.head.sizes)
+      ≡ Ok (listing 4 (refs_of (trace_of v)) (length v.entries) (length v.head.sizes)
       (tabulate (length v.head.rows) (figures_at v)) (tabulate (length v.head.rows) (row_optimum v)))
   listed-row four =
       (modified-row four).listed
       ∙ ap
-      (λ (c : Bool). gives
+      (λ (c : Bool). Ok
       (listing 4 (refs_of (trace_of v)) (length v.entries) (length v.head.sizes) (tabulate (length v.head.rows) (figures_at v))
       (tabulate (length v.head.rows) (λ n. cond c (row_modtotal v n) (row_opttotal v n)))))
       (sym (le-leb 4 v.form (omega (arith, four))))

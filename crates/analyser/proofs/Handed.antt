@@ -1,4 +1,6 @@
 -- The recorder's theorem, for every recorder that a start and the calls after it handed back.
+use Rattle.std.specs.Prelude.{Result, Ok, Err}
+use Rattle.model.specs.declared.RowFigures.{RowFigures}
 use Prim.Native.Nat.{ℕ, ◌+◌, ◌≤◌, min, max}
 use mathlib.Core.Path.{◌≡◌, refl, sym, ap, subst, ◌∙◌}
 use mathlib.Core.List.{List, [], ◌∷◌, ◌++◌, append-nil}
@@ -9,12 +11,9 @@ use Rattle.model.specs.Sheets.{SheetValue, Valid, idle, most_segs}
 use Rattle.model.specs.Values.{empty_head}
 use Rattle.model.specs.declared.Refusal.{Refusal}
 use Rattle.model.specs.declared.Refusal.TheVariants.{OutOfRange}
-use Rattle.model.specs.declared.Verdict.{Verdict}
-use Rattle.model.specs.declared.Verdict.TheVariants.{Accepted, Refused}
 use Rattle.sheet.specs.Reading.{Outcome, accepted, rejected, read_forms}
 use Rattle.sheet.proofs.Accepted.{accepted-valid, accepted-form}
 use Rattle.model.specs.RowAnswers.{figures_of}
-use Rattle.model.specs.declared.FiguresAnswer.{FiguresAnswer}
 use Rattle.recorder.specs.Recorders.{recorder_of, empty_recorder, started, with_idle, with_step, touch_verdict, refs_verdict}
 use Rattle.recorder.specs.Recorders.{TouchedAll, Rested, Figured}
 use Rattle.recorder.specs.declared.Recorder.{Recorder}
@@ -37,11 +36,11 @@ form-aside v = refl
 
 -- a call on a recorder that stands for a sheet: afterwards it stands for the sheet with what was taken
 module _ (v : SheetValue) (taken xs : List ℕ) (R N : Recorder) (before : Stands (recorded_of v taken) R) where
-  call-stands : (w : Verdict) → (w ≡ Accepted → Valid (recorded_of v (taken ++ xs)))
-      → (w ≡ Accepted → N ≡ recorder_of (recorded_of v (taken ++ xs))) → ((why : Refusal) → w ≡ Refused why → N ≡ R)
+  call-stands : (w : Result (Unit {0}) Refusal) → (w ≡ (Ok tt) → Valid (recorded_of v (taken ++ xs)))
+      → (w ≡ (Ok tt) → N ≡ recorder_of (recorded_of v (taken ++ xs))) → ((why : Refusal) → w ≡ Err why → N ≡ R)
       → Stands (recorded_of v (taken ++ taken_of w xs)) N
-  call-stands Accepted valid next unchanged = record { valid = valid refl; stands = next refl }
-  call-stands (Refused why) valid next unchanged = rw (append-nil taken, unchanged why refl) before
+  call-stands (Ok tt) valid next unchanged = record { valid = valid refl; stands = next refl }
+  call-stands (Err why) valid next unchanged = rw (append-nil taken, unchanged why refl) before
 
 -- one idle step more keeps the form
 rested-is : (v : SheetValue) (taken : List ℕ) → with_idle (recorded_of v taken) ≡ recorded_of v (taken ++ (idle ∷ []))
@@ -91,7 +90,7 @@ record IsEmpty (taken : List ℕ) (R : Recorder) : Type 0 where
   empty : R ≡ empty_after (length taken)
 
 module _ (taken : List ℕ) (R : Recorder) (before : IsEmpty taken R) where
-  refused_empty : (xs : List ℕ) (r : TouchAnswer) (why : Refusal) → r.verdict ≡ Refused why → r.recorder ≡ R
+  refused_empty : (xs : List ℕ) (r : TouchAnswer) (why : Refusal) → r.verdict ≡ Err why → r.recorder ≡ R
       → IsEmpty (taken ++ taken_of r.verdict xs) r.recorder
   refused_empty xs r why f same = record { empty = rw (f, append-nil taken) (same ∙ before.empty) }
 
@@ -99,7 +98,7 @@ module _ (taken : List ℕ) (R : Recorder) (before : IsEmpty taken R) where
   unfolding empty_recorder empty_head
   no_segs = ap (λ (Q : Recorder). Q.head.segs) before.empty
 
-  touch_empty : (x : ℕ) → touch_verdict R x ≡ Refused OutOfRange
+  touch_empty : (x : ℕ) → touch_verdict R x ≡ Err OutOfRange
   touch_empty x = rw (no_segs, le-ltb x 0 (omega arith)) refl
 
   all-empty : (xs : List ℕ) (r : TouchAnswer) → TouchedAll R xs r → IsEmpty (taken ++ taken_of r.verdict xs) r.recorder
@@ -107,20 +106,20 @@ module _ (taken : List ℕ) (R : Recorder) (before : IsEmpty taken R) where
   all-empty [] r t = record { empty = rw (t.verdict_is, append-nil taken) (t.nothing refl ∙ before.empty) }
   all-empty (x ∷ xs) r t = go r.verdict refl
     where
-      go : (w : Verdict) → r.verdict ≡ w → IsEmpty (taken ++ taken_of r.verdict (x ∷ xs)) r.recorder
-      go Accepted a =
+      go : (w : Result (Unit {0}) Refusal) → r.verdict ≡ w → IsEmpty (taken ++ taken_of r.verdict (x ∷ xs)) r.recorder
+      go (Ok tt) a =
           let can = takable-is (min R.head.segs most_segs) R.steps (x ∷ xs) (sym t.verdict_is ∙ a) in
           absurd (omega (arith, can.segments 0 (omega arith), no_segs))
-      go (Refused why) f = refused_empty (x ∷ xs) r why f (t.unchanged why f)
+      go (Err why) f = refused_empty (x ∷ xs) r why f (t.unchanged why f)
 
   idle_empty : (r : TouchAnswer) → Rested R r → IsEmpty (taken ++ taken_of r.verdict (idle ∷ [])) r.recorder
   idle_empty r t = go r.verdict refl
     where
-      go : (w : Verdict) → r.verdict ≡ w → IsEmpty (taken ++ taken_of r.verdict (idle ∷ [])) r.recorder
-      go Accepted a =
+      go : (w : Result (Unit {0}) Refusal) → r.verdict ≡ w → IsEmpty (taken ++ taken_of r.verdict (idle ∷ [])) r.recorder
+      go (Ok tt) a =
           let n : length (taken ++ (idle ∷ [])) ≡ length taken + 1 = length-append taken (idle ∷ []) in
           record { empty = rw (a, n) (t.counted a ∙ ap with_step before.empty) }
-      go (Refused why) f = refused_empty (idle ∷ []) r why f (t.unchanged why f)
+      go (Err why) f = refused_empty (idle ∷ []) r why f (t.unchanged why f)
 
 handed-empty : {s taken : List ℕ} {R : Recorder} → Handed s taken R → (why : Refusal) → read_forms 1 3 s ≡ rejected why → IsEmpty taken R
 unfolding start_answer empty_recorder
@@ -155,6 +154,6 @@ handed-recorded {s} {taken} {R} h =
 
 -- so a recorder that was started on a sheet's bytes and took the sheet's own steps stands for the sheet
 pub sheet-recorded : {s : List ℕ} {R : Recorder} (v : SheetValue) → read_forms 1 3 s ≡ accepted v → Handed s v.entries R
-    → (R ≡ recorder_of v) × ((row : ℕ) (r : FiguresAnswer) → Figured R row r → r ≡ figures_of v row)
+    → (R ≡ recorder_of v) × ((row : ℕ) (r : Result RowFigures Refusal) → Figured R row r → r ≡ figures_of v row)
 unfolding figures_of
 sheet-recorded v e h = let all = handed-recorded h in (all.stands v e ∙ form-aside v, all.figures v e)

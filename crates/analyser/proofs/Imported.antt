@@ -1,10 +1,10 @@
 -- The text that the call gives for a trace is the imported sheet's: one reference for each line, and segments that stand for pages.
+use Rattle.std.specs.Prelude.{Ok}
 use Prim.Native.Nat.{ℕ, ◌<◌}
 use mathlib.Core.Path.{◌≡◌, sym, ap, ◌∙◌}
 use mathlib.Core.List.{List}
 use native.Mathlib.Omega.{arith}
 use lib.ListN.{length}
-use Rattle.model.specs.Places.{gives}
 use Rattle.model.specs.Sheets.{SheetValue, RowsWithin, Valid, newest_form}
 use Rattle.sheet.specs.Reading.{accepted, read_sheet}
 use Rattle.sheet.specs.Writing.{sheet_text}
@@ -19,7 +19,7 @@ use Rattle.analyser.specs.ImportedFromBytes.{imported_value, ImportedFromBytes}
 use Rattle.analyser.proofs.Given.{given-accepted}
 
 module _ (trace : List ℕ) (k : ℕ) (s text : List ℕ) (v : SheetValue) (reads : read_sheet s ≡ accepted v)
-    (e : import_result trace k s ≡ gives text) where
+    (e : import_result trace k s ≡ Ok text) where
   result-is : import_result trace k s ≡ imported_result trace k v.head.rows
   unfolding import_result
   result-is = rw reads

@@ -1,4 +1,5 @@
 -- An import gives a text exactly where k is in its range, every line is well formed, and lines and pages are within their limits.
+use Rattle.std.specs.Prelude.{Ok, Err}
 use Prim.Native.Nat.{ℕ, suc, ◌≤◌}
 use mathlib.Core.Path.{◌≡◌, refl, sym, ap, ◌∙◌}
 use mathlib.Core.Bool.{Bool, true, false, cond, ◌&&◌, false≢true}
@@ -10,7 +11,6 @@ use borrow.Author.Tests.{leb-true, le-leb, le-ltb}
 use lib.Dec.{leb}
 use lib.ListN.{length, length-append, length-map, length-replicate}
 use lib.Seq.{append_snoc}
-use Rattle.model.specs.Places.{gives, refuses}
 use Rattle.model.specs.Sheets.{SheetValue, RowsWithin, newest_form, most_segs, most_steps}
 use Rattle.model.specs.declared.PriceRow.{PriceRow}
 use Rattle.model.specs.declared.Refusal.{Refusal}
@@ -177,14 +177,14 @@ module _ (trace : List ℕ) (k : ℕ) (s : List ℕ) (v : SheetValue) (reads : r
   unfolding import_result
   result-is = rw reads
 
-  given-where : ((text : List ℕ) × (import_result trace k s ≡ gives text)) ↔ Importable k trace
+  given-where : ((text : List ℕ) × (import_result trace k s ≡ Ok text)) ↔ Importable k trace
   given-where = (
     λ given.
         let from = given-accepted (imported k trace v.head.rows) given.0 (sym result-is ∙ given.1) in
         accepted-importable k trace v.head.rows (accepted-valid 1 newest_form (omega arith) s v reads).rows from.0 from.1,
     λ i. (
       sheet_text (sheet_of_pages (pages_in k trace) v.head.rows),
-      result-is ∙ ap (λ o. on_sheet o refuses (λ u. gives (sheet_text u))) (importable-accepted k trace v.head.rows i),
+      result-is ∙ ap (λ o. on_sheet o Err (λ u. Ok (sheet_text u))) (importable-accepted k trace v.head.rows i),
     ),
   )
 

@@ -1,14 +1,14 @@
 -- The text that the call gives for two sheets that join is the joint sheet's, and its figures are those of the two together.
+use Rattle.model.specs.RowAnswers.{figures_given}
+use Rattle.std.specs.Prelude.{Ok, is_ok}
 use Prim.Native.Nat.{ℕ, ◌≤◌, ◌<◌}
 use mathlib.Core.Path.{◌≡◌, refl, sym, ap, ◌∙◌}
 use mathlib.Core.List.{List}
 use native.Mathlib.Omega.{arith}
 use lib.ListN.{length}
-use Rattle.model.specs.Places.{gives}
 use Rattle.model.specs.Rows.{row_figures}
 use Rattle.model.specs.Sheets.{SheetValue, Valid, form_bytes, newest_form, trace_of, row_in, row_at}
 use Rattle.model.specs.declared.PriceRow.{PriceRow}
-use Rattle.model.specs.declared.Verdict.TheVariants.{Accepted}
 use Rattle.sheet.specs.Reading.{accepted, read_forms, read_sheet}
 use Rattle.sheet.specs.Writing.{sheet_text}
 use Rattle.sheet.proofs.Accepted.{accepted-valid}
@@ -32,7 +32,7 @@ module _ (s1 s2 : List ℕ) (v w : SheetValue) (first : read_forms 2 3 s1 ≡ ac
   result-is = rw (first, second)
 
   -- two sheets that join are given
-  pub join-given : Joins v w → join_result s1 s2 ≡ gives (sheet_text (joined v w))
+  pub join-given : Joins v w → join_result s1 s2 ≡ Ok (sheet_text (joined v w))
   join-given joins = result-is ∙ rw (join-joined v w joins)
 
   first-valid : Valid v
@@ -41,7 +41,7 @@ module _ (s1 s2 : List ℕ) (v w : SheetValue) (first : read_forms 2 3 s1 ≡ ac
   second-valid : Valid w
   second-valid = accepted-valid 2 3 (omega arith) s2 w second
 
-  module _ (text : List ℕ) (e : join_result s1 s2 ≡ gives text) where
+  module _ (text : List ℕ) (e : join_result s1 s2 ≡ Ok text) where
     both : Joins v w × (text ≡ sheet_text (joined v w))
     both =
         let given = given-accepted (join_of v w) text (sym result-is ∙ e) in
@@ -95,16 +95,16 @@ module _ (s1 s2 : List ℕ) (v w : SheetValue) (first : read_forms 2 3 s1 ≡ ac
       row-second = ap (λ (rows : List PriceRow). row_in rows r) (sym rows_same)
 
       figures-joint : figures_answer text r
-          ≡ record { verdict = Accepted; figures = row_figures (joint_run v w) (row_at v r).h (row_at v r).d }
+          ≡ Ok (row_figures (joint_run v w) (row_at v r).h (row_at v r).d)
       unfolding joined joint_head
       figures-joint = figures_are text (joined v w) reads-joint r row
 
-      figures-first : (figures_answer s1 r).figures ≡ row_figures (trace_of v) (row_at v r).h (row_at v r).d
-      figures-first = ap (λ a. a.figures) (figures_are s1 v (every-form 2 3 (omega arith) s1 v first) r row)
+      figures-first : (figures_given (figures_answer s1 r)) ≡ row_figures (trace_of v) (row_at v r).h (row_at v r).d
+      figures-first = ap figures_given (figures_are s1 v (every-form 2 3 (omega arith) s1 v first) r row)
 
-      figures-second : (figures_answer s2 r).figures ≡ row_figures (trace_of w) (row_at v r).h (row_at v r).d
+      figures-second : (figures_given (figures_answer s2 r)) ≡ row_figures (trace_of w) (row_at v r).h (row_at v r).d
       figures-second =
-          ap (λ a. a.figures) (figures_are s2 w (every-form 2 3 (omega arith) s2 w second) r (rw (← rows_same) row))
+          ap figures_given (figures_are s2 w (every-form 2 3 (omega arith) s2 w second) r (rw (← rows_same) row))
           ∙ ap (λ (p : PriceRow). row_figures (trace_of w) p.h p.d) row-second
 
     pub joined-from-bytes : JoinedFromBytes s1 s2 text v w
@@ -118,9 +118,9 @@ module _ (s1 s2 : List ℕ) (v w : SheetValue) (first : read_forms 2 3 s1 ≡ ac
           within = length-joint;
           rows_first = rows-joint;
           rows_second = rows-joint ∙ rows_same;
-          figures_accepted = λ r row. ap (λ a. a.verdict) (figures-joint r row);
+          figures_accepted = λ r row. ap is_ok (figures-joint r row);
           figures_add = λ r row.
-              rw (ap (λ a. a.figures) (figures-joint r row), figures-first r row, figures-second r row)
+              rw (ap figures_given (figures-joint r row), figures-first r row, figures-second r row)
               (figures-of (row_at v r).h (row_at v r).d);
           schedules = λ r row. side_by_side v w first-valid second-valid both.0 (row_at v r).h (row_at v r).d;
         }

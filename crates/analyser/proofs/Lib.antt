@@ -1,3 +1,4 @@
+pub mod Asked
 pub mod Converted
 pub mod Demand
 pub mod DemandThree

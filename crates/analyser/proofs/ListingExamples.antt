@@ -1,5 +1,7 @@
 -- What the program prints, byte for byte: document 01's listing; a sheet of each later form, worked by hand; the line of a refusal; and the
 -- first lines of the page of document 01's listing.
+use Rattle.std.specs.Prelude.{Result, Ok, Err}
+use Rattle.model.specs.declared.Refusal.{Refusal}
 use Prim.Native.Nat.{ℕ}
 use Prim.Native.String.{String}
 use mathlib.Core.Path.{◌≡◌, refl}
@@ -9,7 +11,6 @@ use Rattle.decimal.specs.Decimal.{all_digits, value_from, is_number, written_in,
 use Rattle.text.proofs.Strings.{bytes}
 use Rattle.model.specs.Figures.{misses, volume, load, optmem, opttotal, optocc, wsmem, wsocc, wsspace, mean}
 use Rattle.model.specs.Figures.{kept, ref_cost, ref_volume, smaller}
-use Rattle.model.specs.Places.{Result, gives, refuses}
 use Rattle.model.specs.Rows.{row_figures}
 use Rattle.model.specs.Sheets.{listed}
 use Rattle.model.specs.Sums.{sum, tabulate}
@@ -172,9 +173,9 @@ refusals = refl
 
 -- ---- the page of document 01's sheet: its first five lines; it has 60
 
-given : Result → List ℕ
-given (gives text) = text
-given (refuses r) = []
+given : Result (List ℕ) Refusal → List ℕ
+given (Ok text) = text
+given (Err r) = []
 
 first_lines : List ℕ
 first_lines =

@@ -1,15 +1,14 @@
 -- What holds of the misses of least-recently-used replacement of every run of bytes, and of the entries looked at.
+use Rattle.std.specs.Prelude.{Result, Ok, Err, IsOk}
 use Prim.Native.Nat.{ℕ, suc, ◌-◌, ◌*◌, ◌≤◌}
 use mathlib.Core.Path.{◌≡◌, refl, ap, ◌∙◌}
 use mathlib.Core.List.{List}
 use native.Mathlib.Omega.{arith}
 use lib.ListN.{length, get_or}
-use Rattle.model.specs.Places.{gives, refuses, answer_for}
+use Rattle.model.specs.Places.{answer_for}
 use Rattle.model.specs.Sheets.{SheetValue, trace_of}
 use Rattle.model.specs.Traces.{segs, steps, refs_of}
 use Rattle.model.specs.declared.Refusal.{Refusal}
-use Rattle.model.specs.declared.Verdict.{Verdict}
-use Rattle.model.specs.declared.Verdict.TheVariants.{Accepted, Refused}
 use Rattle.model.proofs.LastTouches.{listed-none}
 use Rattle.model.proofs.Tables.{length-tabulate, get_or-tabulate}
 use Rattle.sheet.specs.Accepting.{on_sheet}
@@ -26,17 +25,17 @@ use Rattle.analyser.specs.LruFromBytes.{Misses, LruFromBytes}
 use Rattle.analyser.proofs.GivenLists.{given-after}
 
 -- the two engines have the same for what reading came to
-same-on : (o : Outcome) → on_sheet o refuses curve_for ≡ on_sheet o refuses plain_for
+same-on : (o : Outcome) → on_sheet o Err curve_for ≡ on_sheet o Err plain_for
 unfolding curve_for plain_for
 same-on (accepted v) = ap (λ l. ones_for v.head l) (curves_agree (trace_of v))
 same-on (rejected why) = refl
 
 -- what is asked of the definitions holds where every size is 1 and no segment is warm
-demand : (v : SheetValue) → ones_verdict v.head.sizes (length v.head.warm) ≡ Accepted → LruDemand (trace_of v)
+demand : (v : SheetValue) → ones_verdict v.head.sizes (length v.head.warm) ≡ (Ok tt) → LruDemand (trace_of v)
 demand v ones = every-run v LruDemand ones (λ kind a. lru-demand _ listed-none)
 
-module _ (s : List ℕ) (v : SheetValue) (reads : read_sheet s ≡ accepted v) (list : List ℕ) (gave : lru_result s ≡ gives list) where
-  asked : (ones_verdict v.head.sizes (length v.head.warm) ≡ Accepted) × (list ≡ lru_curve (trace_of v))
+module _ (s : List ℕ) (v : SheetValue) (reads : read_sheet s ≡ accepted v) (list : List ℕ) (gave : lru_result s ≡ Ok list) where
+  asked : (ones_verdict v.head.sizes (length v.head.warm) ≡ (Ok tt)) × (list ≡ lru_curve (trace_of v))
   unfolding lru_result curve_for
   asked = given-after (ones_verdict v.head.sizes (length v.head.warm)) (lru_curve (trace_of v)) list (rw reads at gave)
 
@@ -61,27 +60,29 @@ module _ (s : List ℕ) (v : SheetValue) (reads : read_sheet s ≡ accepted v) (
       }
 
 -- the entries looked at: those of the definition, or none
-looked-on : (v : SheetValue) (w : Verdict) → w ≡ Accepted → looked_for v w ≡ entries_looked (trace_of v)
-looked-on v w e = rw e
+looked-on : (v : SheetValue) (w : Result ℕ Refusal) → IsOk w → looked_for v w ≡ entries_looked (trace_of v)
+looked-on v (Ok n) e = refl
+looked-on v (Err why) e = absurd (let z : ◌≡◌ {A = ℕ} 0 1 = cc in omega arith)
 
-none-on : (o : Outcome) (place : List ℕ) (why : Refusal) → (answer_for (on_sheet o refuses curve_for) place).verdict ≡ Refused why
-    → on_sheet o (λ q. 0) (λ v. looked_for v (answer_for (curve_for v) place).verdict) ≡ 0
+none-on : (o : Outcome) (place : List ℕ) (why : Refusal) → answer_for (on_sheet o Err curve_for) place ≡ Err why
+    → on_sheet o (λ q. 0) (λ v. looked_for v (answer_for (curve_for v) place)) ≡ 0
 none-on (accepted v) place why e = rw e
 none-on (rejected q) place why e = refl
 
 bounded-on : (v : SheetValue) (place : List ℕ)
-    → looked_for v (answer_for (curve_for v) place).verdict ≤ refs_of (trace_of v) * distinct (trace_of v) (steps (trace_of v))
+    → looked_for v (answer_for (curve_for v) place) ≤ refs_of (trace_of v) * distinct (trace_of v) (steps (trace_of v))
 unfolding curve_for
 bounded-on v place = go (ones_verdict v.head.sizes (length v.head.warm)) refl
   where
-    at : LruDemand (trace_of v) → (w : Verdict) → looked_for v w ≤ refs_of (trace_of v) * distinct (trace_of v) (steps (trace_of v))
-    at d Accepted = d.bounded
-    at d (Refused why) = omega arith
+    at : LruDemand (trace_of v) → (w : Result ℕ Refusal)
+        → looked_for v w ≤ refs_of (trace_of v) * distinct (trace_of v) (steps (trace_of v))
+    at d (Ok n) = d.bounded
+    at d (Err why) = omega arith
 
-    go : (w : Verdict) → ones_verdict v.head.sizes (length v.head.warm) ≡ w
-        → looked_for v (answer_for (curve_for v) place).verdict ≤ refs_of (trace_of v) * distinct (trace_of v) (steps (trace_of v))
-    go Accepted e = at (demand v e) (answer_for (curve_for v) place).verdict
-    go (Refused why) e = rw e (omega arith)
+    go : (w : Result (Unit {0}) Refusal) → ones_verdict v.head.sizes (length v.head.warm) ≡ w
+        → looked_for v (answer_for (curve_for v) place) ≤ refs_of (trace_of v) * distinct (trace_of v) (steps (trace_of v))
+    go (Ok u) e = at (demand v e) (answer_for (curve_for v) place)
+    go (Err why) e = rw e (omega arith)
 
 pub lru-from-bytes : (s : List ℕ) → LruFromBytes s
 unfolding lru_result lru_plain_result lru_looked
@@ -89,7 +90,7 @@ lru-from-bytes s =
     record {
       same = same-on (read_sheet s);
       misses = misses-given s;
-      looked = λ v reads place fits. rw reads (looked-on v (answer_for (curve_for v) place).verdict (rw reads at fits));
+      looked = λ v reads place fits. rw reads (looked-on v (answer_for (curve_for v) place) (rw reads at fits));
       none_looked = λ why place e. none-on (read_sheet s) place why e;
       bounded = λ v reads place. rw reads (bounded-on v place);
     }

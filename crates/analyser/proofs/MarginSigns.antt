@@ -1,4 +1,7 @@
 -- The sign of the margin that the margin call answers for an accepted sheet: 0 or more exactly when the reuse is kept at that row.
+use Rattle.std.specs.Prelude.{Result, Ok, ℤ, pos}
+use Rattle.model.specs.Refusals.{value_or_zero}
+use Rattle.model.specs.declared.Refusal.{Refusal}
 use Prim.Native.Nat.{ℕ, ◌≤◌, ◌<◌}
 use mathlib.Core.Path.{◌≡◌, ap, ◌∙◌}
 use mathlib.Core.Bool.{true}
@@ -8,7 +11,6 @@ use lib.Signed.{non_neg}
 use Rattle.model.specs.Figures.{is_reuse, kept, margin_at}
 use Rattle.model.specs.Sheets.{SheetValue, trace_of, row_at}
 use Rattle.model.specs.Traces.{entry, unreferenced, refs_of, place_of}
-use Rattle.model.specs.declared.Verdict.TheVariants.{Accepted}
 use Rattle.model.proofs.Margins.{reuse-margin}
 use Rattle.sheet.specs.Reading.{accepted, read_sheet}
 use Rattle.model.specs.Margins.{touch_margin}
@@ -25,18 +27,14 @@ module _ (s : List ℕ) (v : SheetValue) (reads : read_sheet s ≡ accepted v) (
   -- a reuse is answered with its margin
   pub reuse-answered : Reuse
       → margin_answer s r n
-      ≡ record {
-        verdict = Accepted;
-        margin = margin_at (trace_of v) (row_at v r).h (row_at v r).d (place_of (trace_of v) n)
-            (entry (trace_of v) (place_of (trace_of v) n));
-      }
+      ≡ Ok (margin_at (trace_of v) (row_at v r).h (row_at v r).d (place_of (trace_of v) n) (entry (trace_of v) (place_of (trace_of v) n)))
   unfolding margin_answer touch_margin
   reuse-answered e = rw reads (margin-at v r n row some within ∙ rw e)
 
   -- which is 0 or more exactly when the reuse is kept
   pub answered-sign : Reuse
-      → non_neg (margin_answer s r n).margin
+      → non_neg (value_or_zero (pos 0) (margin_answer s r n))
       ≡ kept (trace_of v) (row_at v r).h (row_at v r).d (place_of (trace_of v) n) (entry (trace_of v) (place_of (trace_of v) n))
   answered-sign e =
-      ap (λ m. non_neg m.margin) (reuse-answered e)
+      ap (λ (m : Result ℤ Refusal). non_neg (value_or_zero (pos 0) m)) (reuse-answered e)
       ∙ reuse-margin (trace_of v) (row_at v r).h (row_at v r).d (place_of (trace_of v) n) (entry (trace_of v) (place_of (trace_of v) n)) e

@@ -1,4 +1,5 @@
 -- Demand 3 holds of every run of bytes that reads as an accepted sheet of form 4, and of every row of it, with modtotal as the optimum.
+use Rattle.std.specs.Prelude.{Ok}
 use Prim.Native.Nat.{ℕ, ◌*◌, ◌≤◌, ◌<◌}
 use mathlib.Core.Path.{◌≡◌, refl, sym}
 use mathlib.Core.List.{List, ◌++◌}
@@ -7,7 +8,6 @@ use lib.ListN.{length, drop}
 use lib.Seq.{take-append_seam}
 use Rattle.model.specs.Places.{PlaceLeft}
 use Rattle.model.specs.Sheets.{SheetValue, Valid, trace_of, marks_of, row_at}
-use Rattle.model.specs.declared.Verdict.TheVariants.{Accepted}
 use Rattle.sheet.specs.Reading.{accepted, read_forms, read_sheet}
 use Rattle.sheet.proofs.Accepted.{accepted-valid, accepted-form}
 use Rattle.sheet.proofs.RoundTrip.{every-form}
@@ -41,7 +41,7 @@ module _ (s : List ℕ) (v : SheetValue) (reads : read_forms 4 4 s ≡ accepted 
   -- what the schedule call answers and leaves
   placed_at : (place : List ℕ) → 32 * length v.entries ≤ length place
       → PlaceLeft (modified_result s r) place (row_mod_schedule v r ++ drop (32 * length v.entries) place)
-      (record { verdict = Accepted; length = 32 * length v.entries })
+      (Ok (32 * length v.entries))
   unfolding modified_result
   placed_at place fits = rw reads (modified-placed v r place row fits)
 

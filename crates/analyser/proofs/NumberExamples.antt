@@ -1,4 +1,6 @@
 -- Which number each call answers, what it gives, and the zeros of a refused one, on small sheets worked by hand from documents 01 and 02.
+use Rattle.std.specs.Prelude.{Result, Ok, Err}
+use Rattle.model.specs.declared.Refusal.{Refusal}
 use Prim.Native.Nat.{ℕ}
 use Prim.Native.String.{String}
 use mathlib.Core.Path.{◌≡◌, refl}
@@ -11,8 +13,8 @@ use Rattle.text.proofs.Strings.{bytes}
 use Rattle.model.specs.Figures.{misses, volume, load, optmem, opttotal, optocc, wsmem, wsocc, wsspace, mean}
 use Rattle.model.specs.Figures.{kept, ref_cost, ref_volume, smaller}
 use Rattle.model.specs.Decisions.{held_byte, held_bytes}
-use Rattle.model.specs.Places.{Result, gives, refuses, answer_for, place_for, placed, place_answer}
-use Rattle.model.specs.Refusals.{number_of, verdict_number}
+use Rattle.model.specs.Places.{answer_for, place_for, placed, place_answer}
+use Rattle.model.specs.Refusals.{number_of, verdict_number, value_or_zero}
 use Rattle.model.specs.Rows.{row_figures}
 use Rattle.model.specs.Schedules.{held, schedule_memory, schedule_load, schedule_total, next_kept, optimal_held, optimal_byte}
 use Rattle.model.specs.Schedules.{optimal_schedule}
@@ -31,11 +33,11 @@ use Rattle.sheet.specs.Touches.{touch_line, touch_lines, placed_from, touches_fr
 use Rattle.sheet.specs.Values.{kind_line, row_line, row_lines}
 use Rattle.sheet.specs.Warm.{hold_line, hold_lines}
 use Rattle.sheet.specs.Writing.{sheet_text}
-use Rattle.model.specs.RowAnswers.{figures_of}
+use Rattle.model.specs.RowAnswers.{figures_of, figures_given}
 use Rattle.stores.specs.Modtotal.{since_mark, joins_before, next_marked, mod_held, mod_schedule}
 use Rattle.stores.specs.Stays.{all, any, every_step, some_step, held_before, held_after, is_stay, modifies_in, is_modified_stay, stores_of}
 use Rattle.stores.specs.Stays.{marked_load, marked_total}
-use Rattle.model.specs.Pricing.{missing, enters, some_enters, step_verdict, steps_verdict}
+use Rattle.model.specs.Pricing.{missing, enters, some_enters, step_verdict, steps_verdict, price_given}
 use Rattle.model.specs.Pricing.{schedule_verdict}
 use Rattle.stores.specs.Plans.{schedule_for, modified_for, priced_at, price_for}
 use Rattle.model.specs.Margins.{touch_margin, margin_for}
@@ -112,15 +114,15 @@ bad : List ℕ
 bad = bytes "kind=tim\n"
 
 -- the number of a result in a place that is long enough: 0 where it is given
-number : Result → ℕ
-number (gives l) = 0
-number (refuses r) = number_of r
+number : Result (List ℕ) Refusal → ℕ
+number (Ok l) = 0
+number (Err r) = number_of r
 
 -- ---- figures: the sheet's refusals, 7
 
-figure-numbers : verdict_number (figures_answer listing 0).verdict ∷ verdict_number (figures_answer listing 1).verdict
-    ∷ verdict_number (figures_answer listing 2).verdict ∷ verdict_number (figures_answer bad 2).verdict
-    ∷ map (λ s. verdict_number (figures_answer s 0).verdict) ([] ∷ unit1 ∷ unit2 ∷ unit3 ∷ unit4 ∷ [])
+figure-numbers : verdict_number (figures_answer listing 0) ∷ verdict_number (figures_answer listing 1)
+    ∷ verdict_number (figures_answer listing 2) ∷ verdict_number (figures_answer bad 2)
+    ∷ map (λ s. verdict_number (figures_answer s 0)) ([] ∷ unit1 ∷ unit2 ∷ unit3 ∷ unit4 ∷ [])
     ≡ 0 ∷ 0 ∷ 7 ∷ 3 ∷ 2 ∷ 0 ∷ 0 ∷ 0 ∷ 0 ∷ []
 unfolding bytes listing bad unit1 unit2 unit3 unit4 figures_answer figures_of same_bytes all_digits value_from is_number split_at
     after_key value_line number_line number_lines sizes_part prices_part warm_part tables_part head_part refs_part plain_part steps_part
@@ -134,8 +136,8 @@ figure_list f =
     f.h ∷ f.d ∷ f.misses ∷ f.volume ∷ f.load.0 ∷ f.optmem.0 ∷ f.opttotal ∷ f.optocc ∷ f.wsmem ∷ f.wsocc ∷ f.mean ∷ []
 
 -- row 0 of document 01's sheet; zeros for a row that there is not, and for a sheet that is refused
-figure-parts : figure_list (figures_answer listing 0).figures ++ figure_list (figures_answer listing 2).figures
-    ++ figure_list (figures_answer bad 0).figures
+figure-parts : figure_list (figures_given (figures_answer listing 0)) ++ figure_list (figures_given (figures_answer listing 2))
+    ++ figure_list (figures_given (figures_answer bad 0))
     ≡ (1 ∷ 2 ∷ 4 ∷ 8 ∷ 12 ∷ 13 ∷ 38 ∷ 13 ∷ 36 ∷ 36 ∷ 3000 ∷ []) ++ replicate 22 0
 unfolding bytes listing bad figure_list figures_answer figures_of same_bytes all_digits value_from is_number split_at after_key value_line
     number_line number_lines sizes_part prices_part warm_part tables_part head_part refs_part plain_part steps_part run_part body_part
@@ -147,8 +149,8 @@ figure-parts = refl
 -- ---- the listing and the page in a lent place: the sheet's refusals, then 11
 
 -- what is answered for a place, the number and the length, and what the place is afterwards
-left : Result → List ℕ → List ℕ
-left result place = verdict_number (answer_for result place).verdict ∷ (answer_for result place).length ∷ place_for result place
+left : Result (List ℕ) Refusal → List ℕ → List ℕ
+left result place = verdict_number (answer_for result place) ∷ value_or_zero 0 (answer_for result place) ∷ place_for result place
 
 -- in a place of two bytes: 11, nothing written, the bytes stay; so they do beside the sheet's refusal, which comes before 11
 short-place : left (listing_result listing) (7 ∷ 9 ∷ []) ++ left (listing_result bad) (7 ∷ 9 ∷ []) ≡ 11 ∷ 0 ∷ 7 ∷ 9 ∷ 3 ∷ 0 ∷ 7 ∷ 9 ∷ []
@@ -177,7 +179,7 @@ schedule [] = []
 schedule (b ∷ bs) = (b ∷ replicate 31 0) ++ schedule bs
 
 -- the optimal schedule of the row 1/2, whole (P3)
-optimal : schedule_result listing 0 ≡ gives (schedule (1 ∷ 3 ∷ 1 ∷ 2 ∷ 2 ∷ 1 ∷ []))
+optimal : schedule_result listing 0 ≡ Ok (schedule (1 ∷ 3 ∷ 1 ∷ 2 ∷ 2 ∷ 1 ∷ []))
 unfolding bytes listing schedule schedule_result schedule_for same_bytes all_digits value_from is_number split_at after_key value_line
     number_line number_lines sizes_part prices_part warm_part tables_part head_part refs_part plain_part steps_part run_part body_part
     sheet_part named_form read_forms touch_line touch_lines placed_from kind_line row_line row_lines hold_line hold_lines sum tabulate
@@ -185,7 +187,7 @@ unfolding bytes listing schedule schedule_result schedule_for same_bytes all_dig
 optimal = refl
 
 -- that of form 4: segment 0, modified in steps 1 and 4, is dropped between them
-modified : modified_result unit4 0 ≡ gives (schedule (1 ∷ 2 ∷ 2 ∷ 1 ∷ []))
+modified : modified_result unit4 0 ≡ Ok (schedule (1 ∷ 2 ∷ 2 ∷ 1 ∷ []))
 unfolding bytes unit4 schedule modified_result modified_for same_bytes all_digits value_from is_number split_at after_key value_line
     number_line number_lines sizes_part prices_part warm_part tables_part head_part refs_part plain_part steps_part run_part body_part
     sheet_part named_form read_forms touch_line touch_lines placed_from kind_line row_line row_lines hold_line hold_lines sum tabulate
@@ -208,7 +210,8 @@ schedule-numbers = refl
 -- what pricing answers: the number, memory, load and total
 priced : List ℕ → ℕ → List ℕ → List ℕ
 priced s r p =
-    verdict_number (pricing s r p).verdict ∷ (pricing s r p).memory.0 ∷ (pricing s r p).load.0 ∷ (pricing s r p).total ∷ []
+    verdict_number (pricing s r p) ∷ (price_given (pricing s r p)).memory.0 ∷ (price_given (pricing s r p)).load.0
+    ∷ (price_given (pricing s r p)).total ∷ []
 
 -- the optimal schedule costs optmem, load and opttotal; one that holds both segments from step 2 on costs 1 + 3 + 1 + 1 + 3
 -- beside Q and loads each once; a price of form 4 counts the stores: 3 loads and 2 stores
@@ -243,7 +246,7 @@ unpriced = refl
 
 -- the number and the margin
 margin : List ℕ → ℕ → ℕ → ℕ × ℤ
-margin s r n = (verdict_number (margin_answer s r n).verdict, (margin_answer s r n).margin)
+margin s r n = (verdict_number (margin_answer s r n), value_or_zero (pos 0) (margin_answer s r n))
 
 -- references 3 to 6 at the row 1/2: 2 − 2, 4 − 6, 4 − 0, 2 − 4; the first touch of a warm segment has one, 1 − 0. 0 beside every refusal:
 -- 7 before 14, 14 for 0 and 7, 15 for the two first touches, 14 for reference 2 of unit2, whose two steps have one, and the sheet's
@@ -261,7 +264,7 @@ margins = refl
 
 -- the number and the row; optmem of the rows is 13 and 18, their load 12 and 6
 size : List ℕ → ℕ → List ℕ
-size s ceiling = verdict_number (size_answer s ceiling).verdict ∷ (size_answer s ceiling).row ∷ []
+size s ceiling = verdict_number (size_answer s ceiling) ∷ value_or_zero 0 (size_answer s ceiling) ∷ []
 
 sizes : size listing 12 ++ size listing 13 ++ size listing 17 ++ size listing 18 ++ size listing 18446744073709551615 ++ size bad 18
     ≡ 12 ∷ 0 ∷ 0 ∷ 0 ∷ 0 ∷ 0 ∷ 0 ∷ 1 ∷ 0 ∷ 1 ∷ 3 ∷ 0 ∷ []
@@ -275,7 +278,7 @@ sizes = refl
 
 -- the number and the cents, at a rate for memory, one for load and a minimum
 bill : List ℕ → ℕ → ℕ → ℕ → ℕ → List ℕ
-bill s r m l least = verdict_number (bill_answer s r m l least).verdict ∷ (bill_answer s r m l least).cents.0 ∷ []
+bill s r m l least = verdict_number (bill_answer s r m l least) ∷ (value_or_zero (record { 0 = 0 }) (bill_answer s r m l least)).0 ∷ []
 
 -- 1 started thousand of memory at 7 and 1,045 of load at 5; the minimum; the largest rates and minimum
 bills : bill heavy 0 7 5 0 ++ bill heavy 0 7 5 5233 ++ bill heavy 0 7 0 0 ++ bill listing 1 9999 9999 99999
@@ -300,14 +303,14 @@ unbilled = refl
 in_form_2 : List ℕ
 in_form_2 = bytes "form=2\nkind=time\na=0\nsegs=2\nsize=1\nsize=1\nrows=1\nrow=1/2\nsteps=1\nrefs=1\nref=0@1\n"
 
-there : to_form_2_result unit1 ≡ gives in_form_2
+there : to_form_2_result unit1 ≡ Ok in_form_2
 unfolding bytes unit1 in_form_2 to_form_2_result sheet_text lines_text touches_from same_bytes all_digits value_from is_number split_at
     after_key value_line number_line number_lines sizes_part prices_part warm_part tables_part head_part refs_part plain_part steps_part
     run_part body_part sheet_part named_form read_forms touch_line touch_lines placed_from kind_line row_line row_lines hold_line
     hold_lines written_in written
 there = refl
 
-back : to_form_1_result in_form_2 ≡ gives unit1
+back : to_form_1_result in_form_2 ≡ Ok unit1
 unfolding bytes unit1 in_form_2 to_form_1_result some_idle sheet_text lines_text same_bytes all_digits value_from is_number split_at
     after_key value_line number_line number_lines sizes_part prices_part warm_part tables_part head_part refs_part plain_part steps_part
     run_part body_part sheet_part named_form read_forms touch_line touch_lines placed_from kind_line row_line row_lines hold_line
@@ -336,7 +339,7 @@ together =
     bytes "form=3\nkind=time\na=0\nsegs=3\nsize=1\nsize=1\nsize=5\nrows=1\nrow=1/2\nwarm=1\nhold=2\n"
     ++ bytes "steps=3\nrefs=3\nref=2@1\nref=0@2\nref=2@3\n"
 
-joins : join_result unit2 other ≡ gives together
+joins : join_result unit2 other ≡ Ok together
 unfolding bytes unit2 other together join_result join_of joint joint_head joint_refs same_heads same_rows both_touch tabulate sheet_text
     lines_text touches_from same_bytes all_digits value_from is_number split_at after_key value_line number_line number_lines sizes_part
     prices_part warm_part tables_part head_part refs_part plain_part steps_part run_part body_part sheet_part named_form read_forms
@@ -371,7 +374,7 @@ join-numbers = refl
 
 -- two lines of one page and one of another, with the rows of document 01's sheet: kind time, a=0, sizes 1; and an empty trace
 import-gives : import_result (bytes "0 300\n1 Fff\n2 3FF\n") 8 listing
-    ≡ gives (bytes "kind=time\na=0\nsegs=2\nsize=1\nsize=1\nrows=2\nrow=1/2\nrow=1/1\nrefs=3\nref=0\nref=1\nref=0\n")
+    ≡ Ok (bytes "kind=time\na=0\nsegs=2\nsize=1\nsize=1\nrows=2\nrow=1/2\nrow=1/1\nrefs=3\nref=0\nref=1\nref=0\n")
 unfolding bytes listing import_result imported touched_with touched_by touched_from too_many segments_of firsts firsts_after with_page
     place_in trace_lines digit_of hexDigits hexValue address_of sheet_text lines_text same_bytes all_digits value_from is_number split_at
     after_key value_line number_line number_lines sizes_part prices_part warm_part tables_part head_part refs_part plain_part steps_part
@@ -379,7 +382,7 @@ unfolding bytes listing import_result imported touched_with touched_by touched_f
     hold_lines written_in written
 import-gives = refl
 
-import-empty : import_result [] 24 unit4 ≡ gives (bytes "kind=time\na=0\nsegs=1\nsize=1\nrows=1\nrow=1/2\nrefs=0\n")
+import-empty : import_result [] 24 unit4 ≡ Ok (bytes "kind=time\na=0\nsegs=1\nsize=1\nrows=1\nrow=1/2\nrefs=0\n")
 unfolding bytes unit4 import_result imported touched_with touched_by touched_from segments_of firsts firsts_after trace_lines sheet_text
     lines_text same_bytes all_digits value_from is_number split_at after_key value_line number_line number_lines sizes_part prices_part
     warm_part tables_part head_part refs_part plain_part steps_part run_part body_part sheet_part named_form read_forms touch_line
@@ -403,14 +406,14 @@ import-numbers = refl
 -- ---- lists: least-recently-used frames, windows, operating points
 
 -- unit4 touches 0, 1, 1, 0: misses with one frame and with two, by both engines
-curve : lru_result unit4 ≡ gives (3 ∷ 2 ∷ [])
+curve : lru_result unit4 ≡ Ok (3 ∷ 2 ∷ [])
 unfolding bytes unit4 lru_result curve_for ones_verdict all_ones same_bytes all_digits value_from is_number split_at after_key value_line
     number_line number_lines sizes_part prices_part warm_part tables_part head_part refs_part plain_part steps_part run_part body_part
     sheet_part named_form read_forms touch_line touch_lines placed_from kind_line row_line row_lines hold_line hold_lines sum tabulate
     touching lru_misses distance recency place_of without later
 curve = refl
 
-plain-curve : lru_plain_result unit4 ≡ gives (3 ∷ 2 ∷ [])
+plain-curve : lru_plain_result unit4 ≡ Ok (3 ∷ 2 ∷ [])
 unfolding bytes unit4 lru_plain_result plain_for ones_verdict all_ones same_bytes all_digits value_from is_number split_at after_key
     value_line number_line number_lines sizes_part prices_part warm_part tables_part head_part refs_part plain_part steps_part run_part
     body_part sheet_part named_form read_forms touch_line touch_lines placed_from kind_line row_line row_lines hold_line hold_lines sum
@@ -427,7 +430,7 @@ unfolding bytes unit4 two bad lru_looked place_answer curve_for ones_verdict all
 looked = refl
 
 -- wsocc of unit4 at the windows 1 to 4: refs, and then 2, 1 and 0 intervals longer than 1, 2 and 3 steps
-windows : windows_result unit4 ≡ gives (4 ∷ 6 ∷ 7 ∷ 7 ∷ [])
+windows : windows_result unit4 ≡ Ok (4 ∷ 6 ∷ 7 ∷ 7 ∷ [])
 unfolding bytes unit4 windows_result windows_for wsoccs time_zero ones_verdict all_ones same_bytes all_digits value_from is_number
     split_at after_key value_line number_line number_lines sizes_part prices_part warm_part tables_part head_part refs_part plain_part
     steps_part run_part body_part sheet_part named_form read_forms touch_line touch_lines placed_from kind_line row_line row_lines
@@ -436,7 +439,7 @@ windows = refl
 
 -- the points of document 01's sheet, each R, w, optmem and load: at 0 the reuse of step 5 alone is kept, then one more at each
 points : points_result listing
-    ≡ gives (0 ∷ 4 ∷ 12 ∷ 14 ∷ 1 ∷ 2 ∷ 13 ∷ 12 ∷ 3 ∷ 4 ∷ 16 ∷ 8 ∷ 2 ∷ 2 ∷ 18 ∷ 6 ∷ [])
+    ≡ Ok (0 ∷ 4 ∷ 12 ∷ 14 ∷ 1 ∷ 2 ∷ 13 ∷ 12 ∷ 3 ∷ 4 ∷ 16 ∷ 8 ∷ 2 ∷ 2 ∷ 18 ∷ 6 ∷ [])
 unfolding bytes listing points_result points_for operating_points point_numbers thresholds ratios insert same_bytes all_digits value_from
     is_number split_at after_key value_line number_line number_lines sizes_part prices_part warm_part tables_part head_part refs_part
     plain_part steps_part run_part body_part sheet_part named_form read_forms touch_line touch_lines placed_from kind_line row_line
@@ -444,7 +447,7 @@ unfolding bytes listing points_result points_for operating_points point_numbers 
 points = refl
 
 -- no reuse: 0 and 1 with Q and the load of all references
-point-alone : points_result unit2 ≡ gives (0 ∷ 1 ∷ 1 ∷ 1 ∷ [])
+point-alone : points_result unit2 ≡ Ok (0 ∷ 1 ∷ 1 ∷ 1 ∷ [])
 unfolding bytes unit2 points_result points_for operating_points point_numbers thresholds ratios insert same_bytes all_digits value_from
     is_number split_at after_key value_line number_line number_lines sizes_part prices_part warm_part tables_part head_part refs_part
     plain_part steps_part run_part body_part sheet_part named_form read_forms touch_line touch_lines placed_from kind_line row_line

@@ -1,15 +1,15 @@
 -- What holds of the numbers of the windows call, for every run of bytes for which it gives them.
+use Rattle.model.specs.RowAnswers.{figures_given}
+use Rattle.std.specs.Prelude.{Ok}
 use Prim.Native.Nat.{ℕ, zero, suc, ◌+◌, ◌-◌, ◌≤◌, ◌<◌}
 use mathlib.Core.Path.{◌≡◌, sym, ap, ◌∙◌}
 use mathlib.Core.List.{List}
 use native.Mathlib.Omega.{arith}
 use lib.ListN.{length, get_or}
 use Rattle.model.specs.Figures.{wsocc}
-use Rattle.model.specs.Places.{gives}
 use Rattle.model.specs.Rows.{row_figures}
 use Rattle.model.specs.Sheets.{SheetValue, trace_of, row_at}
 use Rattle.model.specs.Traces.{steps}
-use Rattle.model.specs.declared.Verdict.TheVariants.{Accepted}
 use Rattle.model.proofs.Tables.{length-tabulate, get_or-tabulate}
 use Rattle.sheet.specs.Reading.{accepted, read_sheet}
 use Rattle.windows.specs.Windows.{window_at, longer_than}
@@ -21,8 +21,8 @@ use Rattle.analyser.specs.Curves.{windows_result}
 use Rattle.analyser.specs.WindowsFromBytes.{WindowsFromBytes}
 use Rattle.analyser.proofs.GivenLists.{given-after}
 
-module _ (s : List ℕ) (v : SheetValue) (reads : read_sheet s ≡ accepted v) (list : List ℕ) (gave : windows_result s ≡ gives list) where
-  asked : (windows_verdict v.head ≡ Accepted) × (list ≡ wsoccs (trace_of v))
+module _ (s : List ℕ) (v : SheetValue) (reads : read_sheet s ≡ accepted v) (list : List ℕ) (gave : windows_result s ≡ Ok list) where
+  asked : (windows_verdict v.head ≡ (Ok tt)) × (list ≡ wsoccs (trace_of v))
   unfolding windows_result windows_for
   asked = given-after (windows_verdict v.head) (wsoccs (trace_of v)) list (rw reads at gave)
 
@@ -52,7 +52,7 @@ module _ (s : List ℕ) (v : SheetValue) (reads : read_sheet s ≡ accepted v) (
         number = λ w one within. at_place (w - 1) (omega arith);
         row = λ r lt one within. at_place (row_at v r).h within
             ∙ ap (λ (d : ℕ). wsocc (trace_of v) (row_at v r).h d) (sym one)
-            ∙ sym (ap (λ a. a.figures.wsocc) (figures_are s v reads r lt));
+            ∙ sym (ap (λ a. (figures_given a).wsocc) (figures_are s v reads r lt));
         first = λ some. by-recursion 0 some;
         next = next-at;
       }

@@ -1,15 +1,15 @@
 -- Demand 3 of document 01 as one statement: of every run of bytes that reads as an accepted sheet, whatever its form, and of each of its
 -- rows. Two records, laws of their own, say more: `Demand3FromBytes` (DemandFromBytes.antt) memory and load as reported, for forms 1 to
 -- 3, and `ModifiedFromBytes` (ModifiedFromBytes.antt) the rule for ties, for form 4.
-use Rattle.std.specs.Prelude.{ℕ, ◌<◌, ◌*◌, ◌≤◌, ◌≡◌, cond, List, leb, length, take, drop}
+use Rattle.model.specs.declared.Refusal.{Refusal}
+use Rattle.std.specs.Prelude.{ℕ, ◌<◌, ◌*◌, ◌≤◌, ◌≡◌, cond, List, leb, length, take, drop, Result, Ok, IsOk}
 use Rattle.model.specs.Demand.{row_opttotal}
-use Rattle.model.specs.Places.{Result, gives, answer_for, place_for}
-use Rattle.model.specs.RowAnswers.{figures_at}
+use Rattle.model.specs.Places.{answer_for, place_for}
+use Rattle.model.specs.RowAnswers.{figures_at, figures_given}
 use Rattle.model.specs.Schedules.{Permitted, schedule_memory}
 use Rattle.model.specs.Sheets.{SheetValue, trace_of, newest_form}
 use Rattle.model.specs.Sums.{tabulate}
 use Rattle.model.specs.Traces.{refs_of}
-use Rattle.model.specs.declared.Verdict.TheVariants.{Accepted}
 use Rattle.sheet.specs.Reading.{read_sheet, accepted}
 use Rattle.listing.specs.Listing.{listing}
 use Rattle.stores.specs.Rows.{row_modtotal, sheet_load, sheet_total}
@@ -22,7 +22,7 @@ abbrev pub row_optimum : SheetValue → ℕ → ℕ
 row_optimum v r = cond (leb 4 v.form) (row_modtotal v r) (row_opttotal v r)
 
 -- the schedule call that is made for the sheet's form: that of document 01, and from form 4 on that of request F-13
-abbrev pub form_schedule : List ℕ → SheetValue → ℕ → Result
+abbrev pub form_schedule : List ℕ → SheetValue → ℕ → Result (List ℕ) Refusal
 form_schedule s v r = cond (leb 4 v.form) (modified_result s r) (schedule_result s r)
 
 -- the bytes that it leaves at the front of a place: 32 for each step
@@ -50,19 +50,19 @@ pub record DemandThree (s : List ℕ) (v : SheetValue) (r : ℕ) : Type 0 where
       → pricing s r p ≡ price_of (schedule_memory (trace_of v) p) (sheet_load v p) (sheet_total v r p)
   -- the schedule call of the sheet's form accepts every place that is long enough, whatever stands there
   pub schedule_accepted : (place : List ℕ) → 32 * length v.entries ≤ length place
-      → answer_for (form_schedule s v r) place ≡ record { verdict = Accepted; length = 32 * length v.entries }
+      → answer_for (form_schedule s v r) place ≡ Ok (32 * length v.entries)
   -- the bytes that it leaves at the front are a permitted schedule that costs exactly the optimum
   pub written : (place : List ℕ) → 32 * length v.entries ≤ length place → OwnOptimum s v r (left_by_form s v r place)
   -- and what stood beyond them stays
   pub beyond : (place : List ℕ) → 32 * length v.entries ≤ length place
       → drop (32 * length v.entries) (place_for (form_schedule s v r) place) ≡ drop (32 * length v.entries) place
   -- the optimum is what is reported: of forms 1 to 3 by the figures call, which accepts, as opttotal
-  pub figures_accepted : v.form ≤ 3 → (figures_answer s r).verdict ≡ Accepted
-  pub reported : v.form ≤ 3 → (figures_answer s r).figures.opttotal ≡ row_optimum v r
+  pub figures_accepted : v.form ≤ 3 → IsOk (figures_answer s r)
+  pub reported : v.form ≤ 3 → (figures_given (figures_answer s r)).opttotal ≡ row_optimum v r
   -- of form 4 by the listing call, as modtotal after each row's mean
   pub listed : v.form ≡ 4
       → listing_result s
-      ≡ gives (listing 4 (refs_of (trace_of v)) (length v.entries) (length v.head.sizes)
+      ≡ Ok (listing 4 (refs_of (trace_of v)) (length v.entries) (length v.head.sizes)
       (tabulate (length v.head.rows) (figures_at v)) (tabulate (length v.head.rows) (row_optimum v)))
 
 -- demand 3: every accepted sheet and each of its rows

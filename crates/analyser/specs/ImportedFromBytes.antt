@@ -1,7 +1,6 @@
 -- Which traces in the din text form are taken, and what holds of the text that is given for one (request F-8).
-use Rattle.std.specs.Prelude.{ℕ, ◌<◌, ◌≤◌, ◌≡◌, Bool, true, false, List, [], ◌∷◌, ◌↔◌, length, get_or}
+use Rattle.std.specs.Prelude.{ℕ, ◌<◌, ◌≤◌, ◌≡◌, Bool, true, false, List, [], ◌∷◌, ◌↔◌, length, get_or, Ok}
 use Rattle.std.proofs.Math.Option.{none, some}
-use Rattle.model.specs.Places.{gives}
 use Rattle.model.specs.Sheets.{SheetValue, Valid, form_bytes, most_segs, most_steps}
 use Rattle.sheet.specs.Reading.{read_sheet, accepted}
 use Rattle.sheet.specs.Writing.{sheet_text}
@@ -28,7 +27,7 @@ pub record Importable (k : ℕ) (trace : List ℕ) : Type 0 where
 -- with the rows of bytes that read as a sheet, a text is given for these traces and for no others
 abbrev pub GivenExactly : Type 0
 GivenExactly = (trace : List ℕ) (k : ℕ) (s : List ℕ) (v : SheetValue) → read_sheet s ≡ accepted v
-    → ((text : List ℕ) × (import_result trace k s ≡ gives text)) ↔ Importable k trace
+    → ((text : List ℕ) × (import_result trace k s ≡ Ok text)) ↔ Importable k trace
 
 -- the imported sheet with the rows of the sheet v
 abbrev pub imported_value : List ℕ → ℕ → SheetValue → SheetValue

@@ -1,8 +1,8 @@
 -- What holds of the text that is given for two sheets as one (request F-7).
-use Rattle.std.specs.Prelude.{ℕ, ◌<◌, ◌≤◌, ◌+◌, ◌≡◌, List, length}
+use Rattle.model.specs.RowAnswers.{figures_given}
+use Rattle.std.specs.Prelude.{ℕ, ◌<◌, ◌≤◌, ◌+◌, ◌≡◌, List, length, Ok, IsOk}
 use Rattle.model.specs.Sheets.{SheetValue, Valid, form_bytes, row_at}
 use Rattle.model.specs.declared.RowFigures.{RowFigures}
-use Rattle.model.specs.declared.Verdict.TheVariants.{Accepted}
 use Rattle.sheet.specs.Reading.{read_sheet, accepted}
 use Rattle.sheet.specs.Writing.{sheet_text}
 use Rattle.joint.specs.Figures.{SideBySide}
@@ -36,8 +36,8 @@ pub record JoinedFromBytes (s1 s2 text : List ℕ) (v w : SheetValue) : Type 0 w
   pub rows_first : (joined v w).head.rows ≡ v.head.rows
   pub rows_second : (joined v w).head.rows ≡ w.head.rows
   -- the figures call accepts each of them, and gives the sums
-  pub figures_accepted : (r : ℕ) → r < length v.head.rows → (figures_answer text r).verdict ≡ Accepted
+  pub figures_accepted : (r : ℕ) → r < length v.head.rows → IsOk (figures_answer text r)
   pub figures_add : (r : ℕ) → r < length v.head.rows
-      → FiguresAdd v w (figures_answer text r).figures (figures_answer s1 r).figures (figures_answer s2 r).figures
+      → FiguresAdd v w (figures_given (figures_answer text r)) (figures_given (figures_answer s1 r)) (figures_given (figures_answer s2 r))
   -- the optimal schedule of a row is the two side by side
   pub schedules : (r : ℕ) → r < length v.head.rows → SideBySide v w (row_at v r).h (row_at v r).d

@@ -1,15 +1,14 @@
 -- Demand 3 of document 01 for a sheet of form 4 (request F-13), from bytes:
 -- what holds of row r of the sheet v of form 4 that a run of bytes
 -- s reads as, and of the calls on s. The optimum is there modtotal.
-use Rattle.std.specs.Prelude.{ℕ, ◌<◌, ◌*◌, ◌≤◌, suc, ◌≡◌, true, false, List, ◌++◌, length, take, drop}
+use Rattle.std.specs.Prelude.{ℕ, ◌<◌, ◌*◌, ◌≤◌, suc, ◌≡◌, true, false, List, ◌++◌, length, take, drop, Ok}
 use Rattle.model.specs.Demand.{row_opttotal, row_schedule}
-use Rattle.model.specs.Places.{gives, answer_for, place_for}
+use Rattle.model.specs.Places.{answer_for, place_for}
 use Rattle.model.specs.RowAnswers.{figures_at}
 use Rattle.model.specs.Schedules.{Permitted, schedule_memory, held}
 use Rattle.model.specs.Sheets.{SheetValue, trace_of, most_segs, marks_of}
 use Rattle.model.specs.Sums.{tabulate}
 use Rattle.model.specs.Traces.{refs_of}
-use Rattle.model.specs.declared.Verdict.TheVariants.{Accepted}
 use Rattle.listing.specs.Listing.{listing}
 use Rattle.stores.specs.Demand.{SameUpTo}
 use Rattle.stores.specs.Rows.{row_modtotal, sheet_load, sheet_total, row_mod_schedule}
@@ -34,13 +33,13 @@ pub record HasModtotal (s : List ℕ) (v : SheetValue) (r : ℕ) (p : List ℕ) 
 pub record ModifiedFromBytes (s : List ℕ) (v : SheetValue) (r : ℕ) : Type 0 where
   -- the listing call has modtotal of each row after its mean
   pub listed : listing_result s
-      ≡ gives (listing 4 (refs_of (trace_of v)) (length v.entries) (length v.head.sizes)
+      ≡ Ok (listing 4 (refs_of (trace_of v)) (length v.entries) (length v.head.sizes)
       (tabulate (length v.head.rows) (figures_at v)) (tabulate (length v.head.rows) (row_modtotal v)))
   -- no permitted schedule, whatever it holds and drops, costs less, stores counted
   pub lower : (p : List ℕ) → Permitted (trace_of v) p → row_modtotal v r ≤ sheet_total v r p
   -- the schedule call accepts every place that is long enough, whatever stands there
   pub schedule_accepted : (place : List ℕ) → 32 * length v.entries ≤ length place
-      → answer_for (modified_result s r) place ≡ record { verdict = Accepted; length = 32 * length v.entries }
+      → answer_for (modified_result s r) place ≡ Ok (32 * length v.entries)
   -- the bytes that it leaves at the front are a permitted schedule of exactly that total, the one that the rule for ties picks
   pub written : (place : List ℕ) → 32 * length v.entries ≤ length place → HasModtotal s v r (left_modified s v r place)
   -- they are those of the definition, and what stood beyond them stays

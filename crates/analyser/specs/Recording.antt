@@ -1,17 +1,15 @@
 -- What the recorder's start answers: the sheet's refusals. What a touch, an idle step and reading the figures answer is written in crate
 -- `recorder`. And every recorder that a start and the calls after it handed back, and what holds of it.
-use Rattle.std.specs.Prelude.{ℕ, max, ◌≡◌, List, [], ◌∷◌, ◌++◌, length, get_or}
+use Rattle.model.specs.declared.RowFigures.{RowFigures}
+use Rattle.std.specs.Prelude.{ℕ, max, ◌≡◌, List, [], ◌∷◌, ◌++◌, length, get_or, Result, Ok, Err}
 use Rattle.model.specs.Sums.{sum}
 use Rattle.model.specs.Sheets.{SheetValue, Valid, idle, trace_of}
 use Rattle.model.specs.Traces.{refs_of}
 use Rattle.model.specs.declared.Refusal.{Refusal}
-use Rattle.model.specs.declared.Verdict.{Verdict}
-use Rattle.model.specs.declared.Verdict.TheVariants.{Accepted, Refused}
 use Rattle.sheet.specs.Reading.{accepted, rejected, read_forms}
 use Rattle.buckets.specs.Buckets.{bucket_count}
 use Rattle.model.specs.RowAnswers.{figures_of}
 use Rattle.buckets.specs.Buckets.{no_bucket}
-use Rattle.model.specs.declared.FiguresAnswer.{FiguresAnswer}
 use Rattle.recorder.specs.Recorders.{recorder_of, empty_recorder, started, Touched, TouchedAll, Rested, Figured}
 use Rattle.recorder.specs.declared.Recorder.{Recorder}
 use Rattle.recorder.specs.declared.TouchAnswer.{TouchAnswer}
@@ -19,16 +17,16 @@ use Rattle.sheet.specs.Accepting.{on_sheet}
 
 -- no segments and no rows beside the refusal
 abbrev pub no_recorder : Refusal → TouchAnswer
-no_recorder r = record { verdict = Refused r; recorder = empty_recorder }
+no_recorder r = record { verdict = Err r; recorder = empty_recorder }
 
 -- the recorder of the sheet's kind, a, sizes and rows with no steps; a sheet of form 4 is 4 (request F-13)
 unfoldable pub start_answer : List ℕ → TouchAnswer
-start_answer s = on_sheet (read_forms 1 3 s) no_recorder (λ v. record { verdict = Accepted; recorder = recorder_of (started v) })
+start_answer s = on_sheet (read_forms 1 3 s) no_recorder (λ v. record { verdict = (Ok tt); recorder = recorder_of (started v) })
 
 -- what a call takes of the entries xs: all, or where it is refused none
-abbrev pub taken_of : Verdict → List ℕ → List ℕ
-taken_of Accepted xs = xs
-taken_of (Refused why) xs = []
+abbrev pub taken_of : Result (Unit {0}) Refusal → List ℕ → List ℕ
+taken_of (Ok u) xs = xs
+taken_of (Err why) xs = []
 
 -- R was handed back by a start on the bytes s, or by a call on a recorder that was; `taken` are the entries of the steps taken since the
 -- start, a segment for a reference and `idle` for a step without a touch. The calls and the start may have been refused
@@ -68,5 +66,5 @@ pub record Recorded (s taken : List ℕ) (R : Recorder) : Type 0 where
   pub counts_add_up : (v : SheetValue) → read_forms 1 3 s ≡ accepted v
       → sum bucket_count (λ k. (get_or R.buckets k no_bucket).count) ≡ refs_of (trace_of (recorded_of v taken))
   -- its figures are those of that sheet
-  pub figures : (v : SheetValue) → read_forms 1 3 s ≡ accepted v → (row : ℕ) (r : FiguresAnswer) → Figured R row r
+  pub figures : (v : SheetValue) → read_forms 1 3 s ≡ accepted v → (row : ℕ) (r : Result RowFigures Refusal) → Figured R row r
       → r ≡ figures_of (recorded_of v taken) row

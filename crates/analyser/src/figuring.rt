@@ -3,65 +3,49 @@
 ghost use Rattle.std.specs.Prelude.{◌≡◌};
 ghost use Rattle.analyser.specs.Figures.{bill_answer, figures_answer, margin_answer, size_answer};
 
-use model::{FiguresAnswer, MarginAnswer, Sheet, SizingAnswer, Verdict};
-use tariff::{BillAnswer, Tariff};
+use crate::sheets;
+use model::{Refusal, RowFigures};
+use tariff::{Cents, Tariff};
 
 // The figures of a row: refused with the sheet's refusals, 7.
-pub fn figures(bytes: &[u8], row: usize) -> FiguresAnswer
+pub fn figures(bytes: &[u8], row: usize) -> Result<RowFigures, Refusal>
     ensures { result ≡ figures_answer bytes.now row }
 {
-    let answer = read_sheet::read_forms(bytes, 1, Sheet::NEWEST_FORM);
-    let verdict = answer.verdict;
-    let s = answer.sheet;
-    match verdict {
-        Verdict::Refused(why) => FiguresAnswer::refused(why),
-        Verdict::Accepted => rows::sheet_figures(s, row),
-    }
+    let sheet = sheets::read(bytes)?;
+    rows::sheet_figures(sheet, row)
 }
 
 // The lowest row with the least load among the rows with optmem within the ceiling: refused with the sheet's refusals, 12.
-pub fn size(bytes: &[u8], ceiling: u64) -> SizingAnswer
+pub fn size(bytes: &[u8], ceiling: u64) -> Result<usize, Refusal>
     ensures { result ≡ size_answer bytes.now ceiling }
 {
-    let answer = read_sheet::read_forms(bytes, 1, Sheet::NEWEST_FORM);
-    let verdict = answer.verdict;
-    let s = answer.sheet;
-    match verdict {
-        Verdict::Refused(why) => SizingAnswer::refused(why),
-        Verdict::Accepted => rows::sizing::sheet_size(s, ceiling),
-    }
+    let sheet = sheets::read(bytes)?;
+    rows::sizing::sheet_size(sheet, ceiling)
 }
 
 // The margin h*w - d*R of the n-th reference, counted from 1, at a row: refused with the sheet's refusals, 7, 14, 15.
-pub fn margin(bytes: &[u8], row: usize, reference: usize) -> MarginAnswer
+pub fn margin(bytes: &[u8], row: usize, reference: usize) -> Result<i64, Refusal>
     ensures { result ≡ margin_answer bytes.now row reference }
 {
-    let answer = read_sheet::read_forms(bytes, 1, Sheet::NEWEST_FORM);
-    let verdict = answer.verdict;
-    let s = answer.sheet;
-    match verdict {
-        Verdict::Refused(why) => MarginAnswer::refused(why),
-        Verdict::Accepted => margin::sheet_margin(s, row, reference),
-    }
+    let sheet = sheets::read(bytes)?;
+    margin::sheet_margin(sheet, row, reference)
 }
 
 // The bill of a row, at two rates and a minimum in cents: refused with the sheet's refusals, 7, 18.
-pub fn bill(bytes: &[u8], row: usize, memory_rate: u64, load_rate: u64, minimum: u64) -> BillAnswer
+pub fn bill(
+    bytes: &[u8],
+    row: usize,
+    memory_rate: u64,
+    load_rate: u64,
+    minimum: u64,
+) -> Result<Cents, Refusal>
     ensures { result ≡ bill_answer bytes.now row memory_rate load_rate minimum }
 {
-    let answer = read_sheet::read_forms(bytes, 1, Sheet::NEWEST_FORM);
-    let verdict = answer.verdict;
-    let s = answer.sheet;
-    match verdict {
-        Verdict::Refused(why) => BillAnswer::refused(why),
-        Verdict::Accepted => rows::billing::sheet_bill(
-            s,
-            row,
-            Tariff {
-                memory_rate: memory_rate,
-                load_rate: load_rate,
-                minimum: minimum,
-            },
-        ),
-    }
+    let sheet = sheets::read(bytes)?;
+    let tariff = Tariff {
+        memory_rate,
+        load_rate,
+        minimum,
+    };
+    rows::billing::sheet_bill(sheet, row, tariff)
 }

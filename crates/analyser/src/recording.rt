@@ -4,7 +4,7 @@ ghost use Rattle.std.specs.Prelude.{◌≡◌};
 ghost use Rattle.recorder.specs.Recorders.{Touched, TouchedAll, Rested, Figured};
 ghost use Rattle.analyser.specs.Recording.{no_recorder, start_answer};
 
-use model::{FiguresAnswer, Refusal, Verdict};
+use model::{Refusal, RowFigures};
 use recorder::{Recorder, TouchAnswer};
 
 // No recorder, and why.
@@ -12,7 +12,7 @@ fn no_recorder(why: Refusal) -> TouchAnswer
     ensures { result ≡ no_recorder why }
 {
     TouchAnswer {
-        verdict: Verdict::Refused(why),
+        verdict: Err(why),
         recorder: Recorder::empty(),
     }
 }
@@ -22,14 +22,11 @@ fn no_recorder(why: Refusal) -> TouchAnswer
 pub fn start(bytes: &[u8]) -> TouchAnswer
     ensures { result ≡ start_answer bytes.now }
 {
-    let answer = read_sheet::read_forms(bytes, 1, 3);
-    let verdict = answer.verdict;
-    let s = answer.sheet;
-    match verdict {
-        Verdict::Refused(why) => no_recorder(why),
-        Verdict::Accepted => TouchAnswer {
-            verdict: Verdict::Accepted,
-            recorder: Recorder::start(s),
+    match read_sheet::read_forms(bytes, 1, 3) {
+        Err(why) => no_recorder(why),
+        Ok(sheet) => TouchAnswer {
+            verdict: Ok(()),
+            recorder: Recorder::start(sheet),
         },
     }
 }
@@ -49,7 +46,7 @@ pub fn idle(recorder: Recorder) -> TouchAnswer
 }
 
 // The figures of a row at this moment; refused with 7.
-pub fn figures(recorder: Recorder, row: usize) -> FiguresAnswer
+pub fn figures(recorder: Recorder, row: usize) -> Result<RowFigures, Refusal>
     ensures { Figured recorder row result }
 {
     recorder.figures(row)

@@ -5,6 +5,7 @@ use mathlib.Core.List.{List}
 use native.Mathlib.Omega.{arith}
 use native.Mathlib.Numerals.{add-one}
 use lib.ListN.{get_or, set}
+use Rattle.std.specs.Prelude.{is_some}
 use Rattle.model.specs.Traces.{Trace, segs, steps, size_of}
 use Rattle.model.specs.Sheets.{RunWithin}
 use Rattle.model.specs.Sums.{tabulate}
@@ -29,13 +30,13 @@ module _ (rows : List PriceRow) (T : Trace) where
   abbrev pub ends_up_to : ℕ → List Bucket
   ends_up_to m = tabulate bucket_count (end_bucket rows T m)
 
-  ends-over : (m : ℕ) → buckets_over (λ i. (end_touch i).reuse) end_touch m ≡ ends_up_to m
+  ends-over : (m : ℕ) → buckets_over (λ i. is_some (end_touch i).retention) end_touch m ≡ ends_up_to m
   ends-over m =
-      sym (tabulate-eq bucket_count (end_bucket rows T m) (bucket_over (λ i. (end_touch i).reuse) end_touch m)
+      sym (tabulate-eq bucket_count (end_bucket rows T m) (bucket_over (λ i. is_some (end_touch i).retention) end_touch m)
       (λ k l. end_bucket-over rows T m k))
 
   pub ending-start : all_empty ≡ ends_up_to 0
-  ending-start = buckets-start (λ i. (end_touch i).reuse) end_touch ∙ ends-over 0
+  ending-start = buckets-start (λ i. is_some (end_touch i).retention) end_touch ∙ ends-over 0
 
   pub ending-step : RunWithin T → (n : ℕ) → steps T ≡ n → (last : List ℕ) → last ≡ last_table T n → (i : ℕ) → i < segs T
       → (buckets : List Bucket) → buckets ≡ ends_up_to i → (y : Touch) → Limited y
@@ -45,6 +46,7 @@ module _ (rows : List PriceRow) (T : Trace) where
       let touch : y ≡ end_touch i =
       rw (table, last-time T n i 0 (omega (arith, run.segs_within)) (omega (arith, run.steps_within)), ← all) at is in
       rw (add-one i)
-      (buckets-step (λ i. (end_touch i).reuse) end_touch i buckets (are ∙ sym (ends-over i)) y touch (omega (arith, lim.is_bucket)) b
-      (rw (← ap (λ (q : Touch). q.reuse) touch) added)
+      (buckets-step (λ i. is_some (end_touch i).retention) end_touch i buckets (are ∙ sym (ends-over i)) y touch
+      (omega (arith, lim.is_bucket)) b
+      (rw (← ap (λ (q : Touch). is_some q.retention) touch) added)
       ∙ ends-over (suc i))

@@ -6,6 +6,7 @@ use mathlib.Core.Bool.{Bool, true, false, cond}
 use mathlib.Core.List.{List, [], ◌∷◌}
 use native.Mathlib.Omega.{arith}
 use native.Mathlib.Nat.{add-zero}
+use Rattle.std.specs.Prelude.{is_some}
 use lib.Dec.{eqb}
 use lib.ListN.{get_or, set, get_or-replicate}
 use borrow.Author.Tests.{eq-eqb, ne_eqb}
@@ -15,6 +16,7 @@ use Rattle.model.proofs.Sums.{sum-eq}
 use Rattle.buckets.specs.Buckets.{bucket_count, all_empty, no_bucket}
 use Rattle.buckets.specs.inner.Pass.{Limited, with_touch, with_end, Within, Roomy}
 use Rattle.buckets.specs.declared.Bucket.{Bucket}
+use Rattle.buckets.specs.inner.Search.{retained}
 use Rattle.buckets.specs.declared.pass.Touch.{Touch}
 use Rattle.model.proofs.Tables.{get_or-tabulate, tabulate-eq, tabulate-const, tabulate-set}
 
@@ -28,10 +30,10 @@ bucket_over counts x n k =
     record {
       count = gathered counts x n k (λ y. 1);
       volume = gathered counts x n k (λ y. y.size);
-      retention = record { 0 = gathered counts x n k (λ y. y.costs.retention.0) };
-      swap = record { 0 = gathered counts x n k (λ y. y.costs.swap.0) };
-      retentionz = record { 0 = gathered counts x n k (λ y. y.costs.retention.0 * y.size) };
-      swapz = record { 0 = gathered counts x n k (λ y. y.costs.swap.0 * y.size) };
+      retention = record { 0 = gathered counts x n k (λ y. retained y.retention) };
+      swap = record { 0 = gathered counts x n k (λ y. y.swap.0) };
+      retentionz = record { 0 = gathered counts x n k (λ y. retained y.retention * y.size) };
+      swapz = record { 0 = gathered counts x n k (λ y. y.swap.0 * y.size) };
     }
 
 module _ (counts : ℕ → Bool) (x : ℕ → Touch) where
@@ -134,8 +136,8 @@ within_more b m n le w = omega arith
 -- a bucket with one more touch
 touch-within : (b : Bucket) (m n : ℕ) → m + 2 ^ 48 ≤ n → Within b m → (y : Touch) → Limited y → Within (with_touch b y) n
 touch-within b m n le w y lim =
-    let r = product-within y.costs.retention.0 y.size (2 ^ 32) (2 ^ 16) (omega arith) (omega arith) in
-    let s = product-within y.costs.swap.0 y.size (2 ^ 32) (2 ^ 16) (omega arith) (omega arith) in
+    let r = product-within (retained y.retention) y.size (2 ^ 32) (2 ^ 16) (omega arith) (omega arith) in
+    let s = product-within y.swap.0 y.size (2 ^ 32) (2 ^ 16) (omega arith) (omega arith) in
     record {
       count = omega arith;
       volume = omega arith;
@@ -146,7 +148,7 @@ touch-within b m n le w y lim =
     }
 
 end-within : (b : Bucket) (m n : ℕ) → m + 2 ^ 48 ≤ n → Within b m → (y : Touch) → Limited y → Within (with_end b y) n
-end-within b m n le w y lim = go y.reuse
+end-within b m n le w y lim = go (is_some y.retention)
   where
     go : (r : Bool) → Within (cond r (with_touch b y) b) n
     go true = touch-within b m n le w y lim

@@ -1,23 +1,23 @@
--- The prices of the rows in two lists: they are filled row by row, and tell which rows keep a reuse; where the rows that do begin is the
--- first row.
-use Prim.Native.Nat.{ℕ, ◌+◌, ◌*◌, ◌≤◌, ◌<◌}
+-- The prices of the rows in 64 places: they tell which rows keep a reuse; where the rows that do begin is the first row.
+use Prim.Native.Nat.{ℕ, ◌-◌, ◌*◌, ◌≤◌, ◌<◌}
 use mathlib.Core.Path.{◌≡◌, refl, sym, ap, ◌∙◌}
 use mathlib.Core.Logic.{◌⊎◌, inl, inr, ⊎_elim}
 use mathlib.Core.Bool.{true, false}
-use mathlib.Core.List.{List}
+use mathlib.Core.List.{List, [], ◌++◌, append-nil}
 use native.Mathlib.Omega.{arith}
-use native.Mathlib.Nat.{le_antisymm}
 use lib.Dec.{ltb}
-use lib.ListN.{length, set, take, replicate, length-take, get_or-eq_default}
-use lib.Seq.{get_or-take, length-take-le}
+use lib.ListN.{length, take, drop, replicate, length-append, length-drop}
+use lib.ListN.{drop_of_length-le, length-replicate, get_or-append, get_or-replicate, get_or-eq_default}
+use lib.Seq.{ext_get_or, get_or-append_right, length-take-le}
 use borrow.Table.Steps.{cases}
 use borrow.Author.Tests.{le-leb, ltb-true, ltb-false}
 use Rattle.model.specs.Sheets.{RowsWithin, row_in, most_rows}
 use Rattle.model.specs.Sums.{tabulate}
 use Rattle.model.specs.declared.PriceRow.{PriceRow}
-use Rattle.model.proofs.Tables.{length-tabulate, get_or-tabulate, tabulate-const, tabulate-set}
+use Rattle.model.proofs.Tables.{length-tabulate, get_or-tabulate}
 use Rattle.buckets.specs.FirstRow.{first_row, last_bucket}
-use Rattle.buckets.specs.inner.Search.{load_prices, memory_prices, RowsOf, kept_at, Lasts, Ordered, Found}
+use Rattle.buckets.specs.inner.Search.{in_places, prices_of, RowsOf, kept_at, Lasts, Ordered, Found}
+use Rattle.buckets.specs.declared.search.Prices.{Prices}
 use Rattle.buckets.specs.declared.search.Reuse.{Reuse}
 use Rattle.buckets.proofs.FirstRow.{keeps_at, keeps-after, first-row-found, first-row-none}
 
@@ -32,84 +32,59 @@ beyond rows r le = get_or-eq_default rows no_row le
 among : (r n : ℕ) → (r < n) ⊎ (n ≤ r)
 among r n = cases (ltb r n) (λ e. inl (ltb-true r n e)) (λ e. inr (ltb-false r n e))
 
--- the first r rows with one more: the others stay
-module _ (prices : List PriceRow) where
-  past-last : (r j : ℕ) → r ≤ j → row_in (take r prices) j ≡ no_row
-  past-last r j le = beyond (take r prices) j (omega (arith, length-take r prices))
+-- the first n rows, and places without prices after them
+in-places-is : (n : ℕ) (rows : List PriceRow) → n ≤ length rows → n ≤ most_rows
+    → take n rows ++ replicate (most_rows - n) no_row ≡ in_places (take n rows)
+unfolding in_places
+in-places-is n rows le few =
+    let these = take n rows in
+    let others = replicate (most_rows - n) no_row in
+    let counted : length these ≡ n = length-take-le n rows le in
+    let all : length (these ++ others) ≡ most_rows =
+    omega (arith, length-append these others, counted, length-replicate (most_rows - n) no_row) in
+    ext_get_or no_row (these ++ others) (tabulate most_rows (row_in these)) (all ∙ sym (length-tabulate most_rows (row_in these)))
+    (λ r lt.
+    ⊎_elim (λ l. get_or-append these others no_row r l)
+    (λ l.
+    get_or-append_right these others r no_row l
+    ∙ get_or-replicate (most_rows - n) (r - length these) no_row no_row (omega (arith, lt, all, counted))
+    ∙ sym (beyond these r l))
+    (among r (length these))
+    ∙ sym (get_or-tabulate most_rows (row_in these) r no_row (omega (arith, lt, all))))
 
-  same-price : (r j : ℕ) → (j ≡ r → ⊥) → row_in (take (r + 1) prices) j ≡ row_in (take r prices) j
-  same-price r j ne =
-      ⊎_elim
-      (λ lt. get_or-take (r + 1) prices j no_row (omega arith) ∙ sym (get_or-take r prices j no_row lt))
-      (λ le. past-last (r + 1) j (omega arith) ∙ sym (past-last r j le))
-      (among j r)
-
--- a price f of each of the first r rows, and 0 for the rest
-abbrev prices_to : (PriceRow → ℕ) → List PriceRow → ℕ → List ℕ
-prices_to f prices r = tabulate most_rows (λ j. f (row_in (take r prices) j))
-
--- they are stored
-pub record Pricing (f : PriceRow → ℕ) (prices : List PriceRow) (rows : ℕ) (out : List ℕ) (r : ℕ) : Type 0 where
-  pub within : r ≤ rows
-  pub out_is : out ≡ prices_to f prices r
-
-module _ {f : PriceRow → ℕ} {prices : List PriceRow} {rows : ℕ} where
-  pub pricing_start : f no_row ≡ 0 → Pricing f prices rows (replicate most_rows 0) 0
-  pricing_start nothing =
-      record {
-        within = omega arith;
-        out_is =
-            tabulate-const most_rows 0 (λ j. f (row_in (take 0 prices) j)) (λ j lt. ap f (past-last prices 0 j (omega arith)) ∙ nothing);
-      }
-
-  module _ {out : List ℕ} {r : ℕ} (v : Pricing f prices rows out r) where
-    -- one more is stored, and all are
-    pub pricing_step : rows ≤ most_rows → r < rows → Pricing f prices rows (set out r (f (row_in prices r))) (r + 1)
-    pricing_step few lt =
-        record {
-          within = omega arith;
-          out_is =
-              rw (v.out_is, ← get_or-take (r + 1) prices r no_row (omega arith))
-              (tabulate-set most_rows (λ j. f (row_in (take r prices) j)) (λ j. f (row_in (take (r + 1) prices) j)) r (omega arith)
-              (λ j l ne. ap f (same-price prices r j ne)));
-        }
-
-    pub pricing_end : rows ≤ r → out ≡ prices_to f prices rows
-    pricing_end le = v.out_is ∙ rw (le_antisymm v.within le)
-
--- both lists have 64 prices
-pub loads_many : (rows : List PriceRow) (hs : List ℕ) → hs ≡ load_prices rows → length hs ≡ most_rows
-unfolding load_prices
-loads_many rows hs is = ap length is ∙ length-tabulate most_rows (λ r. (row_in rows r).h)
-
-pub memories_many : (rows : List PriceRow) (ds : List ℕ) → ds ≡ memory_prices rows → length ds ≡ most_rows
-unfolding memory_prices
-memories_many rows ds is = ap length is ∙ length-tabulate most_rows (λ r. (row_in rows r).d)
+-- 64 places of which those from the n-th on were emptied
+pub emptied-is : (n : ℕ) (rows others : List PriceRow) → length rows ≡ most_rows → n ≤ most_rows
+    → others ≡ replicate (length (take (most_rows - n) (drop n rows))) no_row
+    → take n rows ++ (others ++ drop (most_rows - n) (drop n rows)) ≡ in_places (take n rows)
+emptied-is n rows others whole few are =
+    let past : drop (most_rows - n) (drop n rows) ≡ [] =
+    drop_of_length-le (drop n rows) (omega (arith, length-drop n rows, whole)) in
+    let left : length (take (most_rows - n) (drop n rows)) ≡ most_rows - n =
+    length-take-le (most_rows - n) (drop n rows) (omega (arith, length-drop n rows, whole)) in
+    rw (are, past, left, append-nil) (in-places-is n rows (omega arith) few)
 
 -- the prices of the first n rows, where they are such as a sheet has
-pub prices-of : (n : ℕ) (prices : List PriceRow) (hs ds : List ℕ) → n ≤ length prices → RowsWithin (take n prices)
-    → hs ≡ load_prices (take n prices) → ds ≡ memory_prices (take n prices) → RowsOf n hs ds (take n prices)
-prices-of n prices hs ds le up loads memories =
-    record { loads = loads; memories = memories; within = up; counted = length-take-le n prices le }
+pub prices-of : (n : ℕ) (prices : List PriceRow) (p : Prices) → n ≤ length prices → RowsWithin (take n prices)
+    → p ≡ prices_of n (take n prices) → RowsOf p (take n prices)
+prices-of n prices p le up is =
+    record {
+      priced = ap (λ (q : Prices). q.rows) is;
+      within = up;
+      counted = length-take-le n prices le ∙ sym (ap (λ (q : Prices). q.count) is);
+    }
 
 -- the rows that keep a reuse, from the prices
-module _ (count : ℕ) (hs ds : List ℕ) (rows : List PriceRow) (of : RowsOf count hs ds rows) (x : Reuse) where
-  kept_is : (r : ℕ) → r < most_rows → kept_at hs ds x r ≡ keeps_at rows x.retention.0 x.swap.0 r
-  unfolding load_prices memory_prices
-  kept_is r lt =
-      rw (
-        of.loads,
-        of.memories,
-        get_or-tabulate most_rows (λ j. (row_in rows j).h) r 0 lt,
-        get_or-tabulate most_rows (λ j. (row_in rows j).d) r 0 lt,
-      ) refl
+module _ (p : Prices) (rows : List PriceRow) (of : RowsOf p rows) (x : Reuse) where
+  kept_is : (r : ℕ) → r < most_rows → kept_at p.rows x r ≡ keeps_at rows x.retention.0 x.swap.0 r
+  unfolding in_places
+  kept_is r lt = rw (of.priced, get_or-tabulate most_rows (row_in rows) r no_row lt) refl
 
   -- one beyond the last keeps all
   keeps-beyond : (r : ℕ) → length rows ≤ r → keeps_at rows x.retention.0 x.swap.0 r ≡ true
   keeps-beyond r le = rw (beyond rows r le) (le-leb (0 * x.retention.0) (0 * x.swap.0) (omega arith))
 
   -- so what a row keeps, each later one keeps
-  rows_last : Lasts (kept_at hs ds x) most_rows
+  rows_last : Lasts (kept_at p.rows x) most_rows
   rows_last i j le lt e =
       kept_is j lt
       ∙ ⊎_elim
@@ -117,16 +92,16 @@ module _ (count : ℕ) (hs ds : List ℕ) (rows : List PriceRow) (of : RowsOf co
       (λ l. keeps-beyond j l)
       (among j (length rows))
 
-  rows-ordered : Ordered hs ds x count
+  rows-ordered : Ordered p.rows x p.count
   rows-ordered =
       record { lasts = rows_last; beyond = λ j le lt. kept_is j lt ∙ keeps-beyond j (omega (arith, of.counted)) }
 
   -- the place found is the first row; beyond the rows where none keeps it
-  module _ (k : ℕ) (found : Found hs ds x count k 0) where
+  module _ (k : ℕ) (found : Found p.rows x p.count k 0) where
     fails : (j : ℕ) → j < k → j < most_rows → keeps_at rows x.retention.0 x.swap.0 j ≡ false
     fails j l lt = sym (kept_is j lt) ∙ (found.parted rows-ordered).below j l
 
-    pub found-row : k < count → k ≡ first_row rows 0 x.retention.0 x.swap.0
+    pub found-row : k < p.count → k ≡ first_row rows 0 x.retention.0 x.swap.0
     found-row lt =
         let here : k < most_rows = omega (arith, of.counted, of.within.rows_within) in
         omega (
@@ -135,7 +110,7 @@ module _ (count : ℕ) (hs ds : List ℕ) (rows : List PriceRow) (of : RowsOf co
               (sym (kept_is k here) ∙ (found.parted rows-ordered).above k (omega arith) here),
         )
 
-    pub found_none : count ≤ k → last_bucket ≡ first_row rows 0 x.retention.0 x.swap.0
+    pub found_none : p.count ≤ k → last_bucket ≡ first_row rows 0 x.retention.0 x.swap.0
     found_none le =
         sym (first-row-none rows 0 x.retention.0 x.swap.0
         (λ j l. fails j (omega (arith, of.counted)) (omega (arith, of.within.rows_within))))

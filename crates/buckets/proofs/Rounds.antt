@@ -7,6 +7,7 @@ use mathlib.Core.List.{List}
 use native.Mathlib.Omega.{arith}
 use Rattle.model.specs.Costs.{keeps}
 use Rattle.model.specs.Sheets.{most_rows}
+use Rattle.model.specs.declared.PriceRow.{PriceRow}
 use Rattle.buckets.specs.inner.Search.{kept_at, Lasts, Parted, Ordered, Narrows, Found}
 use Rattle.buckets.specs.declared.search.Reuse.{Reuse}
 
@@ -71,20 +72,20 @@ module _ (holds : ℕ → Bool) (lasts : Lasts holds most_rows) where
       }
 
 -- the rounds of the search, from what its looks gave
-module _ (hs ds : List ℕ) (x : Reuse) where
+module _ (rows : List PriceRow) (x : Reuse) where
   abbrev Look : ℕ → ℕ → Type 0
-  Look r n = n ≡ cond (kept_at hs ds x r) 0 1
+  Look r n = n ≡ cond (kept_at rows x r) 0 1
 
   -- three looks count no more than 3 rows
   pub looks-few : (r q p a b c : ℕ) → Look r a → Look q b → Look p c → a + b + c ≤ 3
   looks-few r q p a b c la lb lc =
-      let kept = kept_at hs ds x in omega (arith, look_one (kept r) a la, look_one (kept q) b lb, look_one (kept p) c lc)
+      let kept = kept_at rows x in omega (arith, look_one (kept r) a la, look_one (kept q) b lb, look_one (kept p) c lc)
 
   -- three looks s apart
   pub narrows-by-three : (lo s : ℕ) → 1 ≤ s → lo + 4 * s ≤ most_rows → (a b c : ℕ) → Look (lo + s - 1) a → Look (lo + 2 * s - 1) b
-      → Look (lo + 3 * s - 1) c → Narrows hs ds x lo (4 * s) (lo + s * (a + b + c)) s
+      → Look (lo + 3 * s - 1) c → Narrows rows x lo (4 * s) (lo + s * (a + b + c)) s
   narrows-by-three lo s some room a b c la lb lc =
-      let kept = kept_at hs ds x in
+      let kept = kept_at rows x in
       let same : lo + s * (a + b + c) ≡ lo + s * a + s * b + s * c = omega arith in
       record {
         within =
@@ -106,9 +107,9 @@ module _ (hs ds : List ℕ) (x : Reuse) where
 
   -- four looks at neighbours
   pub narrows-by-four : (lo : ℕ) → lo + 4 ≤ most_rows → (a b c d : ℕ) → Look lo a → Look (lo + 1) b → Look (lo + 2) c → Look (lo + 3) d
-      → Narrows hs ds x lo 4 (lo + a + b + c + d) 0
+      → Narrows rows x lo 4 (lo + a + b + c + d) 0
   narrows-by-four lo room a b c d la lb lc ld =
-      let kept = kept_at hs ds x in
+      let kept = kept_at rows x in
       let same : lo + a + b + c + d ≡ lo + 1 * a + 1 * b + 1 * c + 1 * d = omega arith in
       record {
         within =
@@ -132,15 +133,15 @@ module _ (hs ds : List ℕ) (x : Reuse) where
       }
 
   -- where there are no more than n rows, the first that keeps the reuse is among n
-  few-parted : (count n : ℕ) → count ≤ n → Ordered hs ds x count → Parted (kept_at hs ds x) 0 n
+  few-parted : (count n : ℕ) → count ≤ n → Ordered rows x count → Parted (kept_at rows x) 0 n
   few-parted count n few ord =
       record { below = λ j l. absurd (omega arith); above = λ j l lt. ord.beyond j (omega arith) lt }
 
-  pub found-few : (count n : ℕ) → count ≤ n → n ≤ most_rows → Found hs ds x count 0 n
+  pub found-few : (count n : ℕ) → count ≤ n → n ≤ most_rows → Found rows x count 0 n
   found-few count n few room = record { within = omega arith; parted = λ ord. few-parted count n few ord }
 
   -- before the first round it is any row
-  pub found-any : (count : ℕ) → Found hs ds x count 0 64
+  pub found-any : (count : ℕ) → Found rows x count 0 64
   found-any count =
       record {
         within = omega arith;
@@ -148,14 +149,14 @@ module _ (hs ds : List ℕ) (x : Reuse) where
       }
 
   -- one more round
-  pub found-next : (count lo n r s : ℕ) → Found hs ds x count lo n → Narrows hs ds x lo n r s → Found hs ds x count r s
+  pub found-next : (count lo n r s : ℕ) → Found rows x count lo n → Narrows rows x lo n r s → Found rows x count r s
   found-next count lo n r s f m =
       record { within = omega (arith, f.within, m.within); parted = λ ord. m.parted ord.lasts (f.parted ord) }
 
   -- one look at one row
-  pub found-one : (count : ℕ) → count ≤ 1 → (a : ℕ) → Look 0 a → Found hs ds x count a 0
+  pub found-one : (count : ℕ) → count ≤ 1 → (a : ℕ) → Look 0 a → Found rows x count a 0
   found-one count few a la =
-      let kept = kept_at hs ds x in
+      let kept = kept_at rows x in
       let same : a ≡ 0 + 1 * a = omega arith in
       record {
         within = omega (arith, look_one (kept 0) a la);

@@ -1,21 +1,23 @@
 // The single pass over the references of a sheet, which fills the 65 buckets, and one over its segments for the end intervals.
 // What each function gives is written in specs/.
-ghost use Rattle.std.specs.Prelude.{◌≡◌, ◌≤◌, ◌^◌, length, take};
-ghost use Rattle.model.specs.Sheets.{RowsWithin, RunWithin, run_of, most_segs, most_rows};
+ghost use Rattle.std.specs.Prelude.{◌≡◌, ◌≤◌, ◌^◌, length};
+ghost use Rattle.model.specs.Sheets.{head_run, most_segs};
+ghost use Rattle.model.specs.Values.{head_value_of};
 ghost use Rattle.buckets.specs.Buckets.{tally_of, all_empty};
 ghost use Rattle.buckets.specs.inner.Search.{time_since};
 ghost use Rattle.buckets.specs.inner.Pass.{unplaced, Limited, with_touch, with_end, Within, Passable, PassedOn, EndedAt};
+ghost use Rattle.buckets.specs.inner.Pass.{InLimits};
 
-use crate::search::Reuse;
+use crate::search::Prices;
 use crate::{Bucket, Tally};
-use model::{Kind, LoadUnits, MemoryUnits, PriceRow, Sheet};
+use model::{Amount, Head, Kind, LoadUnits, MemoryUnits, Sheet};
 
-// A touch: whether it is a reuse, the segment's size, the two costs, and the bucket that it goes to. A first touch has retention 0.
+// A touch: the segment's size, the two costs, and the bucket that it goes to. Only a reuse has a retention; a first touch has none.
 #[derive(Clone, Copy)]
 pub struct Touch {
-    pub reuse: bool,
     pub size: u16,
-    pub costs: Reuse,
+    pub retention: Option<MemoryUnits>,
+    pub swap: LoadUnits,
     pub bucket: usize,
 }
 
@@ -30,14 +32,7 @@ pub struct Passed {
 pub fn empty_buckets() -> [Bucket; Tally::BUCKETS]
     ensures { result ≡ all_empty }
 {
-    [Bucket {
-        count: 0,
-        volume: 0,
-        retention: MemoryUnits(0),
-        swap: LoadUnits(0),
-        retentionz: MemoryUnits(0),
-        swapz: LoadUnits(0),
-    }; Tally::BUCKETS]
+    [Bucket::EMPTY; Tally::BUCKETS]
 }
 
 // A touch, after so many steps, of a segment of size z with that mark; or its end interval. Its bucket is still to be looked for.
@@ -45,28 +40,13 @@ pub fn touch_of(kind: Kind, a: u8, z: u16, mark: u16, steps: u16) -> Touch
     ensures within { Limited result }
     ensures exact { result ≡ unplaced kind a z (time_since steps mark) }
 {
-    let w = model::swap_cost(a, z);
-    if mark <= steps {
-        let r = model::retention_cost(kind, z, steps - mark);
-        Touch {
-            reuse: true,
-            size: z,
-            costs: Reuse {
-                retention: r,
-                swap: w,
-            },
-            bucket: Tally::LAST,
-        }
-    } else {
-        Touch {
-            reuse: false,
-            size: z,
-            costs: Reuse {
-                retention: MemoryUnits(0),
-                swap: w,
-            },
-            bucket: Tally::LAST,
-        }
+    Touch {
+        size: z,
+        retention: steps
+            .checked_sub(mark)
+            .map(|time| model::retention_cost(kind, z, time)),
+        swap: model::swap_cost(a, z),
+        bucket: Tally::LAST,
     }
 }
 
@@ -76,8 +56,8 @@ pub fn add_touch(b: Bucket, x: Touch) -> Bucket
     requires limited { Limited x }
     ensures { result ≡ with_touch b x }
 {
-    let r = x.costs.retention;
-    let w = x.costs.swap;
+    let r = x.retention.unwrap_or(MemoryUnits(0));
+    let w = x.swap;
     Bucket {
         count: b.count + 1,
         volume: b.volume + x.size as u64,
@@ -94,106 +74,93 @@ pub fn add_end(b: Bucket, x: Touch) -> Bucket
     requires limited { Limited x }
     ensures { result ≡ with_end b x }
 {
-    if x.reuse { add_touch(b, x) } else { b }
+    if x.retention.is_some() {
+        add_touch(b, x)
+    } else {
+        b
+    }
 }
 
-// The pass over references, from what it has after `steps` others.
+// The pass over references, from what it has after `steps` others. It takes the parts of a head and not the head: the sizes of a
+// recorder's, which may be put together by hand, are cut off at its arrays.
+// Not inlined: so its arrays are off the stack while its caller makes other calls.
+#[inline(never)]
 pub fn references(
     kind: Kind,
     a: u8,
-    rows: usize,
-    hs: &[u16],
-    ds: &[u16],
+    prices: &Prices,
     sizes: &[u16],
     from: Passed,
     steps: usize,
     refs: &[u16],
 ) -> Passed
-    requires hs_len { (length hs.now ≡ most_rows) × (length ds.now ≡ most_rows) }
-    requires passable { Passable from (length sizes.now) steps (length refs.now) }
-    ensures { PassedOn kind a sizes.now rows hs.now ds.now steps refs.now from result }
+    requires { Passable from (length sizes.now) steps (length refs.now) }
+    ensures { PassedOn kind a sizes.now prices.now steps refs.now from result }
 {
     let mut buckets = from.buckets;
     let mut last = from.last;
-    let mut t = 0;
-    while t < refs.len() {
-        let i = refs[t] as usize;
+    for (t, &entry) in refs.iter().enumerate() {
+        let i = entry as usize;
         let step = steps + t;
-        t += 1;
         if i < sizes.len() {
             let mut x = touch_of(kind, a, sizes[i], last[i], step as u16);
-            let k = crate::search::bucket_of(rows, hs, ds, x.reuse, x.costs);
+            let k = prices.bucket_of(x.retention, x.swap);
             x.bucket = k;
-            let b = buckets[k];
-            buckets[k] = add_touch(b, x);
+            buckets[k] = add_touch(buckets[k], x);
             last[i] = (step + 1) as u16;
         }
     }
-    Passed {
-        buckets: buckets,
-        last: last,
-    }
+    Passed { buckets, last }
 }
 
 // The buckets of the end intervals after so many steps, from the table of last touches.
+// Not inlined: so its arrays are off the stack while its caller makes other calls.
+#[inline(never)]
 pub fn ends(
     kind: Kind,
     a: u8,
-    rows: usize,
-    hs: &[u16],
-    ds: &[u16],
+    prices: &Prices,
     sizes: &[u16],
     last: &[u16],
     steps: u16,
 ) -> [Bucket; Tally::BUCKETS]
-    requires hs_len { (length hs.now ≡ most_rows) × (length ds.now ≡ most_rows) }
-    requires sizes_len_bound { (length sizes.now ≤ most_segs) × (length sizes.now ≤ length last.now) }
-    ensures { EndedAt kind a sizes.now rows hs.now ds.now steps last.now result }
+    requires { (length sizes.now ≤ most_segs) × (length sizes.now ≤ length last.now) }
+    ensures { EndedAt kind a sizes.now prices.now steps last.now result }
 {
     let mut buckets = empty_buckets();
-    let mut i = 0;
-    while i < sizes.len() {
-        let mark = last[i];
-        let mut x = touch_of(kind, a, sizes[i], mark, steps);
-        let k = crate::search::bucket_of(rows, hs, ds, x.reuse, x.costs);
+    for (&z, &mark) in sizes.iter().zip(last) {
+        let mut x = touch_of(kind, a, z, mark, steps);
+        let k = prices.bucket_of(x.retention, x.swap);
         x.bucket = k;
-        let b = buckets[k];
-        buckets[k] = add_end(b, x);
-        i += 1;
+        buckets[k] = add_end(buckets[k], x);
     }
     buckets
 }
 
-// One pass over the references from the warm segments on, then one over the segments for the end intervals.
-pub fn tally(
-    kind: Kind,
-    a: u8,
-    prices: [PriceRow; Sheet::MAX_ROWS],
-    rows: usize,
-    sizes: &[u16],
-    warm: &[u16],
-    refs: &[u16],
-) -> Tally
-    requires { (rows ≤ most_rows) × RowsWithin (take rows prices) × RunWithin (run_of kind a sizes.now warm.now refs.now) }
-    ensures { result ≡ tally_of (take rows prices) (run_of kind a sizes.now warm.now refs.now) }
+// One pass over the references from the warm segments of a head on, then one over its segments for the end intervals.
+// Not inlined: so its arrays are off the stack while its caller makes other calls.
+#[inline(never)]
+pub fn tally(head: Head, refs: &[u16]) -> Tally
+    requires { InLimits head refs.now }
+    ensures { result ≡ tally_of (head_value_of head).rows (head_run (head_value_of head) refs.now) }
 {
-    let loads = crate::search::load_prices(prices, rows);
-    let memories = crate::search::memory_prices(prices, rows);
-    let hs = &loads[..Sheet::MAX_ROWS];
-    let ds = &memories[..Sheet::MAX_ROWS];
-    let empty = empty_buckets();
-    let table = model::start_table(warm);
+    let prices = Prices::of(head.prices, head.rows);
+    let sizes = &head.sizes[..head.segs];
     let start = Passed {
-        buckets: empty,
-        last: table,
+        buckets: empty_buckets(),
+        last: model::start_table(&head.holds[..head.warm]),
     };
-    let passed = references(kind, a, rows, hs, ds, sizes, start, 0, refs);
-    let buckets = passed.buckets;
-    let last = passed.last;
-    let steps = refs.len() as u16;
-    let ended = ends(kind, a, rows, hs, ds, sizes, &last, steps);
+    let passed = references(head.kind, head.a, &prices, sizes, start, 0, refs);
+    let ended = ends(
+        head.kind,
+        head.a,
+        &prices,
+        sizes,
+        &passed.last,
+        refs.len() as u16,
+    );
     Tally {
-        buckets: buckets,
+        buckets: passed.buckets,
         ends: ended,
     }
 }

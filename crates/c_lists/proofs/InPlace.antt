@@ -1,31 +1,25 @@
 -- What the functions that change a recorder's list in place give: a price, a touch, a touch put into its bucket, and a reference taken.
-use Prim.Native.Nat.{ℕ, ◌+◌, ◌*◌, ◌<◌, min}
-use mathlib.Core.Path.{◌≡◌, refl, sym, ap, ◌∙◌}
+use Prim.Native.Nat.{ℕ, ◌+◌, min}
+use mathlib.Core.Path.{◌≡◌, refl, ap, ◌∙◌}
 use mathlib.Core.List.{List}
 use lib.ListN.{get_or, set}
 use Rattle.model.specs.Costs.{unit_cost}
-use Rattle.model.specs.Sheets.{largest_a, most_rows}
+use Rattle.model.specs.Sheets.{largest_a}
 use Rattle.model.specs.declared.Kind.{Kind}
 use Rattle.model.specs.declared.PriceRow.{PriceRow}
-use Rattle.model.proofs.Tables.{get_or-tabulate}
 use Rattle.buckets.specs.inner.Pass.{unplaced, with_touch, Limited}
 use Rattle.buckets.specs.inner.Search.{time_since, touch_bucket}
 use Rattle.buckets.specs.declared.Bucket.{Bucket}
 use Rattle.buckets.specs.declared.pass.Touch.{Touch}
 use Rattle.buckets.proofs.Touches.{placed, placed-is}
 use Rattle.c_lists.specs.Recorders.{kind_in}
-use Rattle.c_lists.specs.RecorderList.{at_kind, at_a, at_cost, at_volume, at_sizes, at_last, short_in, shorts_in, bucket_at}
+use Rattle.c_lists.specs.RecorderList.{at_kind, at_a, at_cost, at_volume, at_sizes, at_last, short_in, bucket_at}
 use Rattle.c_lists.specs.inner.InPlace.{RowsIn, touch_in, with_bucket, with_filed, with_mark, Room, IsTaken}
-
--- a priced amount at row r
-pub price-at : (l : List ℕ) (at r p x m : ℕ) → r < most_rows → p ≡ short_in l (at + r) → m ≡ p * x
-    → m ≡ get_or (shorts_in l at most_rows) r 0 * x
-price-at l at r p x m lt is e = e ∙ ap (λ q. q * x) (is ∙ sym (get_or-tabulate most_rows (λ i. short_in l (at + i)) r 0 lt))
 
 -- a touch from its parts
 pub touch-told : (l : List ℕ) (i : ℕ) (kind : Kind) (a z mark n : ℕ) (x : Touch) (k : ℕ) → kind ≡ kind_in (get_or l at_kind 0)
     → a ≡ min (get_or l at_a 0) largest_a → z ≡ short_in l (at_sizes + i) → mark ≡ short_in l (at_last + i)
-    → x ≡ unplaced kind a z (time_since n mark) → (rows : List PriceRow) → k ≡ touch_bucket rows x.reuse x.costs
+    → x ≡ unplaced kind a z (time_since n mark) → (rows : List PriceRow) → k ≡ touch_bucket rows x.retention x.swap
     → placed x k ≡ touch_in l rows i n
 touch-told l i kind a z mark n x k kind-is a_is z-is mark-is is rows bucket =
     placed-is kind a rows z (time_since n mark) x k is bucket ∙ rw (kind-is, a_is, z-is, mark-is) refl

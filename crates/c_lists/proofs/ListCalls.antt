@@ -1,5 +1,6 @@
 -- The calls that change a recorder's list in place: what each leaves, refused and accepted.
-use Prim.Native.Nat.{ℕ, ◌+◌, ◌<◌, ◌≤◌, min}
+use Rattle.std.specs.Prelude.{Result, Ok, Err}
+use Prim.Native.Nat.{ℕ, ◌+◌, ◌<◌, min}
 use mathlib.Core.Path.{◌≡◌, refl, sym, ap, ◌∙◌}
 use mathlib.Core.Bool.{false≢true}
 use mathlib.Core.List.{List, [], ◌∷◌, ◌++◌, append_assoc}
@@ -7,17 +8,13 @@ use native.Mathlib.Omega.{arith}
 use native.Mathlib.Numerals.{add-one}
 use lib.ListN.{length, get_or, take, set, length-append}
 use lib.Seq.{take-suc, get_or-take, length-take-le}
-use borrow.Author.Tests.{lt-ltb, le-ltb}
 use Rattle.model.specs.Sheets.{SheetValue, Valid, RunWithin, head_run, most_segs, most_steps}
 use Rattle.model.specs.Values.{head_of}
 use Rattle.model.specs.declared.Refusal.{Refusal}
-use Rattle.model.specs.declared.Refusal.TheVariants.{OutOfRange, RecorderFull}
-use Rattle.model.specs.declared.Verdict.{Verdict}
-use Rattle.model.specs.declared.Verdict.TheVariants.{Accepted, Refused}
-use Rattle.recorder.specs.Recorders.{recorder_of, appended, taken, with_idle, refs_verdict}
+use Rattle.recorder.specs.Recorders.{recorder_of, appended, taken, with_idle, room_verdict, ref_verdict, refs_verdict}
 use Rattle.recorder.specs.Recorders.{touch_verdict, touch_all_verdict, idle_verdict}
 use Rattle.recorder.specs.declared.Recorder.{Recorder}
-use Rattle.recorder.proofs.Answers.{refused-accepted}
+use Rattle.recorder.proofs.Answers.{refused-accepted, ref-room}
 use Rattle.recorder.proofs.Bulk.{Takable}
 use Rattle.recorder.proofs.Standing.{appended-run}
 use Rattle.recorder.proofs.Stepping.{rested-stands}
@@ -36,46 +33,33 @@ unfolding list_of recorder_of
 steps-in v l e = ap (λ (m : List ℕ). get_or m at_steps 0) e
 
 -- refused, the list stays; accepted, it changes as it is said of a list that stands for a sheet
-module _ (verdictOf : Recorder → Verdict) (next : SheetValue → SheetValue) (l : List ℕ) where
-  pub stays : (why : Refusal) → Refused why ≡ verdictOf (recorder_at l) → Changed verdictOf next l l
+module _ (verdictOf : Recorder → Result (Unit {0}) Refusal) (next : SheetValue → SheetValue) (l : List ℕ) where
+  pub stays : (why : Refusal) → Err why ≡ verdictOf (recorder_at l) → Changed verdictOf next l l
   stays why e = record { unchanged = λ w f. refl; stands = λ v valid is a. refused-accepted why (e ∙ a) }
 
-  pub moves : (l' : List ℕ) → Accepted ≡ verdictOf (recorder_at l)
+  pub moves : (l' : List ℕ) → (Ok (tt {0})) ≡ verdictOf (recorder_at l)
       → ((v : SheetValue) → Valid v → l ≡ list_of (recorder_of v) → l' ≡ list_of (recorder_of (next v))) → Changed verdictOf next l l'
   moves l' a go = record { unchanged = λ why f. refused-accepted why (sym (a ∙ f)); stands = λ v valid is acc. go v valid is }
 
 -- one reference
 module _ (l : List ℕ) (x : ℕ) where
-  pub out_of_range : min (get_or l at_segs 0) most_segs ≤ x → Refused OutOfRange ≡ touch_verdict (recorder_at l) x
+  pub one-verdict : ref_verdict (min (get_or l at_segs 0) most_segs) (get_or l at_steps 0) x ≡ touch_verdict (recorder_at l) x
   unfolding recorder_at
-  out_of_range le = rw (le-ltb x (min (get_or l at_segs 0) most_segs) le) refl
+  one-verdict = refl
 
-  pub full : x < min (get_or l at_segs 0) most_segs → most_steps ≤ get_or l at_steps 0 → Refused RecorderFull
-      ≡ touch_verdict (recorder_at l) x
-  unfolding recorder_at
-  full lt le = rw (lt-ltb x (min (get_or l at_segs 0) most_segs) lt, le-ltb (get_or l at_steps 0) most_steps le) refl
-
-  pub touchable : x < min (get_or l at_segs 0) most_segs → get_or l at_steps 0 < most_steps → Accepted ≡ touch_verdict (recorder_at l) x
-  unfolding recorder_at
-  touchable lt few = rw (lt-ltb x (min (get_or l at_segs 0) most_segs) lt, lt-ltb (get_or l at_steps 0) most_steps few) refl
-
-  pub touched : x < min (get_or l at_segs 0) most_segs → get_or l at_steps 0 < most_steps → (l' : List ℕ)
-      → IsTaken l x (get_or l at_steps 0) l'
+  pub touched : (Ok (tt {0})) ≡ touch_verdict (recorder_at l) x → (l' : List ℕ) → IsTaken l x (get_or l at_steps 0) l'
       → Changed (λ R. touch_verdict R x) (λ v. taken v x) l l'
-  touched lt few l' is =
-      moves (λ R. touch_verdict R x) (λ v. taken v x) l l' (touchable lt few)
-      (λ v valid e. take-stands v valid x (omega (arith, segs-in v l e)) (omega (arith, steps-in v l e)) l'
+  touched a l' is =
+      let room = ref-room (min (get_or l at_segs 0) most_segs) (get_or l at_steps 0) x (one-verdict ∙ sym a) in
+      moves (λ R. touch_verdict R x) (λ v. taken v x) l l' a
+      (λ v valid e. take-stands v valid x (omega (arith, segs-in v l e, room)) (omega (arith, steps-in v l e, room)) l'
       (rw (e, steps-in v (list_of (recorder_of v)) refl) at is))
 
 -- an idle step
 module _ (l : List ℕ) where
-  pub idle-full : most_steps ≤ get_or l at_steps 0 → Refused RecorderFull ≡ idle_verdict (recorder_at l)
+  pub step-verdict : room_verdict (get_or l at_steps 0) ≡ idle_verdict (recorder_at l)
   unfolding recorder_at
-  idle-full le = rw (le-ltb (get_or l at_steps 0) most_steps le) refl
-
-  pub idle-room : get_or l at_steps 0 < most_steps → Accepted ≡ idle_verdict (recorder_at l)
-  unfolding recorder_at
-  idle-room few = rw (lt-ltb (get_or l at_steps 0) most_steps few) refl
+  step-verdict = refl
 
 idled-of : (v : SheetValue) → Valid v → (R : Recorder) → R ≡ recorder_of v
     → set (list_of R) at_steps (R.steps + 1) ≡ list_of (recorder_of (with_idle v))
@@ -85,9 +69,10 @@ steps-at : (R : Recorder) → get_or (list_of R) at_steps 0 ≡ R.steps
 unfolding list_of
 steps-at R = refl
 
-pub idled : (l : List ℕ) → get_or l at_steps 0 < most_steps → Changed idle_verdict with_idle l (set l at_steps (get_or l at_steps 0 + 1))
-idled l few =
-    moves idle_verdict with_idle l (set l at_steps (get_or l at_steps 0 + 1)) (idle-room l few)
+pub idled : (l : List ℕ) → (Ok (tt {0})) ≡ idle_verdict (recorder_at l)
+    → Changed idle_verdict with_idle l (set l at_steps (get_or l at_steps 0 + 1))
+idled l a =
+    moves idle_verdict with_idle l (set l at_steps (get_or l at_steps 0 + 1)) a
     (λ v valid e. rw (e, steps-at (recorder_of v)) (idled-of v valid (recorder_of v) refl))
 
 -- several references

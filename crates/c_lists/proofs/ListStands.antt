@@ -19,7 +19,7 @@ use Rattle.model.specs.declared.PriceRow.{PriceRow}
 use Rattle.model.proofs.Tables.{length-tabulate, get_or-tabulate, tabulate-eq}
 use Rattle.buckets.specs.Buckets.{bucket_count, no_bucket}
 use Rattle.buckets.specs.inner.Pass.{touch_of, with_touch, Limited}
-use Rattle.buckets.specs.inner.Search.{load_prices, memory_prices, time_since}
+use Rattle.buckets.specs.inner.Search.{in_places, time_since}
 use Rattle.buckets.specs.declared.pass.Touch.{Touch}
 use Rattle.figures.proofs.Limits.{cost_within, volume_within}
 use Rattle.recorder.specs.Recorders.{recorder_of, taken}
@@ -146,11 +146,10 @@ module _ (v : SheetValue) (valid : Valid v) where
   rows_at = refl
 
   rows_in : RowsIn (list_of (recorder_of v)) v.head.rows
-  unfolding load_prices memory_prices
+  unfolding in_places
   rows_in =
       record {
-        loads = tabulate-eq most_rows _ _ (λ r lt. h-is r lt);
-        memories = tabulate-eq most_rows _ _ (λ r lt. d-is r lt);
+        priced = tabulate-eq most_rows _ _ (λ r lt. rw (h-is r lt, d-is r lt) refl);
         within = valid.rows;
         counted = sym rows_at;
       }

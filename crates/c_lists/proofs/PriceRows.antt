@@ -1,14 +1,13 @@
 -- Rows and their prices apart: the rows of such prices, and the prices stored row by row.
-use Prim.Native.Nat.{ℕ, zero, suc, ◌+◌, ◌≤◌, ◌<◌}
+use Prim.Native.Nat.{ℕ, zero, suc, ◌<◌}
 use mathlib.Core.Path.{◌≡◌, refl, sym, ap, ◌∙◌}
 use mathlib.Core.List.{List, [], ◌∷◌, map}
 use native.Mathlib.Omega.{arith}
-use native.Mathlib.Numerals.{add-one}
-use lib.ListN.{length, get_or, take, set, length-set, length-map, get_or-map}
-use lib.Seq.{take_all, take-suc-set, take-suc}
+use lib.ListN.{length, get_or, length-map}
+use lib.Seq.{ext_get_or}
+use Rattle.std.proofs.lemmas.List.{get_or-map}
 use Rattle.model.specs.declared.PriceRow.{PriceRow}
 use Rattle.c_lists.specs.Tables.{rows_of}
-use Rattle.c_lists.specs.inner.Apart.{prices_of}
 use Rattle.model.specs.Sheets.{row_in}
 
 pub length-rows_of : (hs ds : List ℕ) → length hs ≡ length ds → length (rows_of hs ds) ≡ length hs
@@ -26,46 +25,12 @@ get_or-rows_of (h ∷ hs) [] e k = absurd (omega arith)
 get_or-rows_of (h ∷ hs) (d ∷ ds) e zero = refl
 get_or-rows_of (h ∷ hs) (d ∷ ds) e (suc k) = get_or-rows_of hs ds (omega arith) k
 
--- the prices of the first i of 64 rows stand at the front of h and d
-pub record Apart (rows : List PriceRow) (h d : List ℕ) (i : ℕ) : Type 0 where
-  pub rows_length : length rows ≡ 64
-  pub h_length : length h ≡ 64
-  pub d_length : length d ≡ 64
-  pub within : i ≤ 64
-  pub h_are : take i h ≡ take i (map (λ q. q.h) rows)
-  pub d_are : take i d ≡ take i (map (λ q. q.d) rows)
-
-pub apart-start : (rows : List PriceRow) (h d : List ℕ) → length rows ≡ 64 → length h ≡ 64 → length d ≡ 64 → Apart rows h d 0
-apart-start rows h d lr lh ld =
-    record { rows_length = lr; h_length = lh; d_length = ld; within = omega arith; h_are = refl; d_are = refl }
-
--- one more entry stored
-store : (f : PriceRow → ℕ) (rows : List PriceRow) (l : List ℕ) (i : ℕ) (r : PriceRow) → i < length l → i < length rows
-    → take i l ≡ take i (map f rows) → take (i + 1) (set l i (f (get_or rows i r))) ≡ take (i + 1) (map f rows)
-store f rows l i r ll lr e =
-    rw (
-      add-one i,
-      take-suc-set l i (f (get_or rows i r)) ll,
-      take-suc (map f rows) i (f r) (omega (arith, length-map rows f)),
-      get_or-map f rows i r,
-      e,
-    ) refl
-
-pub apart-step : (rows : List PriceRow) (h d : List ℕ) (i : ℕ) (r : PriceRow) → Apart rows h d i → i < 64
-    → Apart rows (set h i (get_or rows i r).h) (set d i (get_or rows i r).d) (i + 1)
-apart-step rows h d i r s lt =
-    record {
-      rows_length = s.rows_length;
-      h_length = omega (arith, length-set h i (get_or rows i r).h);
-      d_length = omega (arith, length-set d i (get_or rows i r).d);
-      within = omega arith;
-      h_are = store (λ q. q.h) rows h i r (omega arith) (omega arith) s.h_are;
-      d_are = store (λ q. q.d) rows d i r (omega arith) (omega arith) s.d_are;
-    }
-
-pub apart-end : (rows : List PriceRow) (h d : List ℕ) (i : ℕ) → Apart rows h d i → 64 ≤ i → record { h = h; d = d } ≡ prices_of rows
-apart-end rows h d i s le = rw (whole (λ q. q.h) h s.h_length s.h_are, whole (λ q. q.d) d s.d_length s.d_are) refl
+-- a list with f of each of 64 rows
+pub mapped-is : (f : PriceRow → ℕ) (rows : List PriceRow) (l : List ℕ) → length rows ≡ 64 → length l ≡ 64
+    → ((i : ℕ) → i < 64 → get_or l i 0 ≡ f (row_in rows i)) → l ≡ map f rows
+mapped-is f rows l many long each =
+    ext_get_or 0 l (map f rows) (omega (arith, length-map rows f))
+    (λ i lt. each i (omega arith) ∙ sym (at i (omega arith)))
   where
-    whole : (f : PriceRow → ℕ) (l : List ℕ) → length l ≡ 64 → take i l ≡ take i (map f rows) → l ≡ map f rows
-    whole f l len e =
-        sym (take_all i l (omega arith)) ∙ e ∙ take_all i (map f rows) (omega (arith, length-map rows f, s.rows_length))
+    at : (i : ℕ) → i < length rows → get_or (map f rows) i 0 ≡ f (row_in rows i)
+    at i lt = get_or-map f rows i (record { h = 0; d = 0 }) 0 lt

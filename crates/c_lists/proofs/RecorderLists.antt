@@ -1,4 +1,5 @@
 -- The lists of a recorder: what a call stores makes them, and they hold the recorder.
+use Rattle.std.specs.Prelude.{Result, Ok, Err}
 use Prim.Native.Nat.{ℕ, zero, suc, ◌+◌, ◌*◌, min}
 use mathlib.Core.Path.{◌≡◌, refl, sym, ◌∙◌}
 use mathlib.Core.List.{List, [], ◌∷◌, map}
@@ -8,8 +9,6 @@ use borrow.Author.Tests.{lt-ltb, le-ltb}
 use Rattle.model.specs.Sheets.{SheetValue, Valid, most_steps}
 use Rattle.model.specs.Values.{head_of}
 use Rattle.model.specs.declared.Refusal.{Refusal}
-use Rattle.model.specs.declared.Verdict.{Verdict}
-use Rattle.model.specs.declared.Verdict.TheVariants.{Accepted, Refused}
 use Rattle.model.specs.declared.Kind.{Kind}
 use Rattle.model.specs.declared.Kind.TheVariants.{Time, Space}
 use Rattle.model.specs.declared.PriceRow.{PriceRow}
@@ -95,39 +94,40 @@ unfolding with_taken lists_of recorder_of
 taken-lists v xs = refl
 
 -- the counts after an idle step, where it is accepted and where it is refused
-pub counts-more : (counts : List ℕ) → room_verdict (get_or counts 0 0) ≡ Accepted
+pub counts-more : (counts : List ℕ) → room_verdict (get_or counts 0 0) ≡ (Ok (tt {0}))
     → (get_or counts 0 0 + 1) ∷ get_or counts 1 0 ∷ get_or counts 2 0 ∷ [] ≡ idle_counts counts
 unfolding idle_counts
 counts-more counts a = rw (lt-ltb (get_or counts 0 0) most_steps (step_room (get_or counts 0 0) a)) refl
 
-pub counts-stay : (counts : List ℕ) (why : Refusal) → room_verdict (get_or counts 0 0) ≡ Refused why → counts ≡ idle_counts counts
+pub counts-stay : (counts : List ℕ) (why : Refusal) → room_verdict (get_or counts 0 0) ≡ Err why → counts ≡ idle_counts counts
 unfolding idle_counts
 counts-stay counts why f = rw (le-ltb (get_or counts 0 0) most_steps (step-full (get_or counts 0 0) why f)) refl
 
 -- so the lists in which only the counts change are those after an idle step of the recorder that they hold
-pub record Idled (head counts sizes holds h d last sums : List ℕ) (w : Verdict) : Type 0 where
+pub record Idled (head counts sizes holds h d last sums : List ℕ) (w : Result (Unit {0}) Refusal) : Type 0 where
   pub answer : TouchAnswer
   pub answered : Rested (recorder_in (lists head counts sizes holds h d last sums)) answer
   pub verdict_is : answer.verdict ≡ w
-  pub taken : w ≡ Accepted
+  pub taken : w ≡ (Ok (tt {0}))
       → lists head (idle_counts counts) sizes holds h d last sums
       ≡ with_taken (lists head counts sizes holds h d last sums) answer.recorder
-  pub unchanged : (why : Refusal) → w ≡ Refused why → idle_counts counts ≡ counts
+  pub unchanged : (why : Refusal) → w ≡ Err why → idle_counts counts ≡ counts
 
-pub idle-lists : (head counts sizes holds h d last sums : List ℕ) → length sums ≡ 390 → (w : Verdict) → w ≡ room_verdict (get_or counts 0 0)
+pub idle-lists : (head counts sizes holds h d last sums : List ℕ) → length sums ≡ 390 → (w : Result (Unit {0}) Refusal)
+    → w ≡ room_verdict (get_or counts 0 0)
     → Idled head counts sizes holds h d last sums w
 unfolding recorder_in with_taken lists_of
-idle-lists head counts sizes holds h d last sums long Accepted is =
+idle-lists head counts sizes holds h d last sums long (Ok _) is =
     record {
-      answer = record { verdict = Accepted; recorder = with_step (recorder_in (lists head counts sizes holds h d last sums)) };
+      answer = record { verdict = (Ok (tt {0})); recorder = with_step (recorder_in (lists head counts sizes holds h d last sums)) };
       answered = idle-accepted (recorder_in (lists head counts sizes holds h d last sums)) (sym is);
       verdict_is = refl;
       taken = λ a. rw (← counts-more counts (sym is), sums-whole sums long) refl;
       unchanged = λ why f. sym (counts-stay counts why (sym is ∙ f));
     }
-idle-lists head counts sizes holds h d last sums long (Refused why) is =
+idle-lists head counts sizes holds h d last sums long (Err why) is =
     record {
-      answer = record { verdict = Refused why; recorder = recorder_in (lists head counts sizes holds h d last sums) };
+      answer = record { verdict = Err why; recorder = recorder_in (lists head counts sizes holds h d last sums) };
       answered = idle-refused (recorder_in (lists head counts sizes holds h d last sums)) why (sym is);
       verdict_is = refl;
       taken = λ a. refused-accepted why a;

@@ -1,16 +1,14 @@
 -- A recorder as one list of numbers, as include/segtrace.h has it: where each part stands, the list of a recorder, and the recorder that a
 -- list holds, whatever its numbers are.
-use Rattle.std.specs.Prelude.{ℕ, ◌+◌, ◌*◌, ◌%◌, min, ◌≡◌, List, [], ◌∷◌, ◌++◌, map, get_or}
+use Rattle.std.specs.Prelude.{ℕ, ◌+◌, ◌*◌, ◌%◌, min, ◌≡◌, List, [], ◌∷◌, ◌++◌, map, get_or, Result, Ok, Err}
 use Rattle.model.specs.Sheets.{SheetValue, Valid, largest_a, most_segs, most_rows}
 use Rattle.model.specs.Sums.{tabulate}
 use Rattle.model.specs.declared.PriceRow.{PriceRow}
 use Rattle.model.specs.declared.Refusal.{Refusal}
-use Rattle.model.specs.declared.Verdict.{Verdict}
-use Rattle.model.specs.declared.Verdict.TheVariants.{Accepted, Refused}
 use Rattle.buckets.specs.Buckets.{bucket_count}
 use Rattle.buckets.specs.declared.Bucket.{Bucket}
 use Rattle.c_lists.specs.Recorders.{kind_in, kind_number}
-use Rattle.c_lists.specs.Tables.{sums_of}
+use Rattle.c_lists.specs.Tables.{bucket_from, sums_of}
 use Rattle.recorder.specs.Recorders.{recorder_of}
 use Rattle.recorder.specs.declared.Recorder.{Recorder}
 
@@ -84,15 +82,7 @@ abbrev pub row_of : List ℕ → ℕ → PriceRow
 row_of l r = record { h = short_in l (at_h + r); d = short_in l (at_d + r) }
 
 abbrev pub bucket_at : List ℕ → ℕ → Bucket
-bucket_at l k =
-    record {
-      count = get_or l (at_sums + 6 * k) 0;
-      volume = get_or l (at_sums + 6 * k + 1) 0;
-      retention = record { 0 = get_or l (at_sums + 6 * k + 2) 0 };
-      swap = record { 0 = get_or l (at_sums + 6 * k + 3) 0 };
-      retentionz = record { 0 = get_or l (at_sums + 6 * k + 4) 0 };
-      swapz = record { 0 = get_or l (at_sums + 6 * k + 5) 0 };
-    }
+bucket_at l k = bucket_from l (at_sums + 6 * k)
 
 -- the recorder that a list holds: a is cut off at 255
 unfoldable pub recorder_at : List ℕ → Recorder
@@ -118,7 +108,7 @@ recorder_at l =
 
 -- what a call that a list's recorder judges by a verdict leaves of the list: refused, the list is as it was, whatever its numbers are; the
 -- list of a recorder that stands for a sheet is, accepted, that of the recorder that stands for the next one
-pub record Changed (verdictOf : Recorder → Verdict) (next : SheetValue → SheetValue) (l l' : List ℕ) : Type 0 where
-  pub unchanged : (why : Refusal) → verdictOf (recorder_at l) ≡ Refused why → l' ≡ l
-  pub stands : (v : SheetValue) → Valid v → l ≡ list_of (recorder_of v) → verdictOf (recorder_at l) ≡ Accepted
+pub record Changed (verdictOf : Recorder → Result (Unit {0}) Refusal) (next : SheetValue → SheetValue) (l l' : List ℕ) : Type 0 where
+  pub unchanged : (why : Refusal) → verdictOf (recorder_at l) ≡ Err why → l' ≡ l
+  pub stands : (v : SheetValue) → Valid v → l ≡ list_of (recorder_of v) → verdictOf (recorder_at l) ≡ (Ok tt)
       → l' ≡ list_of (recorder_of (next v))

@@ -28,13 +28,9 @@ fn put_row(f: RowFigures, out: &mut [u64], at: usize) -> usize
     requires { at + 11 ≤ length out.old }
     ensures { Put (figure_list f) at out.old result out.new }
 {
-    let row = of_row(f);
-    let mut i = 0;
-    while i < RowFigures::ITEMS {
-        out[at + i] = row[i];
-        i += 1;
-    }
-    at + RowFigures::ITEMS
+    let end = at + RowFigures::ITEMS;
+    out[at..end].copy_from_slice(&of_row(f));
+    end
 }
 
 // Puts the numbers of the first `n` rows at the front, and gives how many they are.
@@ -43,11 +39,8 @@ pub fn put_rows(figures: [RowFigures; Sheet::MAX_ROWS], n: usize, out: &mut [u64
     ensures { Put (figure_lists (take n figures)) 0 out.old result out.new }
 {
     let mut next = 0;
-    let mut i = 0;
-    while i < n {
-        let f = figures[i];
-        next = put_row(f, out, next);
-        i += 1;
+    for f in &figures[..n] {
+        next = put_row(*f, out, next);
     }
     next
 }

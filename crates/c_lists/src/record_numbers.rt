@@ -1,23 +1,20 @@
 // A recorder in lists of numbers, and the recorder that such lists hold, whatever the numbers are.
 // The lists are written in specs/Recorders.antt.
-ghost use Rattle.std.specs.Prelude.{◌≡◌, min, get_or};
+ghost use Rattle.std.specs.Prelude.{◌≡◌, get_or};
 ghost use Rattle.recorder.specs.Recorders.{room_verdict};
 ghost use Rattle.c_lists.specs.Recorders.{kind_in, kind_number, lists, recorder_in, idle_counts};
 ghost use Rattle.c_lists.specs.inner.Stored.{HeadStored, TakenStored};
 
 use crate::tables;
 use buckets::{Bucket, Tally};
-use model::{Head, Kind, MemoryUnits, Sheet, Verdict};
+use model::{Head, Kind, MemoryUnits, Refusal, Sheet};
 use recorder::Recorder;
 
-// The kind that a number stands for.
+// The kind that a number stands for: C has numbers for kinds.
 pub(crate) fn kind_of(n: u64) -> Kind
     ensures { result ≡ kind_in n }
 {
-    if n == 0 {
-        return Kind::Time;
-    }
-    Kind::Space
+    if n == 0 { Kind::Time } else { Kind::Space }
 }
 
 // The number of a kind.
@@ -30,17 +27,7 @@ pub(crate) fn kind_number(kind: Kind) -> u64
     }
 }
 
-// A number, cut off at 255.
-pub(crate) fn cut(n: u64) -> u8
-    ensures { result ≡ min n 255 }
-{
-    if n < 255 {
-        return n as u8;
-    }
-    255
-}
-
-// The recorder that the lists hold.
+// The recorder that the lists hold, which stand apart as in the struct of C.
 pub fn recorder_of(
     head: &[u64; 5],
     counts: &[u64; 3],
@@ -54,26 +41,20 @@ pub fn recorder_of(
     ensures { result ≡ recorder_in (lists head.now counts.now sizes.now holds.now
         h.now d.now last.now sums.now) }
 {
-    let kind = kind_of(head[0]);
-    let prices = tables::rows_of(h, d);
-    let buckets = tables::buckets_of(sums);
-    let of_segments = *sizes;
-    let warm = *holds;
-    let table = *last;
     Recorder {
         head: Head {
-            kind: kind,
-            a: cut(head[1]),
+            kind: kind_of(head[0]),
+            a: head[1].min(255) as u8,
             segs: head[2] as usize,
-            sizes: of_segments,
+            sizes: *sizes,
             rows: head[3] as usize,
-            prices: prices,
+            prices: tables::rows_of(h, d),
             warm: head[4] as usize,
-            holds: warm,
+            holds: *holds,
         },
         steps: counts[0] as usize,
-        last: table,
-        buckets: buckets,
+        last: *last,
+        buckets: tables::buckets_of(sums),
         cost: MemoryUnits(counts[1]),
         volume: counts[2],
     }
@@ -91,16 +72,15 @@ pub fn store_head(
     ensures { HeadStored r head.new sizes.new holds.new h.new d.new }
 {
     let from = r.head;
-    let kind = from.kind;
     let of_segments = from.sizes;
     let warm = from.holds;
-    let prices = from.prices;
-    let apart = tables::split(prices);
-    let of_load = apart.h;
-    let of_memory = apart.d;
+    let tables::Prices {
+        h: of_load,
+        d: of_memory,
+    } = tables::split(from.prices);
     *head = [
-        kind_number(kind),
-        from.a as u64,
+        kind_number(from.kind),
+        u64::from(from.a),
         from.segs as u64,
         from.rows as u64,
         from.warm as u64,
@@ -120,23 +100,19 @@ pub fn store_taken(
 )
     ensures { TakenStored r counts.new last.new sums.new }
 {
-    let table = r.last;
-    let buckets = r.buckets;
     *counts = [r.steps as u64, r.cost.0, r.volume];
+    let table = r.last;
     *last = table;
-    tables::store_buckets(buckets, sums);
+    tables::store_buckets(r.buckets, sums);
 }
 
 // One idle step, of which only the counts of a recorder tell: 13.
-pub fn idle(counts: &mut [u64; 3]) -> Verdict
+pub fn idle(counts: &mut [u64; 3]) -> Result<(), Refusal>
     ensures verdict { result ≡ room_verdict (get_or counts.old 0 0) }
     ensures counted { counts.new ≡ idle_counts counts.old }
 {
-    let t = counts[0];
-    let step = recorder::taking::idle_verdict(t as usize);
-    if let Verdict::Refused(why) = step {
-        return Verdict::Refused(why);
-    }
-    *counts = [t + 1, counts[1], counts[2]];
-    Verdict::Accepted
+    let [steps, cost, volume] = *counts;
+    recorder::taking::idle_verdict(steps as usize)?;
+    *counts = [steps + 1, cost, volume];
+    Ok(())
 }

@@ -1,4 +1,5 @@
 -- What a conversion does to a sheet: it stays valid, its run and its rows stay, and there and back restores the bytes.
+use Rattle.std.specs.Prelude.{Ok, Err}
 use Prim.Native.Nat.{ℕ, ◌<◌}
 use mathlib.Core.Path.{◌≡◌, refl, sym, ap, ◌∙◌}
 use mathlib.Core.Logic.{⊎_elim}
@@ -8,7 +9,6 @@ use native.Mathlib.Omega.{arith}
 use borrow.Author.Tests.{leb-true, leb-false}
 use lib.Dec.{leb}
 use lib.ListN.{length}
-use Rattle.model.specs.Places.{gives, refuses}
 use Rattle.model.specs.Rows.{row_figures}
 use Rattle.model.specs.Sheets.{SheetValue, Valid, trace_of, row_at, marks_of}
 use Rattle.model.specs.declared.Refusal.TheVariants.{IdleStep}
@@ -77,18 +77,18 @@ whole-in-1 v c e =
 -- ---- when 17 is given
 
 -- where there are fewer references than steps
-pub refused-fewer : (v : SheetValue) → length (touches_of (entries_in v)) < length v.entries → to_form_1 v ≡ refuses IdleStep
+pub refused-fewer : (v : SheetValue) → length (touches_of (entries_in v)) < length v.entries → to_form_1 v ≡ Err IdleStep
 refused-fewer v l = go (has_idle v) refl
   where
-    go : (b : Bool) → has_idle v ≡ b → to_form_1 v ≡ refuses IdleStep
+    go : (b : Bool) → has_idle v ≡ b → to_form_1 v ≡ Err IdleStep
     go true e = rw e
     go false e = absurd (omega (arith, l, touches-all (marks_of v.marks) v.entries 0 e))
 
 -- and not where there are as many
-pub given-all : (v : SheetValue) → length (touches_of (entries_in v)) ≡ length v.entries → to_form_1 v ≡ gives (sheet_text (in_form 1 v))
+pub given-all : (v : SheetValue) → length (touches_of (entries_in v)) ≡ length v.entries → to_form_1 v ≡ Ok (sheet_text (in_form 1 v))
 given-all v l = go (has_idle v) refl
   where
-    go : (b : Bool) → has_idle v ≡ b → to_form_1 v ≡ gives (sheet_text (in_form 1 v))
+    go : (b : Bool) → has_idle v ≡ b → to_form_1 v ≡ Ok (sheet_text (in_form 1 v))
     go true e = absurd (omega (arith, l, touches-fewer (marks_of v.marks) v.entries 0 e))
     go false e = rw e
 
@@ -113,21 +113,21 @@ form-2 s v e = let r = accepted-readable 2 2 s v e in omega (arith, r.form_taken
 
 -- from form 1: the text in form 2 reads as the sheet in form 2, and converting that back gives the old bytes
 pub there_and_back : (s : List ℕ) (v : SheetValue) → read_forms 1 1 s ≡ accepted v
-    → (read_forms 2 2 (sheet_text (in_form 2 v)) ≡ accepted (in_form 2 v)) × (to_form_1 (in_form 2 v) ≡ gives s)
+    → (read_forms 2 2 (sheet_text (in_form 2 v)) ≡ accepted (in_form 2 v)) × (to_form_1 (in_form 2 v) ≡ Ok s)
 there_and_back s v e =
     let c = accepted-valid 1 1 (omega arith) s v e in
     let one = form-1 s v e in (
       written-then-read 2 2 (in_form 2 v) (omega arith) (omega arith) (valid-in-2 v c (c.cold (omega (arith, one)))),
       rw (whole-in-1 v c one)
-          (ap gives (ap sheet_text (in-and-back 1 2 v one (c.unmarked (omega (arith, one)))) ∙ read-then-written 1 1 s v e)),
+          (ap Ok (ap sheet_text (in-and-back 1 2 v one (c.unmarked (omega (arith, one)))) ∙ read-then-written 1 1 s v e)),
     )
 
 -- from form 2, where no step is idle: the same the other way round
 pub back-and-there : (s : List ℕ) (v : SheetValue) → read_forms 2 2 s ≡ accepted v → has_idle v ≡ false
-    → (read_forms 1 1 (sheet_text (in_form 1 v)) ≡ accepted (in_form 1 v)) × (to_form_2 (in_form 1 v) ≡ gives s)
+    → (read_forms 1 1 (sheet_text (in_form 1 v)) ≡ accepted (in_form 1 v)) × (to_form_2 (in_form 1 v) ≡ Ok s)
 back-and-there s v e n =
     let c = accepted-valid 2 2 (omega arith) s v e in
     let two = form-2 s v e in (
       written-then-read 1 1 (in_form 1 v) (omega arith) (omega arith) (valid-in-1 v c (c.cold (omega (arith, two))) n),
-      ap gives (ap sheet_text (in-and-back 2 1 v two (c.unmarked (omega (arith, two)))) ∙ read-then-written 2 2 s v e),
+      ap Ok (ap sheet_text (in-and-back 2 1 v two (c.unmarked (omega (arith, two)))) ∙ read-then-written 2 2 s v e),
     )

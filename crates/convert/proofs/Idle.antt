@@ -1,38 +1,27 @@
--- Laws of idle entries: one entry after another, each entry of a list without an idle one, and how many touches there are.
-use Prim.Native.Nat.{ℕ, zero, suc, ◌+◌, ◌≤◌, ◌<◌}
+-- Laws of idle entries: whether there is one, each entry of a list without an idle one, and how many touches there are.
+use Prim.Native.Nat.{ℕ, zero, suc, ◌≤◌, ◌<◌}
 use mathlib.Core.Path.{◌≡◌, refl, sym, ap, ◌∙◌}
-use mathlib.Core.Bool.{Bool, true, false, cond, false≢true}
+use mathlib.Core.Bool.{Bool, true, false, cond, ◌||◌, false≢true}
 use mathlib.Core.List.{List, [], ◌∷◌}
 use native.Mathlib.Nat.{le_of_suc-le-suc, not-suc-le-zero}
-use native.Mathlib.Numerals.{add-one}
 use native.Mathlib.Omega.{arith}
 use borrow.Author.Tests.{eq-eqb, ne_eqb}
 use lib.Dec.{eqb}
-use lib.ListN.{length, get_or, drop, drop_of_length-le}
-use lib.Seq.{drop-cons}
+use lib.ListN.{length, get_or}
+use Rattle.std.specs.List.{list_any}
 use Rattle.model.specs.Sheets.{idle}
 use Rattle.sheet.specs.Touches.{Touch, touches_from}
 use Rattle.sheet.specs.Forms.{some_idle}
 
--- ---- one entry after another
-
--- the entry at i, and those behind it
-idle-at : (xs : List ℕ) (i : ℕ) → i < length xs → some_idle (drop i xs) ≡ cond (eqb (get_or xs i 0) idle) true (some_idle (drop (suc i) xs))
+-- whether some entry is idle, as a search through the slice tells it
+pub idle-any : (xs : List ℕ) → some_idle xs ≡ list_any (λ x. eqb x idle) xs
 unfolding some_idle
-idle-at xs i h = rw (drop-cons xs i 0 h)
-
--- an idle one at i
-pub idle-found : (xs : List ℕ) (i : ℕ) → i < length xs → get_or xs i 0 ≡ idle → some_idle (drop i xs) ≡ true
-idle-found xs i h e = idle-at xs i h ∙ rw (eq-eqb (get_or xs i 0) idle e)
-
--- none at i
-pub idle-next : (xs : List ℕ) (i : ℕ) → i < length xs → (get_or xs i 0 ≡ idle → ⊥) → some_idle (drop (i + 1) xs) ≡ some_idle (drop i xs)
-idle-next xs i h n = rw (add-one i) (sym (idle-at xs i h ∙ rw (ne_eqb (get_or xs i 0) idle n)))
-
--- none behind the last
-pub idle-end : (xs : List ℕ) (i : ℕ) → length xs ≤ i → some_idle (drop i xs) ≡ false
-unfolding some_idle
-idle-end xs i h = rw (drop_of_length-le xs h)
+idle-any [] = refl
+idle-any (x ∷ xs) = rw (idle-any xs) (go (eqb x idle) (list_any (λ y. eqb y idle) xs))
+  where
+    go : (b r : Bool) → cond b true r ≡ b || r
+    go true r = refl
+    go false r = refl
 
 -- ---- each entry
 

@@ -3,60 +3,40 @@
 #![tactic(auto)]
 
 ghost use Rattle.std.specs.Prelude.{◌≡◌};
-ghost use Rattle.sheet.specs.Forms.{in_form, some_idle, to_form_2, to_form_1};
+ghost use Rattle.sheet.specs.Forms.{in_form, to_form_2, to_form_1};
 ghost use Rattle.model.specs.Places.{PlaceLeft};
 ghost use Rattle.model.specs.Standing.{Standing};
 ghost use Rattle.model.specs.Values.{value_of};
 
-use model::{PlaceAnswer, Refusal, Sheet};
+use model::{Refusal, Sheet};
 use write_sheet::write;
-
-// Whether some entry is that of a step without a touch.
-fn has_idle(entries: &[u16]) -> bool
-    ensures { result ≡ some_idle entries.now }
-{
-    let mut i = 0;
-    while i < entries.len() {
-        if entries[i] == Sheet::IDLE {
-            return true;
-        }
-        i += 1;
-    }
-    false
-}
 
 // The sheet in another form, without marks.
 fn in_form(s: Sheet, form: u8) -> Sheet
     ensures { value_of result ≡ in_form form (value_of s) }
 {
-    let head = s.head;
-    let touches = s.touches;
     Sheet {
         form,
-        head,
-        steps: s.steps,
-        touches,
         marked: 0,
         marks: [false; Sheet::MAX_STEPS],
+        ..s
     }
 }
 
 // The text of the sheet in form 2; refusal 11 and no change where the place is shorter.
-pub fn to_form_2(s: Sheet, out: &mut [u8]) -> PlaceAnswer
+pub fn to_form_2(s: Sheet, out: &mut [u8]) -> Result<usize, Refusal>
     ensures { PlaceLeft (to_form_2 (value_of s)) out.old out.new result }
 {
     write(in_form(s, 2), out)
 }
 
 // The text of the sheet in form 1: refusal 17 where some step has no touch, then 11 and no change where the place is shorter.
-pub fn to_form_1(s: Sheet, out: &mut [u8]) -> PlaceAnswer
+pub fn to_form_1(s: Sheet, out: &mut [u8]) -> Result<usize, Refusal>
     requires { Standing s }
     ensures { PlaceLeft (to_form_1 (value_of s)) out.old out.new result }
 {
-    let steps = s.steps;
-    let touches = s.touches;
-    if has_idle(&touches[..steps]) {
-        return PlaceAnswer::refused(Refusal::IdleStep);
+    if s.touches[..s.steps].contains(&Sheet::IDLE) {
+        return Err(Refusal::IdleStep);
     }
     write(in_form(s, 1), out)
 }

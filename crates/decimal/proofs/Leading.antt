@@ -1,5 +1,5 @@
 -- What is known of a list of bytes while a reader goes along the digits at its front: those passed are a number with no leading zero.
-use mathlib.Core.Path.{◌≡◌, refl, sym, ◌∙◌}
+use mathlib.Core.Path.{◌≡◌, sym, ◌∙◌}
 use mathlib.Core.Bool.{true}
 use mathlib.Core.List.{List, [], ◌∷◌}
 use Prim.Native.Nat.{ℕ, ◌+◌, ◌*◌, ◌-◌, ◌^◌, ◌≤◌, ◌<◌}
@@ -81,15 +81,14 @@ module _ (s : List ℕ) (v i : ℕ) (c : Led s v i) where
 
   -- what the reader then gives
   pub led-gives : FrontNumber s (record { length = i; value = v })
-  led-gives = record { within = omega (arith, c.within, c.whole); number = λ h. led-number; value_is = c.amount }
+  led-gives = record { within = omega (arith, c.within, c.whole); number = led-number; value_is = c.amount }
+
+  -- at the fourth
+  pub led-end : 4 ≤ i → FrontNumber s (record { length = 4; value = v })
+  led-end h = let e : i ≡ 4 = omega (arith, c.within) in rw e at led-gives
 
 -- a 48 at the front is a number by itself, of the value 0
 pub zero_number : (s : List ℕ) → 4 ≤ length s → get_or s 0 0 ≡ 48 → FrontNumber s (record { length = 1; value = 0 })
 unfolding is_number value_from
 zero_number [] h e = absurd (omega arith)
-zero_number (b ∷ s) h e = record { within = omega arith; number = λ l. rw e; value_is = rw e }
-
--- no bytes are no number
-pub no_front : (s : List ℕ) → FrontNumber s (record { length = 0; value = 0 })
-unfolding value_from
-no_front s = record { within = omega arith; number = λ l. absurd (omega arith); value_is = refl }
+zero_number (b ∷ s) h e = record { within = omega arith; number = rw e; value_is = rw e }

@@ -8,7 +8,8 @@ use native.Mathlib.Numerals.{add-one}
 use native.Mathlib.Omega.{arith}
 use lib.ListN.{length, get_or, drop, drop_of_length-le}
 use lib.Seq.{drop-cons}
-use Rattle.decimal.specs.declared.Reading.TheVariants.{NotNumber, OutOfRange, Number}
+use Rattle.std.specs.Prelude.{Ok, Err}
+use Rattle.decimal.specs.declared.NumberError.TheVariants.{NotNumber, OutOfRange}
 use Rattle.decimal.specs.Decimal.{is_digit, all_digits, value_from, value, is_number, reading_of}
 use Rattle.decimal.proofs.Digits.{digit-is, value-cut}
 use Rattle.decimal.proofs.Readings.{reading-none, reading-out, reading-within}
@@ -48,7 +49,7 @@ module _ (s : List ℕ) (hi v i : ℕ) (c : Scanned s hi v i) where
       }
 
   -- at a byte that is no digit
-  pub scan-stop : (lo : ℕ) → i < length s → is_digit (get_or s i 0) ≡ false → reading_of lo hi s ≡ NotNumber
+  pub scan-stop : (lo : ℕ) → i < length s → is_digit (get_or s i 0) ≡ false → reading_of lo hi s ≡ Err NotNumber
   scan-stop lo h e = reading-none lo hi s (c.rest ∙ (left-digits s i h ∙ rw e))
 
   -- after the last byte: s is a number
@@ -62,13 +63,13 @@ module _ (s : List ℕ) (hi v i : ℕ) (c : Scanned s hi v i) where
   end-value h = rw (drop_of_length-le s h) at c.same
 
   -- after the last byte, with v outside the bounds
-  pub scan-out : (lo : ℕ) → length s ≤ i → (lo ≤ v → v ≤ hi → ⊥) → reading_of lo hi s ≡ OutOfRange
+  pub scan-out : (lo : ℕ) → length s ≤ i → (lo ≤ v → v ≤ hi → ⊥) → reading_of lo hi s ≡ Err OutOfRange
   scan-out lo h n =
       reading-out lo hi s (end-number h)
       (λ l u. let e : v ≡ value s = omega (arith, c.small, end-value h) in n (omega arith) (omega arith))
 
   -- after the last byte, with v within them
-  pub scan-within : (lo : ℕ) → length s ≤ i → lo ≤ v → v ≤ hi → reading_of lo hi s ≡ Number v
+  pub scan-within : (lo : ℕ) → length s ≤ i → lo ≤ v → v ≤ hi → reading_of lo hi s ≡ Ok v
   scan-within lo h l u =
       let e : value s ≡ v = omega (arith, end-value h) in
-      reading-within lo hi s (end-number h) (omega arith) (omega arith) ∙ ap Number e
+      reading-within lo hi s (end-number h) (omega arith) (omega arith) ∙ ap Ok e

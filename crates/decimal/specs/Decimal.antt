@@ -1,7 +1,7 @@
 -- Decimal numbers as lists of bytes: which lists are numbers, the value of one, and the digits of a number.
-use Rattle.std.specs.Prelude.{ℕ, zero, suc, ◌+◌, ◌*◌, ◌-◌, ◌/◌, ◌%◌, Bool, true, false, cond, not, ◌&&◌, List, [], ◌∷◌, ◌++◌, leb, ltb, eqb}
-use Rattle.decimal.specs.declared.Reading.{Reading}
-use Rattle.decimal.specs.declared.Reading.TheVariants.{NotNumber, OutOfRange, Number}
+use Rattle.std.specs.Prelude.{ℕ, zero, suc, ◌+◌, ◌*◌, ◌-◌, ◌/◌, ◌%◌, Bool, true, false, cond, not, ◌&&◌, List, [], ◌∷◌, ◌++◌, leb, ltb, eqb, Result, Ok, Err}
+use Rattle.decimal.specs.declared.NumberError.{NumberError}
+use Rattle.decimal.specs.declared.NumberError.TheVariants.{NotNumber, OutOfRange}
 
 -- a byte is a digit: 48 ("0") to 57 ("9")
 abbrev pub is_digit : ℕ → Bool
@@ -37,6 +37,6 @@ unfoldable pub written : ℕ → List ℕ
 written n = written_in (suc n) n
 
 -- what reading s as a number from lo to hi gives
-abbrev pub reading_of : ℕ → ℕ → List ℕ → Reading
+abbrev pub reading_of : ℕ → ℕ → List ℕ → Result ℕ NumberError
 reading_of lo hi s =
-    cond (is_number s) (cond (leb lo (value s) && leb (value s) hi) (Number (value s)) OutOfRange) NotNumber
+    cond (is_number s) (cond (leb lo (value s) && leb (value s) hi) (Ok (value s)) (Err OutOfRange)) (Err NotNumber)

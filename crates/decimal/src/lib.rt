@@ -2,32 +2,28 @@
 // What a number and its digits are is written in specs/. Nothing is assumed.
 #![tactic(auto)]
 
-ghost use Rattle.std.specs.Prelude.{◌≡◌, ◌&&◌, ◌++◌, ◌+◌, ◌*◌, ◌-◌, ◌/◌, ◌%◌, ◌≤◌, ◌<◌, min, length, take, drop, set};
-ghost use Rattle.decimal.specs.Decimal.{is_digit, all_digits, is_number, written, reading_of};
+ghost use Rattle.std.specs.Prelude.{◌≡◌, ◌&&◌, ◌++◌, ◌+◌, ◌*◌, ◌-◌, ◌/◌, ◌%◌, ◌≤◌, ◌<◌, min, length, take, drop, set, IfSome};
+ghost use Rattle.decimal.specs.Decimal.{all_digits, is_number, written, reading_of};
 ghost use Rattle.decimal.specs.inner.FrontNumber.{FrontNumber};
 
-// What reading a number within bounds gives.
-#[derive(Clone, Copy)]
-pub enum Reading {
-    // The bytes are not a number.
+// Why bytes are no number within bounds.
+#[derive(Clone, Copy, Debug, PartialEq, Eq)]
+pub enum NumberError {
+    // They are not a number.
     NotNumber,
     // They are a number outside the bounds.
     OutOfRange,
-    // They are a number within the bounds: its value.
-    Number(u32),
 }
 
 // Whether `s` has a byte and no leading zero: what a number has besides being digits.
 fn begins(s: &[u8]) -> bool
     ensures { is_number s.now ≡ (result && all_digits s.now) }
 {
-    if s.len() == 0 {
-        return false;
+    match s {
+        [] => false,
+        [_] => true,
+        [first, ..] => *first != b'0',
     }
-    if s.len() == 1 {
-        return true;
-    }
-    s[0] != 48
 }
 
 // The value `v` with the digit `b` put after it, cut off at `hi + 1`.
@@ -35,91 +31,58 @@ fn pushed(v: u64, b: u8, hi: u32) -> u64
     requires { (v ≤ hi + 1) × (48 ≤ b) × (b ≤ 57) }
     ensures { result ≡ min (v * 10 + (b - 48)) (hi + 1) }
 {
-    let w = v * 10 + (b - 48) as u64;
-    let top = hi as u64 + 1;
-    if w < top { w } else { top }
+    (v * 10 + u64::from(b - b'0')).min(u64::from(hi) + 1)
 }
 
 // The number that the bytes `s` write, of any length, where it lies from `lo` to `hi`.
-pub fn read(s: &[u8], lo: u32, hi: u32) -> Reading
+pub fn read(s: &[u8], lo: u32, hi: u32) -> Result<u32, NumberError>
     ensures { result ≡ reading_of lo hi s.now }
 {
     if !begins(s) {
-        return Reading::NotNumber;
+        return Err(NumberError::NotNumber);
     }
     let mut v: u64 = 0;
-    let mut i = 0;
-    while i < s.len() {
-        let b = s[i];
-        if b < 48 {
-            return Reading::NotNumber;
+    for b in s {
+        if !b.is_ascii_digit() {
+            return Err(NumberError::NotNumber);
         }
-        if 57 < b {
-            return Reading::NotNumber;
-        }
-        v = pushed(v, b, hi);
-        i += 1;
+        v = pushed(v, *b, hi);
     }
-    if v < (lo as u64) {
-        return Reading::OutOfRange;
+    if v < u64::from(lo) || u64::from(hi) < v {
+        return Err(NumberError::OutOfRange);
     }
-    if (hi as u64) < v {
-        return Reading::OutOfRange;
-    }
-    Reading::Number(v as u32)
+    Ok(v as u32)
 }
 
-// A number at the front of bytes: how many digits it has, 0 where there is none, and its value.
-#[derive(Clone, Copy)]
+// A number at the front of bytes: how many digits it has, and its value.
+#[derive(Clone, Copy, Debug, PartialEq, Eq)]
 pub struct Run {
     pub length: usize,
     pub value: u32,
 }
 
-// Whether the byte is a digit.
-fn is_digit(b: u8) -> bool
-    ensures { result ≡ is_digit b }
-{
-    if b < 48 {
-        return false;
-    }
-    b <= 57
-}
-
 // A number of at most 4 digits at the front of `s`, for the reader of short lines. Where `s` has fewer than 4 bytes it gives none.
-pub fn front(s: &[u8]) -> Run
-    ensures { FrontNumber s.now result }
+pub fn front(s: &[u8]) -> Option<Run>
+    ensures { IfSome result (λ r. FrontNumber s.now r) }
 {
-    if s.len() < 4 {
-        return Run {
-            length: 0,
-            value: 0,
-        };
+    if s.len() < 4 || !s[0].is_ascii_digit() {
+        return None;
     }
-    let first = s[0];
-    if !is_digit(first) {
-        return Run {
-            length: 0,
-            value: 0,
-        };
-    }
-    if first == 48 {
-        return Run {
+    if s[0] == b'0' {
+        return Some(Run {
             length: 1,
             value: 0,
-        };
+        });
     }
-    let mut value = (first - 48) as u32;
-    let mut length = 1;
-    while length < 4 {
+    let mut value = (s[0] - b'0') as u32;
+    for length in 1..4 {
         let b = s[length];
-        if !is_digit(b) {
-            return Run { length, value };
+        if !b.is_ascii_digit() {
+            return Some(Run { length, value });
         }
-        value = value * 10 + (b - 48) as u32;
-        length += 1;
+        value = value * 10 + (b - b'0') as u32;
     }
-    Run { length, value }
+    Some(Run { length: 4, value })
 }
 
 // How many digits `n` is written with: the least w, from 1 on, with n below 10 to the power w. Each power is ten times the last, from 1
@@ -128,15 +91,13 @@ pub fn width(n: u64) -> usize
     ensures { result ≡ length (written n) }
 {
     let mut power: u64 = 1;
-    let mut w = 1;
-    while w < 20 {
+    for w in 1..20 {
         power *= 10;
         if n < power {
             return w;
         }
-        w += 1;
     }
-    w
+    20
 }
 
 // Writes the two digits of `pair` into `out` at the places `at` and `at + 1`.
@@ -158,10 +119,11 @@ pub fn write(n: u64, out: &mut [u8], at: usize) -> usize
     let w = width(n);
     let mut rest = n;
     let mut left = w;
+    // Two digits go at each turn, until fewer than three are left: no count over a range.
     while 100 <= rest {
         left -= 2;
         put_pair((rest % 100) as u8, out, at + left);
-        rest = rest / 100;
+        rest /= 100;
     }
     if rest < 10 {
         out[at] = 48 + rest as u8;

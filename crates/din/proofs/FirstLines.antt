@@ -1,7 +1,7 @@
 -- The first of the lines of a run of bytes, read byte by byte: its label, its blank, its digits, its line feed.
 use Prim.Native.Nat.{ℕ, suc, ◌+◌, ◌*◌, ◌-◌, ◌^◌, ◌≤◌, ◌<◌}
 use mathlib.Core.Path.{◌≡◌, refl, sym, ap, ◌∙◌}
-use mathlib.Core.Bool.{Bool, true, false, cond, ◌&&◌, false≢true}
+use mathlib.Core.Bool.{Bool, true, false, cond, ◌&&◌, false≢true, and-false}
 use mathlib.Core.List.{List, [], ◌∷◌}
 use native.Mathlib.Omega.{arith}
 use native.Mathlib.Nat.{zero-add, pow-le-pow_right}
@@ -22,10 +22,6 @@ use Rattle.din.proofs.Digits.{within, above}
 lines_other : (b : ℕ) (s : List ℕ) → (b ≡ line_feed → ⊥) → trace_lines (b ∷ s) ≡ and_before b (trace_lines s)
 unfolding trace_lines
 lines_other b s ne = rw (ne_eqb b line_feed ne) refl
-
-and-false : (t : Bool) → (t && false) ≡ false
-and-false true = refl
-and-false false = refl
 
 -- ---- the digits
 

@@ -5,6 +5,7 @@ use mathlib.Core.Bool.{Bool, true, false, cond}
 use mathlib.Core.List.{List, [], ◌∷◌, ◌++◌, map}
 use native.Mathlib.Omega.{arith}
 use borrow.Author.Tests.{lt-ltb, le-ltb, ltb-true, ltb-false, eq-eqb, ne_eqb, eqb-true}
+use Rattle.std.proofs.lemmas.List.{map-append}
 use lib.Dec.{eqb, ltb}
 use lib.ListN.{length, get_or, take, drop, length-append, length-map, get_or-map}
 use lib.Seq.{split_at}
@@ -169,10 +170,6 @@ map_same : (f g : ℕ → ℕ) (ps : List ℕ) → ((i : ℕ) → i < length ps 
 map_same f g [] h = refl
 map_same f g (p ∷ ps) h = rw (h 0 (omega arith), map_same f g ps (λ i lt. h (suc i) (omega arith))) refl
 
-map_snoc : (f : ℕ → ℕ) (ps : List ℕ) (p : ℕ) → map f (ps ++ (p ∷ [])) ≡ map f ps ++ (f p ∷ [])
-map_snoc f [] p = refl
-map_snoc f (q ∷ ps) p = ap (λ (l : List ℕ). f q ∷ l) (map_snoc f ps p)
-
 module _ (ps : List ℕ) where
   pub one-more-firsts : (p : ℕ) → firsts (ps ++ (p ∷ [])) ≡ with_page (firsts ps) p
   unfolding firsts firsts_after
@@ -190,7 +187,7 @@ module _ (ps : List ℕ) where
   pub one-more-segments : (p : ℕ) → segments_of (ps ++ (p ∷ [])) ≡ segments_of ps ++ (place_in (firsts ps) p ∷ [])
   unfolding segments_of
   one-more-segments p =
-      map_snoc (place_in (firsts (ps ++ (p ∷ [])))) ps p
+      map-append (place_in (firsts (ps ++ (p ∷ [])))) ps (p ∷ [])
       ∙ rw (one-more-firsts p, with-place (firsts ps) p)
       (ap (λ (l : List ℕ). l ++ (place_in (firsts ps) p ∷ []))
       (map_same (place_in (with_page (firsts ps) p)) (place_in (firsts ps)) ps

@@ -1,9 +1,10 @@
 -- Going along the lines of a trace: what the table, the counts and the array of touches hold after the lines passed.
 use Prim.Native.Nat.{ℕ, suc, ◌+◌, ◌≤◌, ◌<◌, max}
 use mathlib.Core.Path.{◌≡◌, refl, sym, ap, ◌∙◌}
-use mathlib.Core.Bool.{Bool, true, false, ◌||◌}
+use mathlib.Core.Bool.{Bool, true, false, or-true}
 use mathlib.Core.List.{List, [], ◌∷◌, ◌++◌}
 use mathlib.Core.Option.{Option, none, some}
+use Rattle.std.specs.Prelude.{Ok}
 use native.Mathlib.Omega.{arith}
 use borrow.Author.Tests.{lt-ltb, le-ltb}
 use lib.Dec.{ltb}
@@ -12,7 +13,6 @@ use lib.Seq.{drop-drop}
 use Rattle.model.specs.Sheets.{idle, most_segs, most_steps}
 use Rattle.model.specs.Values.{zeros, idles, padded}
 use Rattle.model.specs.declared.Refusal.TheVariants.{TraceMalformed, TraceTooLong}
-use Rattle.model.specs.declared.Verdict.TheVariants.{Accepted}
 use Rattle.model.proofs.Values.{padded-next}
 use Rattle.scan.proofs.Tails.{tail, tail-is, tail-place}
 use Rattle.din.specs.Lines.{Lines, end, line, trace_lines, address_of}
@@ -20,7 +20,6 @@ use Rattle.din.specs.Pages.{Touched, touches, refused, page_of, place_in, firsts
 use Rattle.din.specs.Pages.{firsts_after, segments_of, too_many, touched_from, touched_by}
 use Rattle.din.specs.inner.FirstLine.{First, nothing, malformed, address, with_address, first_of}
 use Rattle.din.specs.inner.Held.{table_places, empty_places, Found, number_at, imported_of}
-use Rattle.din.specs.declared.pages.Imported.{Imported}
 use Rattle.din.proofs.Firsts.{with-length, place-le, one-more-firsts, one-more-segments, segments-length}
 use Rattle.din.proofs.Table.{Table, table-start, found_number, table-next}
 
@@ -66,10 +65,6 @@ module _ (ps : List ℕ) (p : ℕ) where
   -- the pages with one more
   more-firsts : length (firsts (ps ++ (p ∷ []))) ≡ max (length (firsts ps)) (suc (place_in (firsts ps) p))
   more-firsts = ap length (one-more-firsts ps p) ∙ with-length (firsts ps) p
-
-  or-true : (t : Bool) → (t || true) ≡ true
-  or-true true = refl
-  or-true false = refl
 
   many-segs : most_segs ≤ place_in (firsts ps) p → too_many (ps ++ (p ∷ [])) ≡ true
   unfolding too_many
@@ -135,7 +130,7 @@ module _ (k : ℕ) (bytes pages marks seen : List ℕ) where
 
     -- no line is left
     pub going_end : length bytes ≤ at → (all : ℕ) → all ≡ max 1 segs
-        → ◌≡◌ {A = Imported} (record { verdict = Accepted; segs = all; steps = steps; touches = seen }) (imported_of (touched_by k bytes))
+        → Ok (record { segs = all; steps = steps; touches = seen }) ≡ imported_of (touched_by k bytes)
     unfolding imported_of trace_lines touched_from
     going_end le all is =
         let long = segments-length going.ps in

@@ -1,11 +1,9 @@
 pub mod Answers
-pub mod DigitValues
 pub mod Digits
 pub mod Examples
 pub mod FirstLines
 pub mod Firsts
 pub mod Going
-pub mod Padding
 pub mod Powers
 pub mod Probing
 pub mod Results

@@ -2,15 +2,17 @@
 use Prim.Native.Nat.{ℕ, zero, suc, ◌+◌, ◌-◌, ◌≤◌, ◌<◌}
 use mathlib.Core.Path.{◌≡◌, refl, sym, ap, ◌∙◌}
 use mathlib.Core.Bool.{Bool, true, false, cond}
-use mathlib.Core.List.{List, [], ◌∷◌}
+use mathlib.Core.List.{List, [], ◌∷◌, map}
 use native.Mathlib.Omega.{arith}
 use borrow.Author.Tests.{eq-eqb, ne_eqb, eqb-true, eqb-false, ltb-true, ltb-false}
 use lib.Dec.{eqb, ltb}
-use lib.ListN.{length, get_or, set, replicate, length-set, length-replicate}
+use lib.ListN.{length, get_or, set, replicate, length-set, length-replicate, get_or-map}
+use Rattle.std.specs.Prelude.{Option, None}
+use Rattle.din.specs.declared.pages.Seen.{Seen}
 use lib.Seq.{get_or-set_same, get_or-set_other}
 use Rattle.model.specs.Values.{zeros}
 use Rattle.din.specs.Pages.{place_in, with_page}
-use Rattle.din.specs.inner.Held.{table_places, probe, empty_places, Found, number_at}
+use Rattle.din.specs.inner.Held.{table_places, probe, empty_places, mark_of, marks_of, Found, number_at}
 use Rattle.din.proofs.Firsts.{place-le, with-place, with-length, with-stays, with-keeps, with-has, with-other}
 
 -- a page stands at a place that is reached from its home with no empty place on the way
@@ -30,6 +32,10 @@ pub record Table (pages marks F : List ℕ) : Type 0 where
   pub free : empty_places marks + length F ≡ table_places
 
 -- ---- the empty table
+
+pub map-same : {X Y : Type 0} (f : X → Y) (n : ℕ) (x : X) → map f (replicate n x) ≡ replicate n (f x)
+map-same f zero x = refl
+map-same f (suc n) x = rw (map-same f n x)
 
 empty-zeros : (n : ℕ) → empty_places (replicate n 0) ≡ n
 unfolding empty_places
@@ -51,6 +57,11 @@ table-start =
       reached = λ p lt. absurd (omega arith);
       free = omega (arith, empty-zeros table_places);
     }
+
+-- the number of the page at a place of the table, by its mark
+pub number-marked : (table : List (Option Seen)) (place next : ℕ)
+    → number_at (mark_of (get_or table place None)) next ≡ number_at (get_or (marks_of table) place 0) next
+number-marked table place next = ap (λ (m : ℕ). number_at m next) (sym (get_or-map mark_of table place None))
 
 -- ---- a mark stored
 

@@ -7,4 +7,4 @@ use Rattle.exports.specs.Exported.{or_old, PlaceCall}
 -- a call that writes a list into a lent place, and a second lent number, which becomes the entries looked at
 pub record LruCall (s place place' : List ℕ) (written written' looked looked' returned : ℕ) : Type 0 where
   pub placed : PlaceCall (lru_result s) place place' written written' returned
-  pub looked_is : looked' ≡ or_old (answer_for (lru_result s) place).verdict (lru_looked s place) looked
+  pub looked_is : looked' ≡ or_old (λ n. lru_looked s place) (answer_for (lru_result s) place) looked

@@ -7,7 +7,7 @@ ghost use Rattle.exports.specs.Recording.{StartCall, TouchCall, FiguresCall};
 
 use buckets::{Bucket, Tally};
 use c_lists::record_numbers::{recorder_of, store_head, store_taken};
-use model::{RowFigures, Sheet, Verdict};
+use model::{RowFigures, Sheet};
 
 // A recorder with the kind, a, sizes, rows and warm segments of a sheet and no steps: the sheet's refusals.
 pub fn start(
@@ -28,15 +28,14 @@ pub fn start(
         h.new d.new last.new sums.new) result }
 {
     let answer = analyser::recording::start(sheet);
-    let verdict = answer.verdict;
     let r = answer.recorder;
-    match verdict {
-        Verdict::Accepted => {
+    match answer.verdict {
+        Ok(()) => {
             store_head(r, head, sizes, holds, h, d);
             store_taken(r, counts, last, sums);
             0
         }
-        Verdict::Refused(why) => model::number(why),
+        Err(why) => why.number(),
     }
 }
 
@@ -60,14 +59,13 @@ pub fn touch(
 {
     let r = recorder_of(head, counts, sizes, holds, h, d, last, sums);
     let answer = analyser::recording::touch(r, segment as usize);
-    let verdict = answer.verdict;
     let next = answer.recorder;
-    match verdict {
-        Verdict::Accepted => {
+    match answer.verdict {
+        Ok(()) => {
             store_taken(next, counts, last, sums);
             0
         }
-        Verdict::Refused(why) => model::number(why),
+        Err(why) => why.number(),
     }
 }
 
@@ -91,14 +89,13 @@ pub fn touch_all(
 {
     let r = recorder_of(head, counts, sizes, holds, h, d, last, sums);
     let answer = analyser::recording::touch_all(r, segments);
-    let verdict = answer.verdict;
     let after = answer.recorder;
-    match verdict {
-        Verdict::Accepted => {
+    match answer.verdict {
+        Ok(()) => {
             store_taken(after, counts, last, sums);
             0
         }
-        Verdict::Refused(why) => model::number(why),
+        Err(why) => why.number(),
     }
 }
 
@@ -121,13 +118,11 @@ pub fn figures(
         row figures.old figures.new result }
 {
     let r = recorder_of(head, counts, sizes, holds, h, d, last, sums);
-    let answer = analyser::recording::figures(r, row as usize);
-    let verdict = answer.verdict;
-    match verdict {
-        Verdict::Accepted => {
-            *figures = c_lists::of_row(answer.figures);
+    match analyser::recording::figures(r, row as usize) {
+        Ok(found) => {
+            *figures = c_lists::of_row(found);
             0
         }
-        Verdict::Refused(why) => model::number(why),
+        Err(why) => why.number(),
     }
 }

@@ -23,19 +23,20 @@ ghost use Rattle.analyser.specs.Texts.{listing_result, page_result};
 ghost use Rattle.analyser.specs.Schedules.{schedule_result, pricing};
 ghost use Rattle.analyser.specs.Figures.{margin_answer, size_answer, bill_answer};
 ghost use Rattle.analyser.specs.Sheets.{to_form_2_result, to_form_1_result};
-ghost use Rattle.exports.specs.Exported.{or_old, price_list, rewrite_result, rows_result, PlaceCall};
+ghost use Rattle.exports.specs.Exported.{or_old, itself, in_cents, price_list, rewrite_result, rows_result, PlaceCall};
 
 use lent_calls::tell;
-use model::{RowFigures, Sheet, Verdict};
+use model::RowFigures;
 
 // Whether the bytes are a sheet: the sheet's refusals.
 #[unsafe(no_mangle)]
 pub extern "C" fn segtrace_check(sheet: &[u8]) -> u64
-    ensures { result ≡ verdict_number (answer_of (read_sheet sheet.now)).verdict }
+    ensures { result ≡ verdict_number (answer_of (read_sheet sheet.now)) }
 {
-    let answer = analyser::sheets::read(sheet);
-    let verdict = answer.verdict;
-    model::verdict_number(verdict)
+    match analyser::sheets::read(sheet) {
+        Ok(_) => 0,
+        Err(why) => why.number(),
+    }
 }
 
 // The sheet read and written again, and its length: the sheet's refusals, 11. Its text is as long as the bytes, so that its length need not
@@ -45,14 +46,9 @@ pub extern "C" fn segtrace_rewrite(sheet: &[u8], out: &mut [u8], written: &mut u
     ensures { PlaceCall (rewrite_result sheet.now) out.old out.new
         written.old written.new result }
 {
-    let answer = read_sheet::read_forms(sheet, 1, Sheet::NEWEST_FORM);
-    let verdict = answer.verdict;
-    match verdict {
-        Verdict::Accepted => tell(
-            write_sheet::write_within(answer.sheet, sheet.len(), out),
-            written,
-        ),
-        Verdict::Refused(why) => model::number(why),
+    match analyser::sheets::read(sheet) {
+        Ok(read) => tell(write_sheet::write_within(read, sheet.len(), out), written),
+        Err(why) => why.number(),
     }
 }
 
@@ -81,18 +77,15 @@ pub extern "C" fn segtrace_figures(
     row: u64,
     figures: &mut [u64; RowFigures::ITEMS],
 ) -> u64
-    ensures { (result ≡ verdict_number (figures_answer sheet.now row).verdict)
-        × (figures.new ≡ or_old (figures_answer sheet.now row).verdict
-        (figure_list (figures_answer sheet.now row).figures) figures.old) }
+    ensures { (result ≡ verdict_number (figures_answer sheet.now row))
+        × (figures.new ≡ or_old figure_list (figures_answer sheet.now row) figures.old) }
 {
-    let answer = analyser::figuring::figures(sheet, row as usize);
-    let verdict = answer.verdict;
-    match verdict {
-        Verdict::Accepted => {
-            *figures = c_lists::of_row(answer.figures);
+    match analyser::figuring::figures(sheet, row as usize) {
+        Ok(found) => {
+            *figures = c_lists::of_row(found);
             0
         }
-        Verdict::Refused(why) => model::number(why),
+        Err(why) => why.number(),
     }
 }
 
@@ -148,9 +141,8 @@ pub extern "C" fn segtrace_price(
     schedule: &[u8],
     price: &mut [u64; 3],
 ) -> u64
-    ensures { (result ≡ verdict_number (pricing sheet.now row schedule.now).verdict)
-        × (price.new ≡ or_old (pricing sheet.now row schedule.now).verdict
-        (price_list (pricing sheet.now row schedule.now)) price.old) }
+    ensures { (result ≡ verdict_number (pricing sheet.now row schedule.now))
+        × (price.new ≡ or_old price_list (pricing sheet.now row schedule.now) price.old) }
 {
     lent_calls::price(sheet, row, schedule, price)
 }
@@ -158,28 +150,23 @@ pub extern "C" fn segtrace_price(
 // The margin of a reference, counted from 1, at a row: the sheet's refusals, 7, 14, 15.
 #[unsafe(no_mangle)]
 pub extern "C" fn segtrace_margin(sheet: &[u8], row: u64, reference: u64, margin: &mut i64) -> u64
-    ensures { (result ≡ verdict_number (margin_answer sheet.now row reference).verdict)
-        × (margin.new ≡ or_old (margin_answer sheet.now row reference).verdict
-        (margin_answer sheet.now row reference).margin margin.old) }
+    ensures { (result ≡ verdict_number (margin_answer sheet.now row reference))
+        × (margin.new ≡ or_old itself (margin_answer sheet.now row reference) margin.old) }
 {
-    let answer = analyser::figuring::margin(sheet, row as usize, reference as usize);
-    let verdict = answer.verdict;
-    let value = answer.margin;
-    match verdict {
-        Verdict::Accepted => {
-            *margin = value;
+    match analyser::figuring::margin(sheet, row as usize, reference as usize) {
+        Ok(found) => {
+            *margin = found;
             0
         }
-        Verdict::Refused(why) => model::number(why),
+        Err(why) => why.number(),
     }
 }
 
 // The lowest row with the least load among the rows with optmem within the ceiling: the sheet's refusals, 12.
 #[unsafe(no_mangle)]
 pub extern "C" fn segtrace_size(sheet: &[u8], ceiling: u64, row: &mut u64) -> u64
-    ensures { (result ≡ verdict_number (size_answer sheet.now ceiling).verdict)
-        × (row.new ≡ or_old (size_answer sheet.now ceiling).verdict
-        (size_answer sheet.now ceiling).row row.old) }
+    ensures { (result ≡ verdict_number (size_answer sheet.now ceiling))
+        × (row.new ≡ or_old itself (size_answer sheet.now ceiling) row.old) }
 {
     lent_calls::size(sheet, ceiling, row)
 }
@@ -194,17 +181,14 @@ pub extern "C" fn segtrace_bill(
     minimum: u64,
     cents: &mut u64,
 ) -> u64
-    ensures { (result ≡ verdict_number (bill_answer sheet.now row memory_rate load_rate minimum).verdict)
-        × (cents.new ≡ or_old (bill_answer sheet.now row memory_rate load_rate minimum).verdict
-        (bill_answer sheet.now row memory_rate load_rate minimum).cents.0 cents.old) }
+    ensures { (result ≡ verdict_number (bill_answer sheet.now row memory_rate load_rate minimum))
+        × (cents.new ≡ or_old in_cents (bill_answer sheet.now row memory_rate load_rate minimum) cents.old) }
 {
-    let answer = analyser::figuring::bill(sheet, row as usize, memory_rate, load_rate, minimum);
-    let verdict = answer.verdict;
-    match verdict {
-        Verdict::Accepted => {
-            *cents = answer.cents.0;
+    match analyser::figuring::bill(sheet, row as usize, memory_rate, load_rate, minimum) {
+        Ok(bill) => {
+            *cents = bill.0;
             0
         }
-        Verdict::Refused(why) => model::number(why),
+        Err(why) => why.number(),
     }
 }

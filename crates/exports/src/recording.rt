@@ -56,7 +56,10 @@ pub extern "C" fn segtrace_recorder_touch(
 pub extern "C" fn segtrace_recorder_idle(counts: &mut [u64; 3]) -> u64
     ensures { IdleCall counts.old counts.new result }
 {
-    model::verdict_number(c_lists::record_numbers::idle(counts))
+    match c_lists::record_numbers::idle(counts) {
+        Ok(()) => 0,
+        Err(why) => why.number(),
+    }
 }
 
 // Takes all references, or none where one would be refused: 4, 13.

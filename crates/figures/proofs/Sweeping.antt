@@ -14,6 +14,7 @@ use Rattle.model.specs.Costs.{unit_cost}
 use Rattle.model.specs.declared.Kind.{Kind}
 use Rattle.model.specs.declared.Kind.TheVariants.{Time, Space}
 use Rattle.model.specs.Rows.{zero_figures}
+use Rattle.model.specs.declared.MemoryUnits.{MemoryUnits}
 use Rattle.model.specs.declared.PriceRow.{PriceRow}
 use Rattle.model.specs.declared.RowFigures.{RowFigures}
 use Rattle.buckets.specs.Buckets.{bucket_count}
@@ -23,11 +24,13 @@ use Rattle.figures.specs.inner.Sweep.{summed, with_start, no_row_figures, Tallie
 use Rattle.figures.specs.inner.OneRow.{by_kind, row_from, most_items, Holds, RowFits}
 use Rattle.buckets.specs.declared.Bucket.{Bucket}
 use Rattle.buckets.specs.declared.Tally.{Tally}
+use Rattle.figures.specs.declared.row_sums.Sums.{Sums}
 use Rattle.figures.specs.declared.rows.StartSwaps.{StartSwaps}
+use Rattle.model.proofs.Units.{memory_is}
 use Rattle.figures.proofs.Limits.{buckets-hold, ends-hold, start-holds, cost_within, volume_within, wsocc_within}
 use Rattle.figures.proofs.Starts.{start_set}
 use Rattle.figures.proofs.Sweeps.{bucket_by, all-sums, kept-sums, ends-sums}
-use Rattle.figures.proofs.SweptRows.{all_sums, kept_sums, end_sums, sweep-parts, wsocc-swept, row-swept}
+use Rattle.figures.proofs.SweptRows.{all_sums, kept_sums, end_sums, swept_sums, sweep-parts, wsocc-swept, row-swept}
 use Rattle.model.proofs.Tables.{tabulate-eq, tabulate-set}
 
 -- the figures of the first n rows of a run, and zeros for the others
@@ -57,6 +60,15 @@ figures-suc rows T n lt e f =
 pub figures-all : (rows : List PriceRow) (T : Trace) → figures_up_to rows T (length rows) ≡ run_figures rows T
 unfolding run_figures
 figures-all rows T = refl
+
+-- sums whose parts are equal
+sums-eq : (s t : Sums) → s.cost.0 ≡ t.cost.0 → s.volume ≡ t.volume → s.all ≡ t.all → s.kept ≡ t.kept → s.ends ≡ t.ends → s ≡ t
+sums-eq s t cost volume all kept ends = parts (memory_is cost) volume all kept ends
+  where
+    parts : {c d : MemoryUnits} {v w : ℕ} {a b k l e f : Bucket} → c ≡ d → v ≡ w → a ≡ b → k ≡ l → e ≡ f
+        → ◌≡◌ {A = Sums} (record { cost = c; volume = v; all = a; kept = k; ends = e })
+        (record { cost = d; volume = w; all = b; kept = l; ends = f })
+    parts c v a k e = rw (c, v, a, k, e)
 
 -- for a tally that belongs to rows and a run
 module _ (rows : List PriceRow) (T : Trace) (tally : Tally) (given : Tallied rows T tally) where
@@ -96,46 +108,49 @@ module _ (rows : List PriceRow) (T : Trace) (tally : Tally) (given : Tallied row
   tallied-all e s = rw (e, s) refl
 
   -- what the sweep has at row r: the row, Q and V, all buckets with the start set and those up to the row, added
-  pub record SweptTo (r : ℕ) (row : PriceRow) (cost volume : ℕ) (all kept ends : Bucket) : Type 0 where
+  pub record SweptTo (r : ℕ) (row : PriceRow) (s : Sums) : Type 0 where
     pub row_is : row ≡ row_in rows r
-    pub cost_is : cost ≡ ref_cost T
-    pub volume_is : volume ≡ ref_volume T
-    pub all_is : all ≡ all_from
-    pub kept_is : kept ≡ summed tally.buckets (suc r)
-    pub ends_is : ends ≡ summed tally.ends (suc r)
+    pub cost_is : s.cost.0 ≡ ref_cost T
+    pub volume_is : s.volume ≡ ref_volume T
+    pub all_is : s.all ≡ all_from
+    pub kept_is : s.kept ≡ summed tally.buckets (suc r)
+    pub ends_is : s.ends ≡ summed tally.ends (suc r)
 
-  module _ (r : ℕ) (lt : r < length rows) {row : PriceRow} {cost volume : ℕ} {all kept ends : Bucket}
-      (at : SweptTo r row cost volume all kept ends) where
-    all_are : all ≡ all_sums T (row_in rows r)
+  module _ (r : ℕ) (lt : r < length rows) {row : PriceRow} {s : Sums} (at : SweptTo r row s) where
+    all_are : s.all ≡ all_sums T (row_in rows r)
     all_are = at.all_is ∙ rw tallied-sums refl
 
-    kept_are : kept ≡ kept_sums T (row_in rows r)
+    kept_are : s.kept ≡ kept_sums T (row_in rows r)
     kept_are = at.kept_is ∙ rw given.is_tally (kept-sums rows given.rows_ok T r lt)
 
-    ends_are : ends ≡ end_sums T (row_in rows r)
+    ends_are : s.ends ≡ end_sums T (row_in rows r)
     ends_are = at.ends_is ∙ rw given.is_tally (ends-sums rows given.rows_ok T r lt)
 
+    sums_are : s ≡ swept_sums T (row_in rows r)
+    sums_are = sums-eq s (swept_sums T (row_in rows r)) at.cost_is at.volume_is all_are kept_are ends_are
+
     -- no figure exceeds 64 bits
-    pub tallied_fits : RowFits T.kind row (steps T) cost volume all kept ends
+    pub tallied_fits : RowFits T.kind row (steps T) s
     tallied_fits =
         let up = given.rows_ok in
         let run = given.run_ok in
         let within : suc r ≤ bucket_count = omega (arith, up.rows_within) in
-        rw (at.row_is, at.cost_is, at.volume_is)
-        (record {
-          all_holds = rw at.all_is all-fits;
-          kept_holds = rw at.kept_is (tallied-buckets (suc r) within);
-          ends_holds = rw at.ends_is (tallied-ends (suc r) within);
-          parts = rw (all_are, kept_are, ends_are) (sweep-parts T (row_in rows r));
-          cost_fits = cost_within T run;
-          volume_fits = volume_within T run;
+        record {
+          summable = record {
+            cost_fits = rw at.cost_is (cost_within T run);
+            volume_fits = rw at.volume_is (volume_within T run);
+            all_holds = rw at.all_is all-fits;
+            kept_holds = rw at.kept_is (tallied-buckets (suc r) within);
+            ends_holds = rw at.ends_is (tallied-ends (suc r) within);
+            parts = rw (all_are, kept_are, ends_are) (sweep-parts T (row_in rows r));
+          };
           wsocc_fits =
-              rw (all_are, kept_are, ends_are, ← wsocc-swept T (row_in rows r))
+              rw (sums_are, at.row_is, ← wsocc-swept T (row_in rows r))
               (wsocc_within T run (row_in rows r).h (row_in rows r).d (up.d_within r lt));
-          some_d = up.some_d r lt;
+          some_d = rw at.row_is (up.some_d r lt);
           refs_fit = run.steps_within;
-        })
+        }
 
     -- and they are the row's
-    pub tallied_row : {x : RowFigures} → x ≡ row_from T.kind T.a row (steps T) cost volume all kept ends → x ≡ figures_in rows T r
-    tallied_row e = e ∙ rw (at.row_is, at.cost_is, at.volume_is, all_are, kept_are, ends_are) (row-swept T (row_in rows r))
+    pub tallied_row : {x : RowFigures} → x ≡ row_from T.kind T.a row (steps T) s → x ≡ figures_in rows T r
+    tallied_row e = e ∙ rw (at.row_is, sums_are) (row-swept T (row_in rows r))

@@ -1,5 +1,5 @@
 -- The sums that the sweep over the rows keeps: one bucket more, and what they are for the buckets of a sheet.
-use Prim.Native.Nat.{ℕ, suc, ◌*◌, ◌≤◌, ◌<◌}
+use Prim.Native.Nat.{ℕ, suc, ◌*◌, ◌^◌, ◌≤◌, ◌<◌}
 use mathlib.Core.Path.{◌≡◌, refl, sym, ◌∙◌}
 use mathlib.Core.Bool.{cond}
 use mathlib.Core.List.{List}
@@ -16,7 +16,8 @@ use Rattle.model.specs.declared.Kind.TheVariants.{Time, Space}
 use Rattle.model.specs.declared.PriceRow.{PriceRow}
 use Rattle.model.proofs.Sums.{sum-eq}
 use Rattle.buckets.specs.Buckets.{bucket_count, filed, ended, bucket_after, end_bucket, tally_of, no_bucket}
-use Rattle.figures.specs.inner.Sweep.{added, summed}
+use Rattle.buckets.specs.inner.Pass.{added, Within}
+use Rattle.figures.specs.inner.Sweep.{summed}
 use Rattle.figures.specs.inner.OneRow.{by_kind, Holds}
 use Rattle.buckets.specs.declared.Bucket.{Bucket}
 use Rattle.model.proofs.Tables.{get_or-tabulate}
@@ -37,6 +38,10 @@ summed-more bs n e f = f ∙ rw e (sym (summed-suc bs n))
 -- what holds at most 256 items holds at most 2,048
 pub holds_more : (b : Bucket) → Holds most_segs b → Holds most_steps b
 holds_more b few = omega arith
+
+-- the sums of at most 2,048 items are far below 64 bits
+pub holds-within : (b : Bucket) → Holds most_steps b → Within b (2 ^ 63)
+holds-within b h = omega arith
 
 -- (u − 1) × z is R × z for kind time and R for kind space
 pub space-of : (kind : Kind) (z : ℕ) (o : Option ℕ)

@@ -15,6 +15,7 @@ use Rattle.model.proofs.Loads.{over_touches-eq}
 use Rattle.figures.specs.inner.Sweep.{with_start}
 use Rattle.figures.specs.inner.OneRow.{by_kind, load_from, wsmem_from, wsspace_from, wsocc_from, row_from, KeptWithin}
 use Rattle.buckets.specs.declared.Bucket.{Bucket}
+use Rattle.figures.specs.declared.row_sums.Sums.{Sums}
 use Rattle.figures.proofs.Starts.{start_set}
 use Rattle.figures.proofs.Sweeps.{bucket_by, space-of}
 use Rattle.figures.proofs.WorkingSets.{touches-split, kept-swaps-within, working-set, smaller-priced, sized-priced}
@@ -37,6 +38,11 @@ module _ (T : Trace) (row : PriceRow) where
 
   abbrev pub end_sums : Bucket
   end_sums = bucket_by T (λ g. over_segments T (λ i. cond (kept T row.h row.d (steps T) i) (g (steps T) i) 0))
+
+  -- with Q and V
+  abbrev pub swept_sums : Sums
+  swept_sums =
+      record { cost = record { 0 = ref_cost T }; volume = ref_volume T; all = all_sums; kept = kept_sums; ends = end_sums }
 
   misses-swept : misses T row.h row.d ≡ all_sums.count - kept_sums.count
   unfolding misses
@@ -90,7 +96,7 @@ module _ (T : Trace) (row : PriceRow) where
         swapzs = kept-swaps-within T h d (λ i. swap_of T i * size_of T i);
       }
 
-  wsmem-swept : wsmem T row.h row.d ≡ wsmem_from row (ref_cost T) all_sums kept_sums end_sums
+  wsmem-swept : wsmem T row.h row.d ≡ wsmem_from row swept_sums
   unfolding wsmem
   wsmem-swept =
       let h = row.h in
@@ -99,7 +105,7 @@ module _ (T : Trace) (row : PriceRow) where
       kept_sums.retention.0 end_sums.retention.0 all_sums.swap.0 kept_sums.swap.0 end_sums.swap.0 sweep-parts.swaps
       (working-set T h d (swap_of T) (smaller T h d) (retention_of T) (smaller-priced T h d))
 
-  wsspace-swept : wsspace T row.h row.d ≡ wsspace_from row (ref_volume T) all_sums kept_sums end_sums
+  wsspace-swept : wsspace T row.h row.d ≡ wsspace_from row swept_sums
   unfolding wsspace
   wsspace-swept =
       let h = row.h in
@@ -109,16 +115,16 @@ module _ (T : Trace) (row : PriceRow) where
       kept_sums.retentionz.0 end_sums.retentionz.0 all_sums.swapz.0 kept_sums.swapz.0 end_sums.swapz.0 sweep-parts.swapzs
       (working-set T h d (λ i. swap_of T i * size_of T i) sized (λ t i. retention_of T t i * size_of T i) (sized-priced T h d))
 
-  pub wsocc-swept : wsocc T row.h row.d ≡ wsocc_from T.kind row (ref_cost T) (ref_volume T) all_sums kept_sums end_sums
+  pub wsocc-swept : wsocc T row.h row.d ≡ wsocc_from T.kind row swept_sums
   unfolding wsocc
   wsocc-swept = go T.kind
     where
       go : (kind : Kind) → elim kind [ Time ↦ wsspace T row.h row.d | Space ↦ wsmem T row.h row.d ]
-          ≡ wsocc_from kind row (ref_cost T) (ref_volume T) all_sums kept_sums end_sums
+          ≡ wsocc_from kind row swept_sums
       go Time = wsspace-swept
       go Space = wsmem-swept
 
   -- every item of the row
-  pub row-swept : row_from T.kind T.a row (steps T) (ref_cost T) (ref_volume T) all_sums kept_sums end_sums ≡ row_figures T row.h row.d
+  pub row-swept : row_from T.kind T.a row (steps T) swept_sums ≡ row_figures T row.h row.d
   unfolding row_from row_figures opttotal mean
   row-swept = rw (misses-swept, volume-swept, load-swept, optmem-swept, optocc-swept, wsmem-swept, wsocc-swept)

@@ -1,12 +1,12 @@
 // The figures of one row from the sums over the buckets: over all, over those that the row keeps, and over the end intervals that it keeps.
 // What those sums must satisfy is written in specs/OneRow.antt.
 ghost use Rattle.std.specs.Prelude.{◌≡◌, ◌+◌, ◌*◌, ◌-◌, ◌≤◌, ◌<◌, ◌^◌};
-ghost use Rattle.model.specs.Sheets.{most_steps, most_segs, largest_size};
+ghost use Rattle.model.specs.Sheets.{most_steps, largest_size};
 ghost use Rattle.figures.specs.inner.OneRow.{by_kind, wsmem_from, wsspace_from, mean_from, row_from};
-ghost use Rattle.figures.specs.inner.OneRow.{most_items, Holds, KeptWithin, Summable, RowFits};
+ghost use Rattle.figures.specs.inner.OneRow.{most_items, Summable, RowFits};
 
 use buckets::Bucket;
-use model::{Kind, LoadUnits, MemoryUnits, PriceRow, RowFigures};
+use model::{Amount, Kind, LoadUnits, MemoryUnits, PriceRow, RowFigures};
 
 // The load of some misses and their sizes.
 fn load_of(a: u8, misses: u64, missed: u64) -> LoadUnits
@@ -23,59 +23,20 @@ pub struct WorkingSet {
     pub space: u64,
 }
 
-// The memory of a working set: Q, and the retentions that the row keeps.
-fn retained(cost: MemoryUnits, kept: Bucket, ends: Bucket) -> MemoryUnits
-    requires { (cost.0 ≤ most_steps * largest_size) × Holds most_steps kept × Holds most_segs ends }
-    ensures { (result.0 ≡ cost.0 + kept.retention.0 + ends.retention.0) × (result.0 < 2 ^ 47) }
+// What the row keeps, with what each reference costs.
+fn retained(refs: MemoryUnits, kept: MemoryUnits, ends: MemoryUnits) -> MemoryUnits
+    requires { refs.0 + kept.0 + ends.0 < 2 ^ 47 }
+    ensures { result.0 ≡ refs.0 + kept.0 + ends.0 }
 {
-    cost.plus(kept.retention).plus(ends.retention)
-}
-
-// The same with each item multiplied by its size: V, and the retentions.
-fn retained_space(volume: u64, kept: Bucket, ends: Bucket) -> MemoryUnits
-    requires { (volume ≤ most_steps * largest_size) × Holds most_steps kept × Holds most_segs ends }
-    ensures { (result.0 ≡ volume + kept.retentionz.0 + ends.retentionz.0) × (result.0 < 2 ^ 47) }
-{
-    MemoryUnits(volume)
-        .plus(kept.retentionz)
-        .plus(ends.retentionz)
+    refs.plus(kept).plus(ends)
 }
 
 // The swap costs that the row does not keep. The end intervals have those of the first touches and of the warm segments.
-fn removed(all: Bucket, kept: Bucket, ends: Bucket) -> LoadUnits
-    requires { Holds most_items all × KeptWithin all kept ends }
-    ensures { (result.0 ≡ all.swap.0 - kept.swap.0 - ends.swap.0) × (result.0 < 2 ^ 47) }
+fn removed(all: LoadUnits, kept: LoadUnits, ends: LoadUnits) -> LoadUnits
+    requires { kept.0 + ends.0 ≤ all.0 }
+    ensures { result.0 ≡ all.0 - kept.0 - ends.0 }
 {
-    all.swap.minus(kept.swap).minus(ends.swap)
-}
-
-// The same with each item multiplied by its size.
-fn removed_space(all: Bucket, kept: Bucket, ends: Bucket) -> LoadUnits
-    requires { Holds most_items all × KeptWithin all kept ends }
-    ensures { (result.0 ≡ all.swapz.0 - kept.swapz.0 - ends.swapz.0) × (result.0 < 2 ^ 47) }
-{
-    all.swapz.minus(kept.swapz).minus(ends.swapz)
-}
-
-// The working set of a row from Q and V, the sums over all buckets and those over what the row keeps.
-pub fn working_set(
-    row: PriceRow,
-    cost: MemoryUnits,
-    volume: u64,
-    all: Bucket,
-    kept: Bucket,
-    ends: Bucket,
-) -> WorkingSet
-    requires { Summable cost.0 volume all kept ends }
-    ensures { result ≡ record { memory = wsmem_from row cost.0 all kept ends; space = wsspace_from row volume all kept ends } }
-{
-    let memory = model::total(row, retained(cost, kept, ends), removed(all, kept, ends));
-    let space = model::total(
-        row,
-        retained_space(volume, kept, ends),
-        removed_space(all, kept, ends),
-    );
-    WorkingSet { memory, space }
+    all.minus(kept).minus(ends)
 }
 
 // One of two numbers, by the kind.
@@ -100,39 +61,62 @@ fn mean(refs: usize, d: u16, wsocc: u64) -> u64
     }
 }
 
-// The figures of a row from the sums over all buckets, over those that the row keeps, and over the end intervals that it keeps.
-pub fn row_figures(
-    kind: Kind,
-    a: u8,
-    row: PriceRow,
-    refs: usize,
-    cost: MemoryUnits,
-    volume: u64,
-    all: Bucket,
-    kept: Bucket,
-    ends: Bucket,
-) -> RowFigures
-    requires { RowFits kind row refs cost.0 volume all kept ends }
-    ensures { result ≡ row_from kind a row refs cost.0 volume all kept ends }
-{
-    let misses = all.count - kept.count;
-    let missed = all.volume - kept.volume;
-    let load = load_of(a, misses, missed);
-    let optmem = cost.plus(kept.retention);
-    let set = working_set(row, cost, volume, all, kept, ends);
-    let wsocc = by_kind(kind, set.space, set.memory);
-    let mean = mean(refs, row.d, wsocc);
-    RowFigures {
-        h: row.h as u64,
-        d: row.d as u64,
-        misses,
-        volume: missed,
-        load,
-        optmem,
-        opttotal: model::total(row, optmem, load),
-        optocc: volume + by_kind(kind, kept.retentionz.0, kept.retention.0),
-        wsmem: set.memory,
-        wsocc,
-        mean,
+// What the figures of a row are made of: Q and V of the references, the sums over all buckets with the swap costs of the warm segments,
+// over those that the row keeps, and over the end intervals that it keeps.
+#[derive(Clone, Copy)]
+pub struct Sums {
+    pub cost: MemoryUnits,
+    pub volume: u64,
+    pub all: Bucket,
+    pub kept: Bucket,
+    pub ends: Bucket,
+}
+
+impl Sums {
+    // The working set of a row.
+    pub fn working_set(&self, row: PriceRow) -> WorkingSet
+        requires { Summable self.now }
+        ensures { result ≡ record { memory = wsmem_from row self.now; space = wsspace_from row self.now } }
+    {
+        let Sums {
+            cost,
+            volume,
+            all,
+            kept,
+            ends,
+        } = *self;
+        let memory = retained(cost, kept.retention, ends.retention);
+        let space = retained(MemoryUnits(volume), kept.retentionz, ends.retentionz);
+        WorkingSet {
+            memory: model::total(row, memory, removed(all.swap, kept.swap, ends.swap)),
+            space: model::total(row, space, removed(all.swapz, kept.swapz, ends.swapz)),
+        }
+    }
+
+    // The figures of a row.
+    pub fn figures(&self, kind: Kind, a: u8, row: PriceRow, refs: usize) -> RowFigures
+        requires { RowFits kind row refs self.now }
+        ensures { result ≡ row_from kind a row refs self.now }
+    {
+        let kept = self.kept;
+        let misses = self.all.count - kept.count;
+        let missed = self.all.volume - kept.volume;
+        let load = load_of(a, misses, missed);
+        let optmem = self.cost.plus(kept.retention);
+        let set = self.working_set(row);
+        let wsocc = by_kind(kind, set.space, set.memory);
+        RowFigures {
+            h: row.h as u64,
+            d: row.d as u64,
+            misses,
+            volume: missed,
+            load,
+            optmem,
+            opttotal: model::total(row, optmem, load),
+            optocc: self.volume + by_kind(kind, kept.retentionz.0, kept.retention.0),
+            wsmem: set.memory,
+            wsocc,
+            mean: mean(refs, row.d, wsocc),
+        }
     }
 }

@@ -1,53 +1,26 @@
 // The figures of every row from the buckets of the pass: one sweep over the rows with running sums.
-ghost use Rattle.std.specs.Prelude.{◌≡◌, ℕ, ◌≤◌, ◌<◌, ◌^◌, cond, eqb, length, take};
+ghost use Rattle.std.specs.Prelude.{◌≡◌, ℕ, ◌≤◌, ◌<◌, ◌^◌, cond, eqb, length};
 ghost use Rattle.model.specs.Costs.{swap_cost};
-ghost use Rattle.model.specs.Sheets.{run_of, most_steps, most_segs, most_rows};
-ghost use Rattle.buckets.specs.Buckets.{bucket_count, no_bucket};
+ghost use Rattle.model.specs.Sheets.{head_run, most_steps, most_segs};
+ghost use Rattle.model.specs.Values.{head_value_of};
+ghost use Rattle.buckets.specs.Buckets.{bucket_count};
+ghost use Rattle.buckets.specs.inner.Pass.{InLimits};
 ghost use Rattle.model.specs.RowAnswers.{run_figures};
-ghost use Rattle.figures.specs.inner.Sweep.{added, summed, start_swaps, with_start, no_row_figures, Tallied};
+ghost use Rattle.figures.specs.inner.Sweep.{summed, start_swaps, with_start, no_row_figures, Tallied};
 ghost use Rattle.figures.specs.inner.OneRow.{most_items, Holds};
 
+use crate::row_sums::Sums;
 use buckets::{Bucket, Tally};
-use model::{Kind, LoadUnits, MemoryUnits, PriceRow, RowFigures, Sheet};
-
-// A bucket that holds nothing.
-fn none() -> Bucket
-    ensures { result ≡ no_bucket }
-{
-    Bucket {
-        count: 0,
-        volume: 0,
-        retention: MemoryUnits(0),
-        swap: LoadUnits(0),
-        retentionz: MemoryUnits(0),
-        swapz: LoadUnits(0),
-    }
-}
-
-// Two buckets, each sum added.
-fn add(x: Bucket, y: Bucket) -> Bucket
-    requires { Holds most_steps (added x y) }
-    ensures { result ≡ added x y }
-{
-    Bucket {
-        count: x.count + y.count,
-        volume: x.volume + y.volume,
-        retention: x.retention.plus(y.retention),
-        swap: x.swap.plus(y.swap),
-        retentionz: x.retentionz.plus(y.retentionz),
-        swapz: x.swapz.plus(y.swapz),
-    }
-}
+use model::{Amount, Head, LoadUnits, MemoryUnits, RowFigures, Sheet};
 
 // All 65 buckets added.
-fn add_up(buckets: [Bucket; Tally::BUCKETS]) -> Bucket
-    requires { (n : ℕ) → n ≤ bucket_count → Holds most_steps (summed buckets n) }
-    ensures { result ≡ summed buckets bucket_count }
+fn add_up(buckets: &[Bucket; Tally::BUCKETS]) -> Bucket
+    requires { (n : ℕ) → n ≤ bucket_count → Holds most_steps (summed buckets.now n) }
+    ensures { result ≡ summed buckets.now bucket_count }
 {
-    let mut all = none();
-    for k in 0..Tally::BUCKETS {
-        let b = buckets[k];
-        all = add(all, b);
+    let mut all = Bucket::EMPTY;
+    for b in buckets {
+        all = all.plus(*b);
     }
     all
 }
@@ -77,17 +50,14 @@ pub fn start_swaps(a: u8, sizes: &[u16], warm: &[u16]) -> StartSwaps
 {
     let mut swap = LoadUnits(0);
     let mut swapz = LoadUnits(0);
-    if warm.len() == 0 {
+    if warm.is_empty() {
         return StartSwaps { swap, swapz };
     }
     let table = model::start_table(warm);
-    let mut i = 0;
-    while i < sizes.len() {
-        let z = sizes[i];
-        let w = start_swap(a, z, table[i]);
+    for (&z, &mark) in sizes.iter().zip(&table) {
+        let w = start_swap(a, z, mark);
         swap = swap.plus(w);
         swapz = swapz.plus(w.times(z));
-        i += 1;
     }
     StartSwaps { swap, swapz }
 }
@@ -106,51 +76,38 @@ fn with_start(mut b: Bucket, start: StartSwaps) -> Bucket
 fn no_figures() -> [RowFigures; Sheet::MAX_ROWS]
     ensures { result ≡ no_row_figures }
 {
-    let zero = RowFigures::zero();
-    [zero; Sheet::MAX_ROWS]
+    [RowFigures::zero(); Sheet::MAX_ROWS]
 }
 
 // The figures of every row from the buckets and the warm segments; zeros beyond the rows. Q and V are sums over the touches alone.
-pub fn all_rows(
-    kind: Kind,
-    a: u8,
-    prices: [PriceRow; Sheet::MAX_ROWS],
-    rows: usize,
-    sizes: &[u16],
-    warm: &[u16],
-    refs: &[u16],
-    tally: Tally,
-) -> [RowFigures; Sheet::MAX_ROWS]
-    requires { (rows ≤ most_rows) × Tallied (take rows prices) (run_of kind a sizes.now warm.now refs.now) tally }
-    ensures { result ≡ run_figures (take rows prices) (run_of kind a sizes.now warm.now refs.now) }
+// Not inlined: so its arrays are off the stack while its caller makes other calls.
+#[inline(never)]
+pub fn all_rows(head: Head, refs: &[u16], tally: &Tally) -> [RowFigures; Sheet::MAX_ROWS]
+    requires { InLimits head refs.now
+        × Tallied (head_value_of head).rows (head_run (head_value_of head) refs.now) tally.now }
+    ensures { result ≡ run_figures (head_value_of head).rows (head_run (head_value_of head) refs.now) }
 {
-    let steps = refs.len();
-    let buckets = tally.buckets;
-    let tally_ends = tally.ends;
-    let touches = add_up(buckets);
-    let start = start_swaps(a, sizes, warm);
-    let all = with_start(touches, start);
-    let cost = MemoryUnits(crate::row_sums::by_kind(kind, touches.count, touches.volume));
-    let mut kept = none();
-    let mut ends = none();
+    let touches = add_up(&tally.buckets);
+    let sizes = &head.sizes[..head.segs];
+    let warm = &head.holds[..head.warm];
+    let all = with_start(touches, start_swaps(head.a, sizes, warm));
+    let volume = touches.volume;
+    let cost = MemoryUnits(crate::row_sums::by_kind(head.kind, touches.count, volume));
+    let mut kept = Bucket::EMPTY;
+    let mut ends = Bucket::EMPTY;
     let mut out = no_figures();
-    for r in 0..rows {
-        let b = buckets[r];
-        let e = tally_ends[r];
-        kept = add(kept, b);
-        ends = add(ends, e);
-        let row = prices[r];
-        out[r] = crate::row_sums::row_figures(
-            kind,
-            a,
-            row,
-            steps,
+    let rows = &head.prices[..head.rows];
+    for (r, &row) in rows.iter().enumerate() {
+        kept = kept.plus(tally.buckets[r]);
+        ends = ends.plus(tally.ends[r]);
+        let sums = Sums {
             cost,
-            touches.volume,
+            volume,
             all,
             kept,
             ends,
-        );
+        };
+        out[r] = sums.figures(head.kind, head.a, row, refs.len());
     }
     out
 }

@@ -1,6 +1,6 @@
 -- Each refusal, and that two sheets join, by what was told of the two sheets by value.
-use Prim.Native.Nat.{ℕ, ◌+◌, ◌≤◌, ◌<◌, max}
-use mathlib.Core.Path.{◌≡◌, sym, ap, ◌∙◌}
+use Prim.Native.Nat.{◌+◌, ◌≤◌, ◌<◌, max}
+use mathlib.Core.Path.{◌≡◌, sym, ◌∙◌}
 use mathlib.Core.Bool.{Bool, true, false}
 use native.Mathlib.Omega.{arith}
 use borrow.Author.Tests.{le-leb, lt-leb}
@@ -15,7 +15,6 @@ use Rattle.sheet.specs.Reading.{rejected}
 use Rattle.joint.specs.Joining.{join_of}
 use Rattle.joint.specs.Joint.{same_heads, both_touch, joint_steps, Joins}
 use Rattle.joint.proofs.Joining.{join-differs, join-both, join-many}
-use Rattle.join.proofs.Held.{steps-joint}
 
 -- by what was told of the heads, b, and of the touches, t
 module _ (first second : Sheet) (p : Standing first) (q : Standing second) (b : Bool)
@@ -27,12 +26,13 @@ module _ (first second : Sheet) (p : Standing first) (q : Standing second) (b : 
   pub told-differs : b ≡ false → join_of (value_of first) (value_of second) ≡ rejected HeadsDiffer
   told-differs e = join-differs (value_of first) (value_of second) (heads-told ∙ e)
 
-  module _ (same : b ≡ true) (n : ℕ) (steps : n ≡ max first.steps second.steps) (t : Bool)
-      (touches : t ≡ both_touch (take first.steps first.touches) (take second.steps second.touches) n) where
+  module _ (same : b ≡ true) (t : Bool)
+      (touches : let xs = take first.steps first.touches in
+      let ys = take second.steps second.touches in
+      t ≡ both_touch xs ys (max (length xs) (length ys))) where
     touches-told : both_touch (value_of first).entries (value_of second).entries (joint_steps (value_of first) (value_of second)) ≡ t
     unfolding value_of
-    touches-told =
-        ap (both_touch (value_of first).entries (value_of second).entries) (steps-joint first second p q ∙ sym steps) ∙ sym touches
+    touches-told = sym touches
 
     pub told-both : t ≡ true → join_of (value_of first) (value_of second) ≡ rejected BothTouch
     told-both e = join-both (value_of first) (value_of second) (heads-told ∙ same) (touches-told ∙ e)

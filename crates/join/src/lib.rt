@@ -10,52 +10,28 @@ ghost use Rattle.model.specs.Sheets.{idle, most_steps};
 ghost use Rattle.model.specs.Standing.{Standing};
 ghost use Rattle.model.specs.Values.{value_of};
 ghost use Rattle.sheet.specs.Answers.{answer_of};
-ghost use Rattle.sheet.specs.Reading.{rejected};
 ghost use Rattle.joint.specs.Joining.{join_of};
 ghost use Rattle.join.specs.inner.Entries.{IsEntry};
 ghost use Rattle.join.specs.inner.Heads.{HeadsFit};
 ghost use Rattle.join.specs.inner.Parts.{joint_sheet_of};
 
-use model::{Head, Refusal, Sheet, Verdict};
-use sheet::SheetAnswer;
+use model::{Head, Refusal, Sheet};
 
 // The form of a joint sheet.
 const FORM: u8 = 3;
 
-// The larger of the two.
-fn larger(a: usize, b: usize) -> usize
-    ensures { result ≡ max a b }
-{
-    if a < b {
-        return b;
-    }
-    a
-}
-
-// The answer where the two sheets do not join.
-fn refused(why: Refusal) -> SheetAnswer
-    ensures { result ≡ answer_of (rejected why) }
-{
-    SheetAnswer {
-        verdict: Verdict::Refused(why),
-        sheet: Sheet::empty(),
-    }
-}
-
 // The joint sheet by the heads and the entries of two sheets.
-fn joint_sheet(p: Head, q: Head, xs: &[u16], ys: &[u16]) -> Sheet
-    requires { HeadsFit p q × (length xs.now ≤ most_steps) × (length ys.now ≤ most_steps)
+fn joint_sheet(p: &Head, q: &Head, xs: &[u16], ys: &[u16]) -> Sheet
+    requires { HeadsFit p.now q.now × (length xs.now ≤ most_steps) × (length ys.now ≤ most_steps)
         × ((t : ℕ) → IsEntry (get_or ys.now t idle)) }
-    ensures { result ≡ joint_sheet_of p q xs.now ys.now }
+    ensures { result ≡ joint_sheet_of p.now q.now xs.now ys.now }
 {
-    let head = joint_heads::joint_head(p, q);
-    let n = p.segs as u16;
-    let steps = larger(xs.len(), ys.len());
+    let steps = xs.len().max(ys.len());
     Sheet {
         form: FORM,
-        head: head,
-        steps: steps,
-        touches: joint_entries::joint_touches(n, xs, ys, steps),
+        head: joint_heads::joint_head(p, q),
+        steps,
+        touches: joint_entries::joint_touches(p.segs as u16, xs, ys, steps),
         marked: 0,
         marks: [false; Sheet::MAX_STEPS],
     }
@@ -63,27 +39,22 @@ fn joint_sheet(p: Head, q: Head, xs: &[u16], ys: &[u16]) -> Sheet
 
 // Two accepted sheets as one: 20 where kind, a or a row line differs, then 21 where both touch in one step, then 22 where they have more
 // than 256 segments together.
-pub fn join(first: Sheet, second: Sheet) -> SheetAnswer
+pub fn join(first: Sheet, second: Sheet) -> Result<Sheet, Refusal>
     requires { Standing first × Standing second }
     ensures { result ≡ answer_of (join_of (value_of first) (value_of second)) }
 {
-    let p = first.head;
-    let q = second.head;
+    let p = &first.head;
+    let q = &second.head;
     if !joint_heads::same_heads(p, q) {
-        return refused(Refusal::HeadsDiffer);
+        return Err(Refusal::HeadsDiffer);
     }
-    let xs = first.touches;
-    let ys = second.touches;
-    let x_end = first.steps;
-    let y_end = second.steps;
-    if joint_entries::both_touch(&xs[..x_end], &ys[..y_end], larger(x_end, y_end)) {
-        return refused(Refusal::BothTouch);
+    let xs = &first.touches[..first.steps];
+    let ys = &second.touches[..second.steps];
+    if joint_entries::both_touch(xs, ys) {
+        return Err(Refusal::BothTouch);
     }
     if Sheet::MAX_SEGS < p.segs + q.segs {
-        return refused(Refusal::TooManySegments);
+        return Err(Refusal::TooManySegments);
     }
-    SheetAnswer {
-        verdict: Verdict::Accepted,
-        sheet: joint_sheet(p, q, &xs[..x_end], &ys[..y_end]),
-    }
+    Ok(joint_sheet(p, q, xs, ys))
 }

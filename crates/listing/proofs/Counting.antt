@@ -1,13 +1,14 @@
 -- Counting the references of a standing sheet: the entries that are segments, one step after another.
-use Prim.Native.Nat.{ℕ, ◌+◌, ◌≤◌, ◌<◌}
+use Prim.Native.Nat.{ℕ, zero, suc, ◌≤◌}
 use mathlib.Core.Path.{◌≡◌, sym, ap, ◌∙◌}
-use mathlib.Core.Logic.{◌⊎◌, ⊎_elim}
 use mathlib.Core.Bool.{cond}
 use mathlib.Core.List.{List}
-use native.Mathlib.Numerals.{add-one}
 use native.Mathlib.Omega.{arith}
-use borrow.Author.Tests.{lt-ltb, le-ltb}
-use lib.ListN.{get_or}
+use borrow.Table.Steps.{cases}
+use lib.ListN.{length, take, get_or, length-append}
+use lib.Seq.{take-suc}
+use Rattle.std.specs.List.{filter}
+use Rattle.std.proofs.lemmas.List.Elements.{filter-append}
 use lib.Dec.{ltb}
 use Rattle.model.specs.Sheets.{trace_of}
 use Rattle.model.specs.Standing.{Standing}
@@ -22,31 +23,14 @@ use Rattle.model.proofs.Sums.{sum-suc, sum-none, sum-eq}
 abbrev pub touches_by : ℕ → List ℕ → ℕ → ℕ
 touches_by segs touches t = sum t (λ k. cond (ltb (get_or touches k 0) segs) 1 0)
 
--- refs counts them, after t of the steps
-pub record Counted (segs steps : ℕ) (touches : List ℕ) (t refs : ℕ) : Type 0 where
-  pub within : t ≤ steps
-  pub few : refs ≤ t
-  pub is : refs ≡ touches_by segs touches t
-
-module _ (segs steps : ℕ) (touches : List ℕ) where
-  -- before the first step
-  pub counted_none : Counted segs steps touches 0 0
-  counted_none = record { within = omega arith; few = omega arith; is = sym (sum-none _) }
-
-  -- one step more
-  pub counted_next : (t refs next : ℕ) → Counted segs steps touches t refs → t < steps
-      → ((get_or touches t 0 < segs) × (next ≡ refs + 1)) ⊎ ((segs ≤ get_or touches t 0) × (next ≡ refs))
-      → Counted segs steps touches (t + 1) next
-  counted_next t refs next c lt =
-      ⊎_elim
-      (λ w. counted (omega (arith, w.1)) (let e = rw (lt-ltb (get_or touches t 0) segs w.0) at step in omega (arith, e, c.is, w.1)))
-      (λ w. counted (omega (arith, w.1)) (let e = rw (le-ltb (get_or touches t 0) segs w.0) at step in omega (arith, e, c.is, w.1)))
-    where
-      step : touches_by segs touches (t + 1) ≡ touches_by segs touches t + cond (ltb (get_or touches t 0) segs) 1 0
-      step = rw (add-one t) (sum-suc t _)
-
-      counted : next ≤ t + 1 → next ≡ touches_by segs touches (t + 1) → Counted segs steps touches (t + 1) next
-      counted few is = record { within = omega arith; few = few; is = is }
+-- they are as many as the filtered ones
+pub filtered-count : (segs : ℕ) (touches : List ℕ) (t : ℕ) → t ≤ length touches
+    → length (filter (λ x. ltb x segs) (take t touches)) ≡ touches_by segs touches t
+filtered-count segs touches zero h = sym (sum-none _)
+filtered-count segs touches (suc t) h =
+    let x = get_or touches t 0 in
+    rw (take-suc touches t 0 (omega arith), filter-append, length-append, filtered-count segs touches t (omega arith), sum-suc t _)
+    (cases (ltb x segs) (λ e. rw e) (λ e. rw e))
 
 -- after all steps they are the references of the sheet
 pub counted-all : (s : Sheet) → Standing s → touches_by s.head.segs s.touches s.steps ≡ refs_of (trace_of (value_of s))

@@ -6,7 +6,6 @@ use mathlib.Core.List.{List}
 use native.Mathlib.Omega.{arith}
 use lib.ListN.{length, get_or}
 use lib.Dec.{leb, ltb}
-use lib.Seq.{take_all}
 use borrow.Table.Steps.{cases}
 use Rattle.model.specs.Figures.{load}
 use Rattle.model.specs.Refusals.{number_of}
@@ -42,7 +41,7 @@ use Rattle.model.proofs.FigureBounds.{
 use Rattle.stores.specs.Rows.{row_modtotal}
 use Rattle.store_plan.proofs.RowTotals.{modtotal-within}
 use Rattle.listing.proofs.RowLines.{rows-most}
-use Rattle.listing.proofs.RowParts.{three-length, row-length, marked-length}
+use Rattle.listing.proofs.RowParts.{row-length, marked-length}
 use Rattle.listing.proofs.ListingParts.{counts-length, head-length, listing-length}
 
 -- the digits that the figures of a row can have
@@ -84,9 +83,6 @@ row-most f w =
     omega (
       arith,
       row-length f,
-      three-length misses_key f.misses volume_key f.volume load_key f.load.0,
-      three-length optmem_key f.optmem.0 opttotal_key f.opttotal optocc_key f.optocc,
-      three-length wsmem_key f.wsmem wsocc_key f.wsocc mean_key f.mean,
       number-within h_key 4 f.h w.h_digits,
       number-within d_key 4 f.d w.d_digits,
       number-within misses_key 3 f.misses w.misses_digits,
@@ -133,7 +129,7 @@ all_most : (form refs steps segs : ℕ) (fs : List RowFigures) (ms : List ℕ) �
 all_most form refs steps segs fs ms r t s few row =
     go (leb 4 form) few (head-most form refs steps segs (length fs) r t s (omega arith))
     (rows-most form fs ms (row_bytes (leb 4 form)) row)
-    (rw (take_all (length fs) fs (omega arith)) at (listing-length form refs steps segs (length fs) fs ms (omega arith)))
+    (listing-length form refs steps segs fs ms)
   where
     go : (b : Bool) {n rows head all : ℕ} → n ≤ 64 → head ≤ 38 → rows ≤ n * row_bytes b → all ≡ head + rows
         → all ≤ cond b most_listing older_listing

@@ -1,11 +1,10 @@
 -- The listing in the parts in which it is written, and the lengths of the parts.
-use Prim.Native.Nat.{ℕ, ◌+◌, ◌≤◌, ◌<◌}
+use Prim.Native.Nat.{ℕ, ◌+◌, ◌<◌}
 use mathlib.Core.Path.{◌≡◌, ap, ◌∙◌}
 use mathlib.Core.Bool.{true, false}
 use mathlib.Core.List.{List, ◌++◌, append_assoc, append-nil}
-use lib.ListN.{length, take, get_or, length-append}
+use lib.ListN.{length, get_or, length-append}
 use lib.Dec.{leb}
-use lib.Seq.{length-take-le}
 use Rattle.model.specs.declared.RowFigures.{RowFigures}
 use Rattle.text.specs.Keys.{refs_key, steps_key, segs_key, rows_key}
 use Rattle.text.specs.Texts.{number_text}
@@ -48,21 +47,20 @@ module _ (form refs steps : ℕ) where
     unfolding listing
     listing-same fs ms ns same = rw (rows_same (leb 4 form) fs ms ns same)
 
-    module _ (n : ℕ) (fs : List RowFigures) (ms : List ℕ) (h : n ≤ length fs) where
-      -- the listing of the first n rows
-      pub listing-parts : head_text form refs steps segs n ++ rows_listing (leb 4 form) (take n fs) ms
-          ≡ listing form refs steps segs (take n fs) ms
+    module _ (fs : List RowFigures) (ms : List ℕ) where
+      -- the listing
+      pub listing-parts : head_text form refs steps segs (length fs) ++ rows_listing (leb 4 form) fs ms
+          ≡ listing form refs steps segs fs ms
       unfolding listing head_text counts_text
       listing-parts =
-          rw (length-take-le n fs h)
-          (five (number_text refs_key refs) (steps_listing form steps) (number_text segs_key segs) (number_text rows_key n)
-          (rows_listing (leb 4 form) (take n fs) ms))
+          five (number_text refs_key refs) (steps_listing form steps) (number_text segs_key segs) (number_text rows_key (length fs))
+          (rows_listing (leb 4 form) fs ms)
         where
           five : (a b c d e : List ℕ) → ((a ++ b) ++ (c ++ d)) ++ e ≡ a ++ (b ++ (c ++ (d ++ e)))
           five a b c d e = simp append_assoc
 
       -- and its length
-      pub listing-length : length (listing form refs steps segs (take n fs) ms)
-          ≡ length (head_text form refs steps segs n) + length (rows_listing (leb 4 form) (take n fs) ms)
+      pub listing-length : length (listing form refs steps segs fs ms)
+          ≡ length (head_text form refs steps segs (length fs)) + length (rows_listing (leb 4 form) fs ms)
       listing-length =
-          rw (← listing-parts) (length-append (head_text form refs steps segs n) (rows_listing (leb 4 form) (take n fs) ms))
+          rw (← listing-parts) (length-append (head_text form refs steps segs (length fs)) (rows_listing (leb 4 form) fs ms))

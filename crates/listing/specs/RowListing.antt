@@ -78,10 +78,6 @@ rows_listing marked (f ∷ fs) ms = row_listing f ++ (mod_listing marked (get_or
 
 -- ---- the parts in which they are written
 
--- three lines with a number each
-unfoldable pub three_text : List ℕ → ℕ → List ℕ → ℕ → List ℕ → ℕ → List ℕ
-three_text k x l y m z = number_text k x ++ (number_text l y ++ number_text m z)
-
 -- the lines of a row, and for form 4 on modtotal=
 unfoldable pub marked_text : ℕ → RowFigures → ℕ → List ℕ
 marked_text form f modtotal = row_listing f ++ mod_listing (leb 4 form) modtotal

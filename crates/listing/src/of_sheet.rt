@@ -1,14 +1,17 @@
 // The listing of an accepted sheet, written into a lent place.
 // What the text is stands in specs/Listing.antt.
-ghost use Rattle.std.specs.Prelude.{◌≡◌};
-ghost use Rattle.model.specs.Places.{gives, PlaceLeft};
+ghost use Rattle.std.specs.Prelude.{◌≡◌, Ok};
+ghost use Rattle.model.specs.Places.{PlaceLeft};
 ghost use Rattle.model.specs.Sheets.{trace_of};
 ghost use Rattle.model.specs.Standing.{Standing};
 ghost use Rattle.model.specs.Traces.{refs_of};
 ghost use Rattle.model.specs.Values.{value_of};
 ghost use Rattle.listing.specs.Listing.{listing_of};
 
-use model::{PlaceAnswer, Sheet};
+use crate::Listing;
+use crate::row_text::has_modtotal;
+use model::{Refusal, Sheet};
+use store_plan::modtotals;
 
 // How many references an accepted sheet has: the steps whose entry is a segment.
 pub fn sheet_refs(s: Sheet) -> usize
@@ -16,38 +19,32 @@ pub fn sheet_refs(s: Sheet) -> usize
     ensures { result ≡ refs_of (trace_of (value_of s)) }
 {
     let segs = s.head.segs;
-    let steps = s.steps;
     let touches = s.touches;
-    let mut refs = 0;
-    let mut t = 0;
-    while t < steps {
-        if (touches[t] as usize) < segs {
-            refs += 1;
-        }
-        t += 1;
-    }
-    refs
+    touches[..s.steps]
+        .iter()
+        .filter(|x| (**x as usize) < segs)
+        .count()
 }
 
 // The listing of an accepted sheet into a lent place, or 11.
-pub fn sheet_listing(s: Sheet, out: &mut [u8]) -> PlaceAnswer
+pub fn sheet_listing(s: Sheet, out: &mut [u8]) -> Result<usize, Refusal>
     requires { Standing s }
-    ensures { PlaceLeft (gives (listing_of (value_of s))) out.old out.new result }
+    ensures { PlaceLeft (Ok (listing_of (value_of s))) out.old out.new result }
 {
     let all = rows::all_figures(s);
     let refs = sheet_refs(s);
-    let mut totals = store_plan::modtotals::no_modtotals();
-    if crate::row_text::has_modtotal(s.form) {
-        totals = store_plan::modtotals::all_modtotals(s, all);
-    }
-    crate::write(
-        s.form,
+    let totals = if has_modtotal(s.form) {
+        modtotals::all_modtotals(s, all)
+    } else {
+        modtotals::no_modtotals()
+    };
+    let shown = Listing {
+        form: s.form,
         refs,
-        s.steps,
-        s.head.segs,
-        all,
-        totals,
-        s.head.rows,
-        out,
-    )
+        steps: s.steps,
+        segs: s.head.segs,
+        figures: &all[..s.head.rows],
+        modtotals: &totals,
+    };
+    shown.write(out)
 }

@@ -9,6 +9,9 @@ use lib.Dec.{eqb, ltb}
 use lib.ListN.{length, get_or, take, drop, drop_of_length-le}
 use lib.Seq.{drop-cons}
 use borrow.Author.Tests.{lt-ltb, le-ltb, ltb-true, ltb-false, eqb-true, eq-eqb, ne_eqb}
+use Rattle.std.specs.Prelude.{Option, Some, None, MatchOption}
+use Rattle.std.specs.List.{position_or_len}
+use Rattle.std.proofs.lemmas.List.Recursion.{is_position_or_len}
 use Rattle.model.specs.Traces.{later}
 use Rattle.replacement.specs.Memory.{has}
 use Rattle.replacement.specs.Orders.{place_of, without}
@@ -35,6 +38,21 @@ index-here x l i e lt same =
 pub index-none : (x : ℕ) (l : List ℕ) (i : ℕ) → PassedBy x l i → length l ≤ i → i ≡ frame_in x l
 unfolding frame_in
 index-none x l i e le = sym (e ∙ (ap (λ (r : List ℕ). i + frame_in x r) (drop_of_length-le l le) ∙ omega arith))
+
+-- what the library's `position` gives is that place
+frame-position : (x : ℕ) (l : List ℕ) → frame_in x l ≡ position_or_len (λ y. eqb y x) l
+unfolding frame_in
+frame-position x l =
+    is_position_or_len (frame_in x) (λ y. eqb y x) refl (λ y ys. ap (λ (k : ℕ). cond (eqb y x) 0 k) (omega arith)) l
+
+pub position-index : (x : ℕ) (l : List ℕ) (r : Option ℕ)
+    → r ≡ cond (ltb (position_or_len (λ y. eqb y x) l) (length l)) (Some (position_or_len (λ y. eqb y x) l)) None
+    → MatchOption r (length l ≤ frame_in x l) (λ p. (p < length l) × (p ≡ frame_in x l))
+position-index x l r e = go (ltb (frame_in x l) (length l)) refl
+  where
+    go : (b : Bool) → ltb (frame_in x l) (length l) ≡ b → MatchOption r (length l ≤ frame_in x l) (λ p. (p < length l) × (p ≡ frame_in x l))
+    go true h = rw (e, ← frame-position x l, h) (ltb-true _ _ h, refl)
+    go false h = rw (e, ← frame-position x l, h) (ltb-false _ _ h)
 
 ltb-suc : (a b : ℕ) → ltb (suc a) (suc b) ≡ ltb a b
 ltb-suc a b = go (ltb a b) refl

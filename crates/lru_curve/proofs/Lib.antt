@@ -5,9 +5,7 @@ pub mod Fronts
 pub mod Indexes
 pub mod Ones
 pub mod Passes
-pub mod Shifts
 pub mod Simulations
 pub mod Sums
 pub mod Turns
-pub mod Walks
 pub mod Writing

@@ -1,19 +1,18 @@
--- Whether every size is 1, one after the other: one more, one that is not, and the end; and what an accepted sheet then is known to be.
-use Prim.Native.Nat.{ℕ, ◌+◌, ◌≤◌, ◌<◌}
-use mathlib.Core.Path.{◌≡◌, refl, sym, ap, ◌∙◌}
-use mathlib.Core.Bool.{Bool, true, false, cond}
+-- Whether every size is 1, and what an accepted sheet then is known to be.
+use Rattle.std.specs.Prelude.{Ok, Err}
+use Prim.Native.Nat.{ℕ}
+use mathlib.Core.Path.{◌≡◌, refl, ap}
+use mathlib.Core.Bool.{Bool, true, false, cond, ◌&&◌}
 use mathlib.Core.List.{List, [], ◌∷◌}
-use native.Mathlib.Numerals.{add-one}
 use native.Mathlib.Omega.{arith}
 use lib.Dec.{eqb}
-use lib.ListN.{length, get_or, drop, drop_of_length-le}
-use lib.Seq.{drop-cons}
-use borrow.Author.Tests.{eq-eqb, ne_eqb, eqb-true}
+use lib.ListN.{length}
+use borrow.Author.Tests.{eqb-true}
+use Rattle.std.specs.List.{list_all}
 use Rattle.model.specs.Refusals.{verdict_number}
 use Rattle.model.specs.Sheets.{SheetValue, trace_of}
 use Rattle.model.specs.Traces.{Trace}
 use Rattle.model.specs.declared.Refusal.TheVariants.{SizeNotOne, WarmSegment}
-use Rattle.model.specs.declared.Verdict.TheVariants.{Accepted, Refused}
 use Rattle.replacement.specs.Answers.{all_ones, ones_verdict}
 use Rattle.lru_curve.specs.inner.Left.{EveryRun}
 
@@ -22,47 +21,40 @@ pub length-zero : (l : List ℕ) → length l ≡ 0 → l ≡ []
 length-zero [] e = refl
 length-zero (x ∷ l) e = absurd (omega arith)
 
-module _ (l : List ℕ) (i : ℕ) where
-  pub ones-next : i < length l → get_or l i 0 ≡ 1 → all_ones (drop (i + 1) l) ≡ all_ones (drop i l)
-  unfolding all_ones
-  ones-next lt e = sym (ap all_ones (drop-cons l i 0 lt) ∙ rw (eq-eqb (get_or l i 0) 1 e, add-one i))
-
-  pub ones-other : i < length l → (get_or l i 0 ≡ 1 → ⊥) → all_ones (drop i l) ≡ false
-  unfolding all_ones
-  ones-other lt e = ap all_ones (drop-cons l i 0 lt) ∙ rw (ne_eqb (get_or l i 0) 1 e)
-
-  pub ones-end : length l ≤ i → all_ones (drop i l) ≡ true
-  unfolding all_ones
-  ones-end le = ap all_ones (drop_of_length-le l le)
+-- what the library's `all` says of the sizes
+pub ones-listed : (l : List ℕ) → list_all (λ z. eqb z 1) l ≡ all_ones l
+unfolding all_ones
+ones-listed [] = refl
+ones-listed (z ∷ zs) = ap (λ (b : Bool). eqb z 1 && b) (ones-listed zs)
 
 -- the verdict by its tests
 module _ (sizes : List ℕ) (warm : ℕ) where
-  pub verdict-size : all_ones sizes ≡ false → ones_verdict sizes warm ≡ Refused SizeNotOne
+  pub verdict-size : all_ones sizes ≡ false → ones_verdict sizes warm ≡ Err SizeNotOne
   unfolding ones_verdict
   verdict-size other = rw other
 
-  pub verdict-warm : all_ones sizes ≡ true → eqb warm 0 ≡ false → ones_verdict sizes warm ≡ Refused WarmSegment
+  pub verdict-warm : all_ones sizes ≡ true → eqb warm 0 ≡ false → ones_verdict sizes warm ≡ Err WarmSegment
   unfolding ones_verdict
   verdict-warm ones some = rw (ones, some)
 
-  pub verdict-ones : all_ones sizes ≡ true → eqb warm 0 ≡ true → ones_verdict sizes warm ≡ Accepted
+  pub verdict-ones : all_ones sizes ≡ true → eqb warm 0 ≡ true → ones_verdict sizes warm ≡ (Ok tt)
   unfolding ones_verdict
   verdict-ones ones none = rw (ones, none)
 
   -- accepted, every size is 1 and none is warm
-  pub accepted-ones : ones_verdict sizes warm ≡ Accepted → (all_ones sizes ≡ true) × (warm ≡ 0)
+  pub accepted-ones : ones_verdict sizes warm ≡ (Ok tt) → (all_ones sizes ≡ true) × (warm ≡ 0)
   unfolding ones_verdict
   accepted-ones e = go (all_ones sizes) refl (eqb warm 0) refl (ap verdict_number e)
     where
       go : (b : Bool) → all_ones sizes ≡ b → (c : Bool) → eqb warm 0 ≡ c
-          → verdict_number (cond (all_ones sizes) (cond (eqb warm 0) Accepted (Refused WarmSegment)) (Refused SizeNotOne)) ≡ 0
+          → verdict_number (cond (all_ones sizes) (cond (eqb warm 0) (Ok (tt {0})) (Err WarmSegment)) (Err SizeNotOne)) ≡ 0
           → (all_ones sizes ≡ true) × (warm ≡ 0)
       go true a true w f = (a, eqb-true warm 0 w)
       go true a false w f = absurd (let z : ◌≡◌ {A = ℕ} 27 0 = rw (a, w) at f in omega arith)
       go false a c w f = absurd (let z : ◌≡◌ {A = ℕ} 26 0 = rw a at f in omega arith)
 
 -- so what holds of every run with its sizes and entries holds of that of the sheet
-pub every-run : (v : SheetValue) (P : Trace → Type 0) → ones_verdict v.head.sizes (length v.head.warm) ≡ Accepted
+pub every-run : (v : SheetValue) (P : Trace → Type 0) → ones_verdict v.head.sizes (length v.head.warm) ≡ (Ok tt)
     → EveryRun v.head.sizes v.entries P → P (trace_of v)
 every-run v P e all =
     let empty : v.head.warm ≡ [] = length-zero v.head.warm (accepted-ones v.head.sizes (length v.head.warm) e).1 in

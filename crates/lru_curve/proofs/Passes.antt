@@ -7,13 +7,12 @@ use mathlib.Core.Option.{Option, none, some}
 use native.Mathlib.Numerals.{add-one}
 use native.Mathlib.Omega.{arith}
 use lib.Dec.{eqb, ltb}
-use lib.ListN.{length, get_or, take, set, length-set, length-replicate, get_or-replicate}
+use lib.ListN.{length, get_or, take, set, length-set, replicate, length-replicate, get_or-replicate}
 use lib.Seq.{length-take-le, get_or-set_same, get_or-set_other}
 use borrow.Author.Tests.{lt-ltb, le-ltb, eqb-true, eqb-false, eq-eqb, ne_eqb}
 use Rattle.model.specs.Sheets.{most_segs, most_steps}
 use Rattle.model.specs.Sums.{sum}
 use Rattle.model.specs.Traces.{Trace, segs, steps, entry, touching}
-use Rattle.model.specs.Values.{zeros}
 use Rattle.model.proofs.Bounds.{product-within}
 use Rattle.model.proofs.LastTouches.{listed-none}
 use Rattle.model.proofs.Lists.{get_or-any}
@@ -57,8 +56,8 @@ module _ (sizes refs : List ℕ) where
   abbrev T : Trace
   T = touch_run sizes refs
 
-  pub passed_start : Passed sizes refs (zeros most_entries) 0 (zeros most_segs) 0 0
-  unfolding zeros recency touches_at sum
+  pub passed_start : Passed sizes refs (replicate most_entries 0) 0 (replicate most_segs 0) 0 0
+  unfolding recency touches_at sum
   passed_start =
       record {
         within = omega arith;

@@ -1,18 +1,17 @@
 -- The simulation of one memory of k frames: its start, a hit, a miss, an idle step, and its end.
-use Prim.Native.Nat.{ℕ, zero, suc, ◌+◌, ◌-◌, ◌≤◌, ◌<◌}
+use Prim.Native.Nat.{ℕ, zero, suc, ◌+◌, ◌-◌, ◌≤◌, ◌<◌, min}
 use mathlib.Core.Path.{◌≡◌, refl, sym, ap, ◌∙◌}
 use mathlib.Core.Bool.{Bool, true, false, cond}
 use mathlib.Core.List.{List, ◌∷◌}
 use native.Mathlib.Numerals.{add-one}
 use native.Mathlib.Omega.{arith}
 use lib.Dec.{ltb}
-use lib.ListN.{length, get_or, take, drop, set, length-set, length-replicate}
+use lib.ListN.{length, get_or, take, drop, set, length-set, replicate, length-replicate}
 use lib.Seq.{length-take-le, take_at, take_all, take-take, take-set-le, get_or-set_same, get_or-take}
 use borrow.Author.Tests.{lt-ltb, le-ltb, ltb-true, ltb-false}
 use Rattle.model.specs.Sheets.{most_segs}
 use Rattle.model.specs.Sums.{sum}
 use Rattle.model.specs.Traces.{Trace, segs, steps, entry, touching}
-use Rattle.model.specs.Values.{zeros}
 use Rattle.model.proofs.Lists.{get_or-any}
 use Rattle.replacement.specs.Memory.{has, lru_simulated}
 use Rattle.replacement.proofs.Frames.{simulated-ordered}
@@ -20,7 +19,7 @@ use Rattle.replacement.proofs.Ordered.{reordered, ordered}
 use Rattle.replacement.proofs.Touches.{cond-within, adds_on, adds-off, touches-within}
 use Rattle.lru_curve.specs.inner.Left.{touch_run}
 use Rattle.lru_curve.specs.inner.Entries.{moved}
-use Rattle.lru_curve.specs.inner.Used.{frame_in, used_after}
+use Rattle.lru_curve.specs.inner.Used.{frame_in}
 use Rattle.lru_curve.proofs.Fronts.{length_moved, front-found}
 use Rattle.lru_curve.proofs.Indexes.{has-index, entry-index}
 
@@ -37,15 +36,12 @@ ordered-off : (T : Trace) (k t : ℕ) → segs T ≤ entry T t → ordered T k (
 unfolding ordered
 ordered-off T k t off = rw (le-ltb (entry T t) (segs T) off)
 
-pub used-within : (n k : ℕ) → 1 ≤ k → n ≤ k → (1 ≤ used_after n k) × (used_after n k ≤ k)
-used-within n k some-frames le = go (ltb n k) refl
-  where
-    go : (b : Bool) → ltb n k ≡ b → (1 ≤ used_after n k) × (used_after n k ≤ k)
-    go true e = (rw e (omega arith), rw e (omega (arith, ltb-true n k e)))
-    go false e = (rw e (omega (arith, ltb-false n k e)), rw e le)
+-- the frames in use after a miss: one more where one is free
+pub used-within : (n k : ℕ) → 1 ≤ k → n ≤ k → (1 ≤ min k (n + 1)) × (min k (n + 1) ≤ k)
+used-within n k some-frames le = (omega arith, omega arith)
 
 -- a miss: x in the last of the frames in use, which is then moved to the front
-loaded : (l : List ℕ) (n k x m : ℕ) → 1 ≤ k → n ≤ k → suc m ≡ used_after n k → m < length l → n ≤ length l
+loaded : (l : List ℕ) (n k x m : ℕ) → 1 ≤ k → n ≤ k → suc m ≡ min k (n + 1) → m < length l → n ≤ length l
     → take (suc m) (moved m x (set l m x)) ≡ take k (x ∷ take n l)
 loaded l n zero x m some-frames le used room whole = absurd (omega arith)
 loaded l n (suc k) x m some-frames le used room whole =
@@ -55,11 +51,11 @@ loaded l n (suc k) x m some-frames le used room whole =
   where
     go : (b : Bool) → ltb n (suc k) ≡ b → take m l ≡ take k (take n l)
     go true e =
-        let same : m ≡ n = omega (arith, rw e at used) in
+        let same : m ≡ n = omega (arith, ltb-true n (suc k) e) in
         rw same (sym (take_all k (take n l) (omega (arith, length-take-le n l whole, ltb-true n (suc k) e))))
     go false e =
         let full : n ≡ suc k = omega (arith, ltb-false n (suc k) e) in
-        let same : m ≡ k = omega (arith, rw e at used) in
+        let same : m ≡ k = omega (arith, ltb-false n (suc k) e) in
         rw (same, full) (sym (take-take k (suc k) l (omega arith)))
 
 -- after t steps of a run of these sizes and entries
@@ -74,8 +70,8 @@ module _ (sizes refs : List ℕ) (k : ℕ) (some-frames : 1 ≤ k) (frames-withi
   abbrev T : Trace
   T = touch_run sizes refs
 
-  pub simulated_start : Simulated sizes refs k (zeros most_segs) 0 0 0
-  unfolding zeros ordered sum
+  pub simulated_start : Simulated sizes refs k (replicate most_segs 0) 0 0 0
+  unfolding ordered sum
   simulated_start =
       record {
         within = omega arith;
@@ -157,7 +153,7 @@ module _ (sizes refs : List ℕ) (k : ℕ) (some-frames : 1 ≤ k) (frames-withi
             here = sym (get_or-take n list p 0 lt) ∙ (rw index (entry-index x (take n list) (omega (arith, size))))
 
         -- a miss, with m frames in use after it
-        pub simulated_miss : (m : ℕ) (list' : List ℕ) → n ≤ p → m ≡ used_after n k
+        pub simulated_miss : (m : ℕ) (list' : List ℕ) → n ≤ p → m ≡ min k (n + 1)
             → list' ≡ moved (m - 1) (get_or (set list (m - 1) x) (m - 1) 0) (set list (m - 1) x)
             → Simulated sizes refs k list' m (misses + 1) (t + 1)
         unfolding reordered

@@ -1,8 +1,7 @@
 // The misses with every number of frames in one pass: a recency list, and how many touches there are at each stack distance.
-// What they are is written in crate `replacement`.
+// What they are is written in crate `replacement`. Sizes and references pass as lent u16 slices, as document 01 asks.
 ghost use Rattle.std.specs.Prelude.{◌≡◌, ◌≤◌, length, take};
 ghost use Rattle.model.specs.Sheets.{most_segs, most_steps};
-ghost use Rattle.model.specs.Values.{zeros};
 ghost use Rattle.lru_curve.specs.inner.Left.{EveryRun, touch_run, ByDistances};
 ghost use Rattle.lru_curve.specs.inner.Entries.{walk_of, moved};
 ghost use Rattle.lru_curve.specs.inner.Passes.{most_entries, Counted};
@@ -21,20 +20,6 @@ pub struct Counts {
     pub looked: u64,
 }
 
-// A list without a segment.
-fn no_segments() -> [u16; ENTRIES]
-    ensures { result ≡ zeros most_entries }
-{
-    [0u16; ENTRIES]
-}
-
-// No touch counted.
-fn no_touches() -> [u64; Sheet::MAX_SEGS]
-    ensures { result ≡ zeros most_segs }
-{
-    [0u64; Sheet::MAX_SEGS]
-}
-
 // Brings x to the front of the first n entries, and gives the walk up to it. Where x was not among them the list is one longer.
 fn bring(list: &mut [u16; ENTRIES], n: usize, x: u16) -> Walk
     requires { (n ≤ most_segs) × (length list.old ≡ most_entries) }
@@ -51,15 +36,12 @@ fn distances(sizes: &[u16], refs: &[u16]) -> Counts
     requires { (length sizes.now ≤ most_segs) × (length refs.now ≤ most_steps) }
     ensures { Counted (touch_run sizes.now refs.now) result }
 {
-    let mut list = no_segments();
-    let mut n: usize = 0;
-    let mut at = no_touches();
-    let mut looked: u64 = 0;
-    let mut t: usize = 0;
-    while t < refs.len() {
-        let x = refs[t];
-        t += 1;
-        if (x as usize) < sizes.len() {
+    let mut list = [0; ENTRIES];
+    let mut n = 0;
+    let mut at = [0; Sheet::MAX_SEGS];
+    let mut looked = 0;
+    for &x in refs {
+        if usize::from(x) < sizes.len() {
             let w = bring(&mut list, n, x);
             let p = w.before;
             looked += w.looked;
@@ -71,9 +53,9 @@ fn distances(sizes: &[u16], refs: &[u16]) -> Counts
         }
     }
     Counts {
-        at: at,
+        at,
         first: n as u64,
-        looked: looked,
+        looked,
     }
 }
 
@@ -83,14 +65,12 @@ pub fn curve(sizes: &[u16], refs: &[u16], place: &mut [u64]) -> u64
     requires { (length sizes.now ≤ most_segs) × (length refs.now ≤ most_steps) × (length sizes.now ≤ length place.old) }
     ensures { EveryRun sizes.now refs.now (λ T. ByDistances T place.old place.new result) }
 {
-    let c = distances(sizes, refs);
-    let at = c.at;
-    let mut misses = c.first;
-    let mut k = sizes.len();
-    while 0 < k {
-        k -= 1;
+    let counts = distances(sizes, refs);
+    let at = counts.at;
+    let mut misses = counts.first;
+    for k in (0..sizes.len()).rev() {
         place[k] = misses;
         misses += at[k];
     }
-    c.looked
+    counts.looked
 }

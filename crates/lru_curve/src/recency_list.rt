@@ -4,7 +4,7 @@ ghost use Rattle.std.specs.Prelude.{◌≡◌, ◌≤◌, ◌<◌, length, take}
 ghost use Rattle.lru_curve.specs.inner.Entries.{walk_of, moved};
 
 // What a walk up to a segment gives: how many entries stand before it, all of them where the list does not have it, and how many entries
-// were looked at.
+// were looked at. The place is no Option, as in both cases it is the one from which the list moves when the segment is put first.
 #[derive(Clone, Copy)]
 pub struct Walk {
     pub before: usize,
@@ -19,31 +19,27 @@ const TURN: usize = 4;
 fn walk_along(list: &[u16], x: u16) -> Walk
     ensures { result ≡ walk_of x list.now }
 {
-    let mut looked: u64 = 0;
-    let mut place: usize = 0;
-    while place < list.len() {
-        let entry = list[place];
+    let mut looked = 0;
+    for (before, &entry) in list.iter().enumerate() {
         looked += 1;
         if entry == x {
-            return Walk {
-                before: place,
-                looked: looked,
-            };
+            return Walk { before, looked };
         }
-        place += 1;
     }
     Walk {
-        before: place,
-        looked: looked,
+        before: list.len(),
+        looked,
     }
 }
 
-// The walk along the list up to x, a turn's entries and then the next turn's.
+// The walk along the list up to x, a turn's entries and then the next turn's: whole turns while there are any, of a length that is known
+// when this is compiled, and then what is left.
 fn walk_turns(list: &[u16], x: u16) -> Walk
     ensures { result ≡ walk_of x list.now }
 {
     let mut total: u64 = 0;
     let mut i: usize = 0;
+    // It may end within a turn, and goes on by whole turns: no count over a range.
     while TURN <= list.len() - i {
         let end = i + TURN;
         let w = walk_along(&list[i..end], x);
@@ -72,17 +68,11 @@ pub fn walk_to(list: &[u16], n: usize, x: u16) -> Walk
     walk_turns(first, x)
 }
 
-// Puts x first and moves the first p entries one further, in one walk from the front; entry p is given up.
+// Puts x first and moves the first p entries one further; entry p is given up.
 pub fn put_first(list: &mut [u16], p: usize, x: u16)
     requires { p < length list.old }
     ensures { list.new ≡ moved p x list.old }
 {
-    let mut carry = x;
-    let mut i: usize = 0;
-    while i <= p {
-        let y = list[i];
-        list[i] = carry;
-        carry = y;
-        i += 1;
-    }
+    list[..=p].rotate_right(1);
+    list[0] = x;
 }

@@ -1,17 +1,16 @@
 -- Looking for the n-th reference, step by step, in every run with the entries and the number of segments at hand.
 use Prim.Native.Nat.{ℕ, suc, pred, ◌+◌, ◌-◌, ◌≤◌, ◌<◌}
-use mathlib.Core.Path.{◌≡◌, refl, sym, ◌∙◌}
-use mathlib.Core.Bool.{Bool, true, false, ◌&&◌, false≢true}
+use mathlib.Core.Path.{◌≡◌, refl, sym, ap, ◌∙◌}
 use mathlib.Core.List.{List}
 use native.Mathlib.Numerals.{add-one}
 use native.Mathlib.Omega.{arith}
-use borrow.Author.Tests.{eqb-true, eqb-false, ltb-true, ltb-false}
-use lib.Dec.{eqb, ltb}
+use borrow.Author.Tests.{lt-ltb, le-ltb}
 use lib.ListN.{length, get_or}
+use Rattle.std.specs.Prelude.{None, Some}
 use Rattle.model.specs.Traces.{Trace, segs, steps, entry, refs_by, ref_place, place_of}
 use Rattle.model.proofs.References.{refs_next, refs_rise, refs_none, search_idle, search_found, search_on, place_is}
 use Rattle.model.proofs.Touches.{entry-ref}
-use Rattle.margin.specs.inner.Times.{left_after, PlaceFound}
+use Rattle.margin.specs.inner.Times.{PlaceFound}
 
 -- after t steps of a run the n-th reference is the first of `left` from place t on
 pub record Ahead (T : Trace) (n left t : ℕ) : Type 0 where
@@ -20,7 +19,6 @@ pub record Ahead (T : Trace) (n left t : ℕ) : Type 0 where
 
 -- and so in every run with these entries and k segments
 pub record Looking (k : ℕ) (refs : List ℕ) (n left t : ℕ) : Type 0 where
-  pub within : t ≤ length refs
   pub some_left : 1 ≤ left
   pub ahead : (T : Trace) → T.entries ≡ refs → segs T ≡ k → Ahead T n left t
 
@@ -29,51 +27,42 @@ module _ (T : Trace) (n left t : ℕ) (l : Ahead T n left t) (some : 1 ≤ left)
   from_here : ref_place T (suc (steps T - suc t)) t left ≡ place_of T n
   from_here = let e : suc (steps T - suc t) ≡ steps T - t = omega arith in rw e l.same
 
-  -- one step more, which is not that of the reference
-  ahead_next : (b : Bool) → ltb (entry T t) (segs T) ≡ b → b && eqb left 1 ≡ false → Ahead T n (left_after b left) (suc t)
-  ahead_next true e f =
-      let m = eqb-false left 1 f in
-      let p : left - 1 ≡ pred left = omega arith in
+  -- one step more, without a touch
+  ahead-idle : segs T ≤ entry T t → Ahead T n left (suc t)
+  ahead-idle idle =
       record {
-        passed = omega (arith, l.passed, rw e at (refs_next T t));
-        same = rw p (sym (search_on T (steps T - suc t) t left (ltb-true (entry T t) (segs T) e) (omega arith)) ∙ from_here);
-      }
-  ahead_next false e f =
-      record {
-        passed = omega (arith, l.passed, rw e at (refs_next T t));
-        same = sym (search_idle T (steps T - suc t) t left (ltb-false (entry T t) (segs T) e)) ∙ from_here;
+        passed = omega (arith, l.passed, rw (le-ltb (entry T t) (segs T) idle) at (refs_next T t));
+        same = sym (search_idle T (steps T - suc t) t left idle) ∙ from_here;
       }
 
-  -- the step of the reference
-  ahead_found : (b : Bool) → ltb (entry T t) (segs T) ≡ b → b && eqb left 1 ≡ true → PlaceFound T n t
-  ahead_found true e f =
-      let one = eqb-true left 1 f in
-      let more : suc t + (steps T - suc t) ≡ steps T = omega arith in
-      record {
-        found = λ _. (
-          omega (arith, l.passed, rw e at (refs_next T t), rw more at (refs_rise T (suc t) (steps T - suc t))),
-          sym (search_found T (steps T - suc t) t left (ltb-true (entry T t) (segs T) e) (omega arith)) ∙ from_here,
-        );
-        none = λ g. absurd (omega arith);
-      }
-  ahead_found false e f = absurd (false≢true f)
+  module _ (touch : entry T t < segs T) where
+    -- that of an earlier reference
+    ahead-next : (left ≡ 1 → ⊥) → Ahead T n (left - 1) (suc t)
+    ahead-next other =
+        let p : left - 1 ≡ pred left = omega arith in
+        record {
+          passed = omega (arith, l.passed, rw (lt-ltb (entry T t) (segs T) touch) at (refs_next T t));
+          same = rw p (sym (search_on T (steps T - suc t) t left touch (omega arith)) ∙ from_here);
+        }
+
+    -- that of the reference
+    ahead-found : left ≡ 1 → PlaceFound T n (Some t)
+    ahead-found one =
+        let more : suc t + (steps T - suc t) ≡ steps T = omega arith in
+        let by = rw (lt-ltb (entry T t) (segs T) touch) at (refs_next T t) in (
+          lt,
+          omega (arith, l.passed, by, rw more at (refs_rise T (suc t) (steps T - suc t))),
+          sym (search_found T (steps T - suc t) t left touch (omega arith)) ∙ from_here,
+        )
 
 -- the place found has a touch
-pub found-touch : (T : Trace) (n p : ℕ) → 1 ≤ n → p < steps T → PlaceFound T n p → get_or T.entries p 0 < segs T
-found-touch T n p pos lt f =
-    let (le, is) = f.found lt in
-    rw (← entry-ref T p lt, is) (place_is T n pos le).touches
-
--- a step that is not that of the reference leaves some
-left-some : (b : Bool) (left : ℕ) → 1 ≤ left → b && eqb left 1 ≡ false → 1 ≤ left_after b left
-left-some true left some f = omega (arith, eqb-false left 1 f)
-left-some false left some f = some
+pub found-touch : (T : Trace) (n p : ℕ) → 1 ≤ n → PlaceFound T n (Some p) → get_or T.entries p 0 < segs T
+found-touch T n p pos f = rw (← entry-ref T p f.0, f.2) (place_is T n pos f.1).touches
 
 module _ (k : ℕ) (refs : List ℕ) (n : ℕ) where
   pub look-start : 1 ≤ n → Looking k refs n n 0
   look-start pos =
       record {
-        within = omega arith;
         some_left = pos;
         ahead = λ T is many.
             let all : steps T - 0 ≡ steps T = omega arith in
@@ -82,33 +71,41 @@ module _ (k : ℕ) (refs : List ℕ) (n : ℕ) where
 
   module _ (left t : ℕ) (l : Looking k refs n left t) where
     module _ (lt : t < length refs) where
-      -- the step is one of a run, and the test of the code is the run's
+      -- the step is one of a run, with the entry at hand
       in-run : (T : Trace) → T.entries ≡ refs → t < steps T
       in-run T is = rw is lt
 
-      test-is : (T : Trace) → T.entries ≡ refs → segs T ≡ k → ltb (entry T t) (segs T) ≡ ltb (get_or refs t 0) k
-      test-is T is many = rw (entry-ref T t (in-run T is), is, many)
+      entry-is : (T : Trace) → T.entries ≡ refs → entry T t ≡ get_or refs t 0
+      entry-is T is = entry-ref T t (in-run T is) ∙ ap (λ (xs : List ℕ). get_or xs t 0) is
 
-      -- one step more, which is not that of the reference
-      pub look-next : ltb (get_or refs t 0) k && eqb left 1 ≡ false → Looking k refs n (left_after (ltb (get_or refs t 0) k) left) (t + 1)
-      look-next f =
+      -- one step more, without a touch
+      pub look-idle : k ≤ get_or refs t 0 → Looking k refs n left (t + 1)
+      look-idle idle =
           record {
-            within = omega arith;
-            some_left = left-some (ltb (get_or refs t 0) k) left l.some_left f;
-            ahead = λ T is many. rw (add-one t)
-                (ahead_next T n left t (l.ahead T is many) l.some_left (in-run T is) _ (test-is T is many) f);
+            some_left = l.some_left;
+            ahead = λ T is many.
+                rw (add-one t) (ahead-idle T n left t (l.ahead T is many) l.some_left (in-run T is) (rw (entry-is T is, many) idle));
           }
 
-      -- the step of the reference
-      pub look-found : ltb (get_or refs t 0) k && eqb left 1 ≡ true → (T : Trace) → T.entries ≡ refs → segs T ≡ k → PlaceFound T n t
-      look-found f T is many =
-          ahead_found T n left t (l.ahead T is many) l.some_left (in-run T is) _ (test-is T is many) f
+      module _ (touch : get_or refs t 0 < k) where
+        -- that of an earlier reference
+        pub look-next : (left ≡ 1 → ⊥) → Looking k refs n (left - 1) (t + 1)
+        look-next other =
+            record {
+              some_left = omega (arith, l.some_left, other);
+              ahead = λ T is many.
+                  rw (add-one t)
+                  (ahead-next T n left t (l.ahead T is many) l.some_left (in-run T is) (rw (entry-is T is, many) touch) other);
+            }
+
+        -- that of the reference
+        pub look-found : left ≡ 1 → (T : Trace) → T.entries ≡ refs → segs T ≡ k → PlaceFound T n (Some t)
+        look-found one T is many =
+            ahead-found T n left t (l.ahead T is many) l.some_left (in-run T is) (rw (entry-is T is, many) touch) one
 
     -- no step is left
-    pub look-end : length refs ≤ t → (T : Trace) → T.entries ≡ refs → segs T ≡ k → PlaceFound T n t
-    look-end h T is many =
-        let e : t ≡ steps T = rw is (omega (arith, l.within)) in
-        record {
-          found = λ g. absurd (omega arith);
-          none = λ _. rw (← e) (omega (arith, (l.ahead T is many).passed, l.some_left));
-        }
+    pub look-end : length refs ≡ t → (T : Trace) → T.entries ≡ refs → segs T ≡ k → PlaceFound T n None
+    look-end end T is many =
+        let e : t ≡ steps T = rw is (sym end) in
+        let by : refs_by T t + left ≡ n = (l.ahead T is many).passed in
+        rw (← e) (omega (arith, by, l.some_left))

@@ -1,35 +1,35 @@
 -- Unreferenced times by value: of a warm segment, and after steps that do not touch the segment.
 use Prim.Native.Nat.{ℕ, suc, ◌+◌, ◌-◌, ◌≤◌, ◌<◌}
 use mathlib.Core.Path.{◌≡◌, refl, sym, ap, ◌∙◌}
-use mathlib.Core.Bool.{Bool, true, false, cond, not}
+use mathlib.Core.Bool.{Bool, true, false, cond, ◌||◌}
 use mathlib.Core.List.{List, [], ◌∷◌}
 use mathlib.Core.Option.{Option, none, some}
 use native.Mathlib.Omega.{arith}
 use borrow.Author.Tests.{eq-eqb, ne_eqb}
 use lib.Dec.{eqb}
 use lib.ListN.{length, get_or}
-use Rattle.model.specs.LastTouches.{untouched_mark, start_table}
-use Rattle.model.specs.Sheets.{most_segs, listed}
+use Rattle.std.specs.Prelude.{Option as Given, None, Some}
+use Rattle.std.specs.Bool.{then_some}
+use Rattle.std.specs.List.{list_any}
+use Rattle.model.specs.Sheets.{listed}
 use Rattle.model.specs.Traces.{Trace, segs, entry, touched, later, unreferenced}
-use Rattle.model.proofs.Tables.{get_or-tabulate}
 use Rattle.model.proofs.Touches.{entry-ref, touched-entry, unreferenced-none, unreferenced-touched, unreferenced-later}
-use Rattle.margin.specs.inner.Times.{time_of, later_by, untouched_time}
-use Rattle.margin.specs.declared.Unreferenced.{Unreferenced}
+use Rattle.margin.specs.inner.Times.{time_of}
 
--- of no warm segments none is one
-pub none-warm : (warm : List ℕ) (i : ℕ) → length warm ≡ 0 → false ≡ listed warm i
+-- a list contains a segment exactly where it is listed
+pub listed-any : (warm : List ℕ) (i : ℕ) → list_any (λ x. eqb x i) warm ≡ listed warm i
 unfolding listed
-none-warm [] i e = refl
-none-warm (x ∷ warm) i e = absurd (omega arith)
-
--- the mark of a segment in the table before step 1 tells whether it is warm
-pub warm-mark : (warm : List ℕ) (i : ℕ) → i < most_segs → not (eqb (get_or (start_table warm) i 0) untouched_mark) ≡ listed warm i
-unfolding start_table
-warm-mark warm i lt = rw (get_or-tabulate most_segs (λ j. cond (listed warm j) 0 untouched_mark) i 0 lt) (go (listed warm i))
+listed-any [] i = refl
+listed-any (x ∷ warm) i = rw (listed-any warm i) (go (eqb x i))
   where
-    go : (b : Bool) → not (eqb (cond b 0 untouched_mark) untouched_mark) ≡ b
+    go : (b : Bool) → (b || listed warm i) ≡ cond b true (listed warm i)
     go true = refl
     go false = refl
+
+-- and n steps later, none of which touches the segment
+abbrev pub later_by : ℕ → Given ℕ → Given ℕ
+later_by n None = None
+later_by n (Some k) = Some (k + n)
 
 -- no step later, and one step and then n more
 later-start : (o : Option ℕ) → time_of o ≡ later_by 0 (time_of o)
@@ -42,8 +42,8 @@ later-on n none = refl
 later-on n (some k) = let e : suc k + n ≡ k + suc n = omega arith in rw e refl
 
 -- from a touch on
-later-zero : (n : ℕ) → ◌≡◌ {A = Unreferenced} (record { reuse = true; time = n }) (later_by n (time_of (some 0)))
-later-zero n = let e : 0 + n ≡ n = omega arith in ap (λ k. record { reuse = true; time = k }) (sym e)
+later-zero : (n : ℕ) → Some n ≡ later_by n (time_of (some 0))
+later-zero n = let e : 0 + n ≡ n = omega arith in ap (λ k. Some k) (sym e)
 
 -- none of the steps after the first n, up to t, touches segment i: its time after t steps is that after n, and t - n more
 pub record Since (i : ℕ) (refs : List ℕ) (t n : ℕ) : Type 0 where
@@ -76,18 +76,18 @@ module _ (i : ℕ) (refs : List ℕ) (t : ℕ) where
 
     -- it touches the segment
     pub since_found : get_or refs m 0 ≡ i → (T : Trace) → T.entries ≡ refs → i < segs T
-        → ◌≡◌ {A = Unreferenced} (record { reuse = true; time = t - n }) (time_of (unreferenced T t i))
+        → Some (t - n) ≡ time_of (unreferenced T t i)
     since_found f T is seg =
         let met : touched T m i ≡ true = touched-entry T m i seg ∙ ap (λ x. eqb x i) (entry_is T is) ∙ eq-eqb (get_or refs m 0) i f in
         rw (s.same T is seg, one, unreferenced-touched T m i met) (later-zero (t - suc m))
 
   -- no step touches it
   pub since_none : Since i refs t 0 → (warm : Bool) (T : Trace) → T.entries ≡ refs → i < segs T → T.start i ≡ warm
-      → untouched_time warm t ≡ time_of (unreferenced T t i)
+      → then_some warm t ≡ time_of (unreferenced T t i)
   since_none s warm T is seg start =
       let all : t - 0 ≡ t = omega arith in
       rw (s.same T is seg, all, unreferenced-none T i, start) (go warm)
     where
-      go : (b : Bool) → untouched_time b t ≡ later_by t (time_of (cond b (some 0) none))
+      go : (b : Bool) → then_some b t ≡ later_by t (time_of (cond b (some 0) none))
       go true = later-zero t
       go false = refl

@@ -1,4 +1,7 @@
 -- The number of each refusal, in the order of the lists of documents 01 and 02.
+use Rattle.std.specs.Prelude.{Result, Ok, Err}
+use Prim.Native.Nat.{ℕ}
+use Rattle.model.specs.declared.Refusal.{Refusal}
 use mathlib.Core.Path.{◌≡◌, refl}
 use mathlib.Core.List.{[], ◌∷◌, map}
 use Rattle.model.specs.Refusals.{number_of, verdict_number}
@@ -8,7 +11,6 @@ use Rattle.model.specs.declared.Refusal.TheVariants.{HeldNotBefore, PlaceTooShor
 use Rattle.model.specs.declared.Refusal.TheVariants.{FirstTouch, StepNotAbove, IdleStep, TariffOutOfRange}
 use Rattle.model.specs.declared.Refusal.TheVariants.{HoldNotAbove, HeadsDiffer, BothTouch, TooManySegments, PageOutOfRange}
 use Rattle.model.specs.declared.Refusal.TheVariants.{TraceMalformed, TraceTooLong, SizeNotOne, WarmSegment, NotTimeZero}
-use Rattle.model.specs.declared.Verdict.TheVariants.{Accepted, Refused}
 
 -- a sheet and its lines: 1 to 6
 of-sheets : map number_of (SheetTooLong ∷ LineMalformed ∷ ValueMalformed ∷ OutOfRange ∷ ThresholdNotAbove ∷ BytesAfterEnd ∷ [])
@@ -35,5 +37,9 @@ of-lists : map number_of (PageOutOfRange ∷ TraceMalformed ∷ TraceTooLong ∷
 of-lists = refl
 
 -- 0 where a call was carried out
-of-verdicts : map verdict_number (Accepted ∷ Refused SheetTooLong ∷ Refused NotTimeZero ∷ []) ≡ 0 ∷ 1 ∷ 28 ∷ []
+number : Result ℕ Refusal → ℕ
+number answer = verdict_number answer
+
+of-verdicts : map number (Ok 7 ∷ Err SheetTooLong ∷ Err NotTimeZero ∷ []) ≡ 0 ∷ 1 ∷ 28 ∷ []
+unfolding number
 of-verdicts = refl

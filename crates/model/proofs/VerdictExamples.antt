@@ -1,4 +1,5 @@
 -- The numbers of schedules of a run with a warm segment and of one without, computed from the definitions.
+use Rattle.std.specs.Prelude.{Ok, Err}
 use Prim.Native.Nat.{ℕ}
 use mathlib.Core.Path.{◌≡◌, refl}
 use mathlib.Core.List.{List, [], ◌∷◌, ◌++◌, map}
@@ -9,7 +10,6 @@ use Rattle.model.specs.Schedules.{held}
 use Rattle.model.specs.Traces.{Trace}
 use Rattle.model.specs.declared.Kind.TheVariants.{Time}
 use Rattle.model.specs.declared.Refusal.TheVariants.{HeldNotBefore}
-use Rattle.model.specs.declared.Verdict.TheVariants.{Accepted, Refused}
 use Rattle.model.specs.Pricing.{missing, enters, some_enters, step_verdict, steps_verdict}
 use Rattle.model.specs.Pricing.{schedule_verdict}
 
@@ -22,17 +22,17 @@ abbrev steps : ℕ → ℕ → List ℕ
 steps x y = (x ∷ replicate 31 0) ++ (y ∷ replicate 31 0)
 
 -- a warm segment may be held from step 1 on
-pub held_on : schedule_verdict run (steps 1 1) ≡ Accepted
+pub held_on : schedule_verdict run (steps 1 1) ≡ Ok tt
 unfolding schedule_verdict steps_verdict step_verdict missing some_enters enters held listed
 held_on = refl
 
 -- dropped in step 1, it does not come back untouched
-pub comes_back : schedule_verdict run (steps 0 1) ≡ Refused HeldNotBefore
+pub comes_back : schedule_verdict run (steps 0 1) ≡ Err HeldNotBefore
 unfolding schedule_verdict steps_verdict step_verdict missing some_enters enters held listed
 comes_back = refl
 
 -- a segment that is not warm is not held untouched in step 1
-pub cold-held : schedule_verdict run (steps 2 0) ≡ Refused HeldNotBefore
+pub cold-held : schedule_verdict run (steps 2 0) ≡ Err HeldNotBefore
 unfolding schedule_verdict steps_verdict step_verdict missing some_enters enters held listed
 cold-held = refl
 

@@ -1,8 +1,6 @@
 -- The numbers for a refusal, as documents 01 and 02 list them, and for what a call answers.
-use Rattle.std.specs.Prelude.{ℕ}
+use Rattle.std.specs.Prelude.{ℕ, Result, Ok, Err}
 use Rattle.model.specs.declared.Refusal.{Refusal}
-use Rattle.model.specs.declared.Verdict.{Verdict}
-use Rattle.model.specs.declared.Verdict.TheVariants.{Accepted, Refused}
 use Rattle.model.specs.declared.Refusal.TheVariants.{SheetTooLong, LineMalformed, ValueMalformed, OutOfRange, ThresholdNotAbove}
 use Rattle.model.specs.declared.Refusal.TheVariants.{BytesAfterEnd, NoSuchRow, ScheduleLength, TouchedNotHeld}
 use Rattle.model.specs.declared.Refusal.TheVariants.{HeldNotBefore, PlaceTooShort, NoRowFits, RecorderFull, NoSuchReference}
@@ -42,11 +40,16 @@ number_of WarmSegment = 27
 number_of NotTimeZero = 28
 
 -- the number of what a call answers: 0 where it was carried out, else that of the refusal
-abbrev pub verdict_number : Verdict → ℕ
-verdict_number Accepted = 0
-verdict_number (Refused r) = number_of r
+abbrev pub verdict_number : {A : Type 0} → Result A Refusal → ℕ
+verdict_number (Ok x) = 0
+verdict_number (Err r) = number_of r
+
+-- the value of what a call answers, and beside a refusal the one with all numbers zero
+abbrev pub value_or_zero : {A : Type 0} → A → Result A Refusal → A
+value_or_zero zeros (Ok x) = x
+value_or_zero zeros (Err r) = zeros
 
 -- the first of two verdicts that refuses
-abbrev pub first_of : Verdict → Verdict → Verdict
-first_of Accepted second = second
-first_of (Refused why) second = Refused why
+abbrev pub first_of : Result (Unit {0}) Refusal → Result (Unit {0}) Refusal → Result (Unit {0}) Refusal
+first_of (Ok u) second = second
+first_of (Err why) second = Err why

@@ -1,14 +1,13 @@
 -- What is answered for the figures of a row of a sheet, 7 where there is no such row, and the figures of all its rows.
-use Rattle.std.specs.Prelude.{ℕ, cond, List, length, ltb}
+use Rattle.std.specs.Prelude.{ℕ, cond, List, length, ltb, Result, Ok, Err}
 use Rattle.model.specs.Sheets.{SheetValue, trace_of, row_in, most_rows}
 use Rattle.model.specs.Traces.{Trace}
+use Rattle.model.specs.Refusals.{value_or_zero}
 use Rattle.model.specs.Rows.{row_figures, zero_figures}
 use Rattle.model.specs.declared.PriceRow.{PriceRow}
 use Rattle.model.specs.declared.RowFigures.{RowFigures}
 use Rattle.model.specs.declared.Refusal.{Refusal}
 use Rattle.model.specs.declared.Refusal.TheVariants.{NoSuchRow}
-use Rattle.model.specs.declared.Verdict.TheVariants.{Accepted, Refused}
-use Rattle.model.specs.declared.FiguresAnswer.{FiguresAnswer}
 use Rattle.model.specs.Sums.{tabulate}
 
 -- the figures of row r of a run, and those of every row: zeros beyond the rows
@@ -25,10 +24,10 @@ figures_at v r = figures_in v.head.rows (trace_of v) r
 abbrev pub all_figures : SheetValue → List RowFigures
 all_figures v = run_figures v.head.rows (trace_of v)
 
--- no figures: zeros beside the refusal
-abbrev pub no_figures : Refusal → FiguresAnswer
-no_figures r = record { verdict = Refused r; figures = zero_figures }
+-- the figures of an answer: all zero beside a refusal
+abbrev pub figures_given : Result RowFigures Refusal → RowFigures
+figures_given a = value_or_zero zero_figures a
 
 -- the figures of row r of a sheet: 7 where there is no such row
-unfoldable pub figures_of : SheetValue → ℕ → FiguresAnswer
-figures_of v r = cond (ltb r (length v.head.rows)) (record { verdict = Accepted; figures = figures_at v r }) (no_figures NoSuchRow)
+unfoldable pub figures_of : SheetValue → ℕ → Result RowFigures Refusal
+figures_of v r = cond (ltb r (length v.head.rows)) (Ok (figures_at v r)) (Err NoSuchRow)

@@ -1,12 +1,10 @@
 -- Which row sizing gives where memory has a ceiling (request F-1, in place of document 01's "of several, any one"), and what it answers: 12
 -- where there is none.
-use Rattle.std.specs.Prelude.{ℕ, zero, suc, ◌≤◌, ◌<◌, cond, ◌&&◌, length, leb, ltb}
+use Rattle.std.specs.Prelude.{ℕ, zero, suc, ◌≤◌, ◌<◌, cond, ◌&&◌, length, leb, ltb, Result, Ok, Err}
 use Rattle.std.proofs.Math.Option.{Option, none, some}
 use Rattle.model.specs.Sheets.{SheetValue, row_optmem, row_load}
 use Rattle.model.specs.declared.Refusal.{Refusal}
 use Rattle.model.specs.declared.Refusal.TheVariants.{NoRowFits}
-use Rattle.model.specs.declared.SizingAnswer.{SizingAnswer}
-use Rattle.model.specs.declared.Verdict.TheVariants.{Accepted, Refused}
 
 -- the row chosen so far, and row q looked at after it: q is chosen where its optmem is within the ceiling and no row was chosen before,
 -- or its load is less
@@ -23,14 +21,10 @@ chosen_of s ceiling (suc n) = chosen s ceiling n (chosen_of s ceiling n)
 abbrev pub sized_row : SheetValue → ℕ → Option ℕ
 sized_row s ceiling = chosen_of s ceiling (length s.head.rows)
 
--- no row: 0 beside the refusal
-abbrev pub no_size : Refusal → SizingAnswer
-no_size r = record { verdict = Refused r; row = 0 }
-
 -- the row that sizing gives; 12 where there is none
-abbrev pub sizing : Option ℕ → SizingAnswer
-sizing none = no_size NoRowFits
-sizing (some r) = record { verdict = Accepted; row = r }
+abbrev pub sizing : Option ℕ → Result ℕ Refusal
+sizing none = Err NoRowFits
+sizing (some r) = Ok r
 
 -- row r of the first n is within the ceiling, of the least load among such rows, and the lowest of that load
 pub record Sized (s : SheetValue) (ceiling n r : ℕ) : Type 0 where

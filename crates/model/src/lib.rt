@@ -2,39 +2,35 @@
 // What each means is written in specs/; nothing is assumed.
 #![tactic(auto)]
 
-ghost use Rattle.std.specs.Prelude.{◌≡◌, [], ◌+◌, ◌-◌, ◌*◌, ◌≤◌, ◌<◌, ◌^◌};
+ghost use Rattle.std.specs.Prelude.{ℕ, ◌≡◌, [], ◌+◌, ◌-◌, ◌*◌, ◌≤◌, ◌<◌, ◌^◌};
 ghost use Rattle.model.specs.Costs.{swap_cost, unit_cost, retention, keeps, total_cost, margin_of};
 ghost use Rattle.model.specs.LastTouches.{start_table};
-ghost use Rattle.model.specs.Margins.{no_margin};
-ghost use Rattle.model.specs.Places.{nothing_placed};
 ghost use Rattle.model.specs.Pricing.{no_price};
-ghost use Rattle.model.specs.RowAnswers.{no_figures};
 ghost use Rattle.model.specs.Rows.{zero_figures};
-ghost use Rattle.model.specs.Sizing.{no_size};
-ghost use Rattle.model.specs.Refusals.{number_of, verdict_number};
+ghost use Rattle.model.specs.Refusals.{number_of};
 ghost use Rattle.model.specs.Values.{sheet_limits, empty_head, empty_sheet};
 
 // What a memory unit is: a reference by itself (time), or the size of the segment (space).
-#[derive(Clone, Copy)]
+#[derive(Clone, Copy, Debug, PartialEq, Eq)]
 pub enum Kind {
     Time,
     Space,
 }
 
 // An amount in memory units.
-#[derive(Clone, Copy)]
+#[derive(Clone, Copy, Debug, PartialEq, Eq)]
 pub struct MemoryUnits(pub u64);
 
 // An amount in load units.
-#[derive(Clone, Copy)]
+#[derive(Clone, Copy, Debug, PartialEq, Eq)]
 pub struct LoadUnits(pub u64);
 
 // A priced amount: memory units at the price d, or load units at the price h. Two of them can be compared.
-#[derive(Clone, Copy)]
+#[derive(Clone, Copy, Debug, PartialEq, Eq)]
 pub struct Priced(pub u64);
 
 // A row of a sheet: h is the price of one load unit, d that of one memory unit. Its threshold is h/d.
-#[derive(Clone, Copy)]
+#[derive(Clone, Copy, Debug, PartialEq, Eq)]
 pub struct PriceRow {
     pub h: u16,
     pub d: u16,
@@ -204,7 +200,7 @@ impl RowFigures {
 }
 
 // Why a call refuses, a name for each number of the lists in documents 01 and 02.
-#[derive(Clone, Copy)]
+#[derive(Clone, Copy, Debug, PartialEq, Eq)]
 pub enum Refusal {
     SheetTooLong,
     LineMalformed,
@@ -236,155 +232,62 @@ pub enum Refusal {
     NotTimeZero,
 }
 
-// Whether a call was carried out, or why it was refused.
-#[derive(Clone, Copy)]
-pub enum Verdict {
-    Accepted,
-    Refused(Refusal),
-}
-
-// What a call that writes into a lent place answers: whether it wrote, and how much, 0 where it refused.
-#[derive(Clone, Copy)]
-pub struct PlaceAnswer {
-    pub verdict: Verdict,
-    pub length: usize,
-}
-
-impl PlaceAnswer {
-    // Nothing written, and why.
-    pub fn refused(why: Refusal) -> PlaceAnswer
-        ensures { result ≡ nothing_placed why }
+impl Refusal {
+    // The number of a refusal.
+    pub fn number(self) -> u64
+        ensures { result ≡ number_of self }
     {
-        PlaceAnswer {
-            verdict: Verdict::Refused(why),
-            length: 0,
+        match self {
+            Refusal::SheetTooLong => 1,
+            Refusal::LineMalformed => 2,
+            Refusal::ValueMalformed => 3,
+            Refusal::OutOfRange => 4,
+            Refusal::ThresholdNotAbove => 5,
+            Refusal::BytesAfterEnd => 6,
+            Refusal::NoSuchRow => 7,
+            Refusal::ScheduleLength => 8,
+            Refusal::TouchedNotHeld => 9,
+            Refusal::HeldNotBefore => 10,
+            Refusal::PlaceTooShort => 11,
+            Refusal::NoRowFits => 12,
+            Refusal::RecorderFull => 13,
+            Refusal::NoSuchReference => 14,
+            Refusal::FirstTouch => 15,
+            Refusal::StepNotAbove => 16,
+            Refusal::IdleStep => 17,
+            Refusal::TariffOutOfRange => 18,
+            Refusal::HoldNotAbove => 19,
+            Refusal::HeadsDiffer => 20,
+            Refusal::BothTouch => 21,
+            Refusal::TooManySegments => 22,
+            Refusal::PageOutOfRange => 23,
+            Refusal::TraceMalformed => 24,
+            Refusal::TraceTooLong => 25,
+            Refusal::SizeNotOne => 26,
+            Refusal::WarmSegment => 27,
+            Refusal::NotTimeZero => 28,
         }
     }
 }
 
-// The figures of a row, all zero where the call is refused.
+// What pricing a schedule gives: its memory, load and total.
 #[derive(Clone, Copy)]
-pub struct FiguresAnswer {
-    pub verdict: Verdict,
-    pub figures: RowFigures,
-}
-
-impl FiguresAnswer {
-    // No figures, and why.
-    pub fn refused(why: Refusal) -> FiguresAnswer
-        ensures { result ≡ no_figures why }
-    {
-        FiguresAnswer {
-            verdict: Verdict::Refused(why),
-            figures: RowFigures::zero(),
-        }
-    }
-}
-
-// The margin of a reference, signed; 0 where the call is refused.
-#[derive(Clone, Copy)]
-pub struct MarginAnswer {
-    pub verdict: Verdict,
-    pub margin: i64,
-}
-
-impl MarginAnswer {
-    // No margin, and why.
-    pub fn refused(why: Refusal) -> MarginAnswer
-        ensures { result ≡ no_margin why }
-    {
-        MarginAnswer {
-            verdict: Verdict::Refused(why),
-            margin: 0,
-        }
-    }
-}
-
-// The row that sizing gives; 0 where the call is refused.
-#[derive(Clone, Copy)]
-pub struct SizingAnswer {
-    pub verdict: Verdict,
-    pub row: usize,
-}
-
-impl SizingAnswer {
-    // No row, and why.
-    pub fn refused(why: Refusal) -> SizingAnswer
-        ensures { result ≡ no_size why }
-    {
-        SizingAnswer {
-            verdict: Verdict::Refused(why),
-            row: 0,
-        }
-    }
-}
-
-// What pricing a schedule gives: its memory, load and total, all zero where it is refused.
-#[derive(Clone, Copy)]
-pub struct PriceAnswer {
-    pub verdict: Verdict,
+pub struct Price {
     pub memory: MemoryUnits,
     pub load: LoadUnits,
     pub total: u64,
 }
 
-impl PriceAnswer {
-    // No price, and why.
-    pub fn refused(why: Refusal) -> PriceAnswer
-        ensures { result ≡ no_price why }
+impl Price {
+    // All three zero: the price beside a refusal.
+    pub fn zero() -> Price
+        ensures { result ≡ no_price }
     {
-        PriceAnswer {
-            verdict: Verdict::Refused(why),
+        Price {
             memory: MemoryUnits(0),
             load: LoadUnits(0),
             total: 0,
         }
-    }
-}
-
-// The number of a refusal.
-pub fn number(r: Refusal) -> u64
-    ensures { result ≡ number_of r }
-{
-    match r {
-        Refusal::SheetTooLong => 1,
-        Refusal::LineMalformed => 2,
-        Refusal::ValueMalformed => 3,
-        Refusal::OutOfRange => 4,
-        Refusal::ThresholdNotAbove => 5,
-        Refusal::BytesAfterEnd => 6,
-        Refusal::NoSuchRow => 7,
-        Refusal::ScheduleLength => 8,
-        Refusal::TouchedNotHeld => 9,
-        Refusal::HeldNotBefore => 10,
-        Refusal::PlaceTooShort => 11,
-        Refusal::NoRowFits => 12,
-        Refusal::RecorderFull => 13,
-        Refusal::NoSuchReference => 14,
-        Refusal::FirstTouch => 15,
-        Refusal::StepNotAbove => 16,
-        Refusal::IdleStep => 17,
-        Refusal::TariffOutOfRange => 18,
-        Refusal::HoldNotAbove => 19,
-        Refusal::HeadsDiffer => 20,
-        Refusal::BothTouch => 21,
-        Refusal::TooManySegments => 22,
-        Refusal::PageOutOfRange => 23,
-        Refusal::TraceMalformed => 24,
-        Refusal::TraceTooLong => 25,
-        Refusal::SizeNotOne => 26,
-        Refusal::WarmSegment => 27,
-        Refusal::NotTimeZero => 28,
-    }
-}
-
-// The number of a verdict: 0 where the call was carried out.
-pub fn verdict_number(v: Verdict) -> u64
-    ensures { result ≡ verdict_number v }
-{
-    match v {
-        Verdict::Accepted => 0,
-        Verdict::Refused(r) => number(r),
     }
 }
 
@@ -410,13 +313,11 @@ pub fn start_table(warm: &[u16]) -> [u16; Sheet::MAX_SEGS]
     ensures { result ≡ start_table warm.now }
 {
     let mut last = untouched();
-    let mut n = 0;
-    while n < warm.len() {
-        let i = warm[n] as usize;
+    for segment in warm {
+        let i = *segment as usize;
         if i < Sheet::MAX_SEGS {
             last[i] = 0;
         }
-        n += 1;
     }
     last
 }
@@ -441,71 +342,73 @@ pub fn retention_cost(kind: Kind, z: u16, unreferenced: u16) -> MemoryUnits
     }
 }
 
-impl MemoryUnits {
-    // Memory at the price d of one memory unit.
-    pub fn priced(self, d: u16) -> Priced
-        requires { self.0 < 2 ^ 47 }
-        ensures { result.0 ≡ d * self.0 }
+// Amounts in units of one kind: so many of them, and the arithmetic that amounts of one kind have.
+pub trait Amount: Copy {
+    // How many units.
+    ghost units: { Self → ℕ };
+
+    // So many units.
+    fn of(count: u64) -> Self
+        ensures { units result ≡ count };
+
+    // How many units.
+    fn count(self) -> u64
+        ensures { result ≡ units self };
+
+    // An amount at the price of one unit.
+    fn priced(self, price: u16) -> Priced
+        requires { units self < 2 ^ 47 }
+        ensures { result.0 ≡ price * units self }
     {
-        Priced((d as u64) * self.0)
+        Priced((price as u64) * self.count())
     }
 
     // Two amounts, added.
-    pub fn plus(self, other: MemoryUnits) -> MemoryUnits
-        requires { self.0 + other.0 < 2 ^ 64 }
-        ensures { result.0 ≡ self.0 + other.0 }
+    fn plus(self, other: Self) -> Self
+        requires { units self + units other < 2 ^ 64 }
+        ensures { units result ≡ units self + units other }
     {
-        MemoryUnits(self.0 + other.0)
+        Self::of(self.count() + other.count())
     }
 
     // An amount without a part of it.
-    pub fn minus(self, part: MemoryUnits) -> MemoryUnits
-        requires { part.0 ≤ self.0 }
-        ensures { result.0 ≡ self.0 - part.0 }
+    fn minus(self, part: Self) -> Self
+        requires { units part ≤ units self }
+        ensures { units result ≡ units self - units part }
     {
-        MemoryUnits(self.0 - part.0)
+        Self::of(self.count() - part.count())
     }
 
     // An amount, multiplied by a size.
-    pub fn times(self, z: u16) -> MemoryUnits
-        requires { self.0 < 2 ^ 47 }
-        ensures { result.0 ≡ self.0 * z }
+    fn times(self, z: u16) -> Self
+        requires { units self < 2 ^ 47 }
+        ensures { units result ≡ units self * z }
     {
-        MemoryUnits(self.0 * (z as u64))
+        Self::of(self.count() * (z as u64))
     }
 }
 
-impl LoadUnits {
-    // Load at the price h of one load unit.
-    pub fn priced(self, h: u16) -> Priced
-        requires { self.0 < 2 ^ 47 }
-        ensures { result.0 ≡ h * self.0 }
-    {
-        Priced((h as u64) * self.0)
+impl Amount for MemoryUnits {
+    ghost units = { λ m. m.0 };
+
+    fn of(count: u64) -> MemoryUnits {
+        MemoryUnits(count)
     }
 
-    // Two amounts, added.
-    pub fn plus(self, other: LoadUnits) -> LoadUnits
-        requires { self.0 + other.0 < 2 ^ 64 }
-        ensures { result.0 ≡ self.0 + other.0 }
-    {
-        LoadUnits(self.0 + other.0)
+    fn count(self) -> u64 {
+        self.0
+    }
+}
+
+impl Amount for LoadUnits {
+    ghost units = { λ l. l.0 };
+
+    fn of(count: u64) -> LoadUnits {
+        LoadUnits(count)
     }
 
-    // An amount without a part of it.
-    pub fn minus(self, part: LoadUnits) -> LoadUnits
-        requires { part.0 ≤ self.0 }
-        ensures { result.0 ≡ self.0 - part.0 }
-    {
-        LoadUnits(self.0 - part.0)
-    }
-
-    // An amount, multiplied by a size.
-    pub fn times(self, z: u16) -> LoadUnits
-        requires { self.0 < 2 ^ 47 }
-        ensures { result.0 ≡ self.0 * z }
-    {
-        LoadUnits(self.0 * (z as u64))
+    fn count(self) -> u64 {
+        self.0
     }
 }
 

@@ -9,7 +9,7 @@ use borrow.Table.Steps.{cases}
 use lib.Dec.{ltb, leb}
 use borrow.Author.Tests.{ltb-true, ltb-false, leb-true, leb-false, le-leb, lt-leb}
 use lib.ListN.{length, get_or, take, drop, replicate, length-append, length-replicate, length-take, length-drop, get_or-append}
-use lib.Seq.{length-take-le, get_or-append-add, get_or-take, get_or-drop}
+use lib.Seq.{get_or-append-add, get_or-take, get_or-drop}
 use Rattle.model.specs.Rows.{zero_figures}
 use Rattle.model.specs.declared.Kind.{Kind}
 use Rattle.model.specs.declared.Kind.TheVariants.{Time, Space}
@@ -36,6 +36,7 @@ use Rattle.page.specs.Page.{
   pages,
   pages_length,
   Fits,
+  EachFits,
 }
 use Rattle.page.proofs.Blanks.{columns-length, line-length, second-some}
 
@@ -165,17 +166,14 @@ pages-least rows = cases (leb rows rows_on_page) (λ e. rw e (omega arith)) (λ 
 pub pages-two : (rows : ℕ) → rows_on_page < rows → pages_length rows ≡ 8760
 pages-two rows h = rw (lt-leb rows rows_on_page h)
 
-fit-first : (n : ℕ) (fs : List RowFigures) → n ≤ length fs → ((r : ℕ) → r < n → Fits (get_or fs r zero_figures)) → AllFit (take n fs)
-fit-first zero fs l g = tt
-fit-first (suc n) [] l g = absurd (not-suc-le-zero l)
-fit-first (suc n) (f ∷ fs) l g = (g 0 (omega arith), fit-first n fs (le_of_suc-le-suc l) (λ r h. g (suc r) (omega arith)))
+each-fit : (fs : List RowFigures) → EachFits fs → AllFit fs
+each-fit [] g = tt
+each-fit (f ∷ fs) g = (g 0 (omega arith), each-fit fs (λ r h. g (suc r) (omega arith)))
 
--- the pages of the first rows of a list
-pub taken-length : (kind : Kind) (a : ℕ) (fs : List RowFigures) (rows : ℕ) → a ≤ 255 → rows ≤ 64 → rows ≤ length fs
-    → ((r : ℕ) → r < rows → Fits (get_or fs r zero_figures)) → length (pages kind a (take rows fs)) ≡ pages_length rows
-taken-length kind a fs rows h m l g =
-    let count = length-take-le rows fs l in
-    pages-length kind a (take rows fs) h (fit-first rows fs l g) (omega (arith, count)) ∙ ap (λ n. pages_length n) count
+-- the pages of rows that fit
+pub each-length : (kind : Kind) (a : ℕ) (fs : List RowFigures) → a ≤ 255 → length fs ≤ 64 → EachFits fs
+    → length (pages kind a fs) ≡ pages_length (length fs)
+each-length kind a fs h l g = pages-length kind a fs h (each-fit fs g) l
 
 -- ---- which row stands on which line
 

@@ -1,17 +1,18 @@
 -- The page in the parts in which it is written.
 use Prim.Native.Nat.{ℕ, ◌+◌, ◌*◌, ◌-◌, ◌≤◌, ◌<◌}
-use mathlib.Core.Path.{◌≡◌, refl, sym, ap, ◌∙◌}
+use mathlib.Core.Path.{◌≡◌, refl, ap}
 use mathlib.Core.List.{List, [], ◌∷◌, ◌++◌, map, append_assoc, append-nil}
 use native.Mathlib.Omega.{arith}
-use lib.ListN.{length, get_or, take, drop, replicate, length-drop, drop_of_length-le}
-use lib.Seq.{length-take-le, take_all, take-add, take-take, drop_at, get_or-drop}
+use lib.ListN.{length, get_or, take, drop, replicate, length-take, length-drop, drop_of_length-le}
+use lib.Seq.{take_all, get_or-take, get_or-drop}
+use Rattle.model.specs.Rows.{zero_figures}
 use Rattle.model.specs.declared.Kind.{Kind}
 use Rattle.model.specs.declared.Kind.TheVariants.{Time, Space}
 use Rattle.model.specs.declared.RowFigures.{RowFigures}
 use Rattle.decimal.specs.Decimal.{written}
 use Rattle.text.specs.Keys.{line_feed, kind_key, kind_word, a_key}
 use Rattle.text.specs.Texts.{lines_text}
-use Rattle.text.proofs.Putting.{Filled, filled_next, put-nothing, put_same}
+use Rattle.text.proofs.Putting.{Filled, filled_start, filled_next}
 use Rattle.text.proofs.Runs.{lines_next_lem}
 use Rattle.page.specs.inner.Wide.{PutWide}
 use Rattle.page.specs.Page.{
@@ -32,6 +33,7 @@ use Rattle.page.specs.Page.{
   concatenated,
   pages,
   Fits,
+  EachFits,
 }
 use Rattle.page.proofs.Blanks.{replicate_next, columns-length, concatenated-append, concatenated-next, second-some}
 
@@ -78,29 +80,11 @@ unfolding concatenated lines_text
 concatenated-map text [] = refl
 concatenated-map text (x ∷ xs) = rw (concatenated-map text xs)
 
--- no row yet
-pub rows_none : (fs : List RowFigures) (first i : ℕ) → i ≡ first → [] ≡ concatenated (map row_line (take (i - first) (drop first fs)))
-unfolding concatenated
-rows_none fs first i e =
-    let z : i - first ≡ 0 = omega arith in
-    rw z
-
 -- one row more
-pub rows_next : (fs : List RowFigures) (first i : ℕ) (d : RowFigures) → first ≤ i → i < length fs
-    → concatenated (map row_line (take (i + 1 - first) (drop first fs)))
-    ≡ concatenated (map row_line (take (i - first) (drop first fs))) ++ row_line (get_or fs i d)
-rows_next fs first i d h l =
-    let n : i + 1 - first ≡ (i - first) + 1 = omega arith in
-    let back : first + (i - first) ≡ i = omega arith in
-    let room : i - first < length (drop first fs) = rw length-drop (omega arith) in
-    let at : get_or (drop first fs) (i - first) d ≡ get_or fs i d = get_or-drop first fs (i - first) d ∙ ap (λ k. get_or fs k d) back in
-    rw (
-      n,
-      concatenated-map row_line (take ((i - first) + 1) (drop first fs)),
-      concatenated-map row_line (take (i - first) (drop first fs)),
-      lines_next_lem row_line (drop first fs) (i - first) d room,
-      at,
-    )
+pub rows_next : (fs : List RowFigures) (i : ℕ) (d : RowFigures) → i < length fs
+    → concatenated (map row_line (take (i + 1) fs)) ≡ concatenated (map row_line (take i fs)) ++ row_line (get_or fs i d)
+rows_next fs i d h =
+    rw (concatenated-map row_line (take (i + 1) fs), concatenated-map row_line (take i fs), lines_next_lem row_line fs i d h)
 
 -- a line of blanks
 blank-parts : blank_line ≡ blanks 72 ++ (line_feed ∷ [])
@@ -113,62 +97,54 @@ pub blank-lines-next : (i : ℕ)
 blank-lines-next i = rw (← replicate_next i blank_line, concatenated-next)
     (ap (λ l. concatenated (replicate i blank_line) ++ l) blank-parts)
 
--- what holds where a loop has put the lines from first to before i, of those before end: each has 73 bytes
-pub record LinesPut (first i end : ℕ) (text : List ℕ) (at : ℕ) (place : List ℕ) (next : ℕ) (out : List ℕ) : Type 0 where
-  pub from : first ≤ i
-  pub filled : Filled i end text at place next out
-  pub wide : next ≡ at + 73 * (i - first)
+-- what holds where a loop has put i lines of n: each has 73 bytes
+pub record LinesPut (i n : ℕ) (text : List ℕ) (at : ℕ) (place : List ℕ) (next : ℕ) (out : List ℕ) : Type 0 where
+  pub filled : Filled i n text at place next out
+  pub wide : next ≡ at + 73 * i
 
 -- before the first
-pub lines_start : {first end at : ℕ} {text p : List ℕ} → first ≤ end → at ≤ length p → [] ≡ text → LinesPut first first end text at p at p
-lines_start h l e = record {
-  from = omega arith;
-  filled = record { within = h; same_length = refl; put = put_same e (put-nothing _ _ l) };
-  wide = omega arith;
-}
+pub lines_start : {n at : ℕ} {p : List ℕ} → at ≤ length p → LinesPut 0 n [] at p at p
+lines_start h = record { filled = filled_start _ _ _ h; wide = omega arith }
 
 -- one line more
-pub lines_more : {first i end at m e : ℕ} {x y z p q r : List ℕ} → LinesPut first i end x at p m q → i < end → PutWide y 73 m q e r
-    → z ≡ x ++ y → LinesPut first (i + 1) end z at p e r
-lines_more {first} {i} f h g s =
-    let n = f.from in
+pub lines_more : {i n at m e : ℕ} {x y z p q r : List ℕ} → LinesPut i n x at p m q → i < n → PutWide y 73 m q e r
+    → z ≡ x ++ y → LinesPut (i + 1) n z at p e r
+lines_more f h g s =
     let w = f.wide in
-    record { from = omega arith; filled = filled_next f.filled h g.put s; wide = omega (arith, g.wide) }
+    record { filled = filled_next f.filled h g.put s; wide = omega (arith, g.wide) }
 
 -- ---- pages
 
--- the page of the rows from first to before end: its top lines, its rows, and the lines of blanks
-pub page-parts : (kind : Kind) (a : ℕ) (fs : List RowFigures) (first end : ℕ) → first ≤ end → end ≤ length fs
-    → title_line kind a ++ (names_line ++ (concatenated (map row_line (take (end - first) (drop first fs)))
-    ++ concatenated (replicate (58 - (end - first)) blank_line)))
-    ≡ concatenated (page_lines kind a (take (end - first) (drop first fs)))
+-- of rows that fit, the first do and the rest do
+pub fit-front : (n : ℕ) (fs : List RowFigures) → EachFits fs → EachFits (take n fs)
+fit-front n fs g r lt =
+    let e = length-take n fs in
+    let low : r < n = omega arith in
+    rw (get_or-take n fs r zero_figures low) (g r (omega arith))
+
+pub fit-rest : (n : ℕ) (fs : List RowFigures) → EachFits fs → EachFits (drop n fs)
+fit-rest n fs g r lt =
+    let e = length-drop n fs in
+    rw (get_or-drop n fs r zero_figures) (g (n + r) (omega arith))
+
+-- the page of rows: its top lines, its rows, and the lines of blanks
+pub page-parts : (kind : Kind) (a : ℕ) (fs : List RowFigures)
+    → title_line kind a ++ (names_line ++ (concatenated (map row_line fs) ++ concatenated (replicate (58 - length fs) blank_line)))
+    ≡ concatenated (page_lines kind a fs)
 unfolding concatenated page_lines
-page-parts kind a fs first end h l =
-    let room : end - first ≤ length (drop first fs) = rw length-drop (omega arith) in
-    let count = length-take-le (end - first) (drop first fs) room in
-    rw (count, concatenated-append (map row_line (take (end - first) (drop first fs))) (replicate (58 - (end - first)) blank_line))
+page-parts kind a fs = rw (concatenated-append (map row_line fs) (replicate (58 - length fs) blank_line))
 
 -- up to 58 rows: one page
-pub one-page : (kind : Kind) (a : ℕ) (fs : List RowFigures) (rows : ℕ) → rows ≤ rows_on_page → rows ≤ length fs
-    → concatenated (page_lines kind a (take (rows - 0) (drop 0 fs))) ≡ pages kind a (take rows fs)
+pub one-page : (kind : Kind) (a : ℕ) (fs : List RowFigures) → length fs ≤ rows_on_page
+    → concatenated (page_lines kind a fs) ≡ pages kind a fs
 unfolding pages all_lines second_page
-one-page kind a fs rows h l =
-    let n : rows - 0 ≡ rows = omega arith in
-    let len = length-take-le rows fs l in
-    let short : length (take rows fs) ≤ rows_on_page = omega (arith, len) in
-    rw (n, take_all rows_on_page (take rows fs) short, drop_of_length-le (take rows fs) {i = rows_on_page} short, append-nil)
+one-page kind a fs short =
+    rw (take_all rows_on_page fs short, drop_of_length-le fs {i = rows_on_page} short, append-nil)
 
 -- more rows: two pages
-pub two-pages : (kind : Kind) (a : ℕ) (fs : List RowFigures) (rows : ℕ) → rows_on_page < rows → rows ≤ length fs
-    → concatenated (page_lines kind a (take (58 - 0) (drop 0 fs))) ++ concatenated (page_lines kind a (take (rows - 58) (drop 58 fs)))
-    ≡ pages kind a (take rows fs)
+pub two-pages : (kind : Kind) (a : ℕ) (fs : List RowFigures) → rows_on_page < length fs
+    → concatenated (page_lines kind a (take 58 fs)) ++ concatenated (page_lines kind a (drop 58 fs)) ≡ pages kind a fs
 unfolding pages all_lines
-two-pages kind a fs rows h l =
-    let m = rows - 58 in
-    let whole : 58 + m ≡ rows = omega arith in
-    let split : take rows fs ≡ take 58 fs ++ take m (drop 58 fs) = ap (λ k. take k fs) (sym whole) ∙ take-add 58 m fs in
-    let first : take rows_on_page (take rows fs) ≡ take 58 fs = take-take 58 rows fs (omega arith) in
-    let rest : drop rows_on_page (take rows fs) ≡ take m (drop 58 fs) =
-    ap (drop 58) split ∙ drop_at (take 58 fs) (take m (drop 58 fs)) 58 (length-take-le 58 fs (omega arith)) in
-    let some_rows : 0 < length (take m (drop 58 fs)) = rw (length-take-le m (drop 58 fs) (rw length-drop (omega arith))) (omega arith) in
-    rw (first, rest, second-some kind a (take m (drop 58 fs)) some_rows, concatenated-append)
+two-pages kind a fs h =
+    let some_rows : 0 < length (drop 58 fs) = rw length-drop (omega arith) in
+    rw (second-some kind a (drop 58 fs) some_rows, concatenated-append)

@@ -3,7 +3,8 @@ use Prim.Native.Nat.{ℕ, ◌≤◌, ◌<◌}
 use mathlib.Core.Path.{◌≡◌}
 use mathlib.Core.List.{List}
 use native.Mathlib.Omega.{arith}
-use lib.ListN.{length, take, get_or}
+use lib.ListN.{length, take, length-take}
+use lib.Seq.{get_or-take}
 use Rattle.model.specs.Rows.{zero_figures}
 use Rattle.model.specs.Sheets.{SheetValue, Valid, most_rows}
 use Rattle.model.specs.Standing.{Standing}
@@ -13,7 +14,7 @@ use Rattle.model.specs.declared.RowFigures.{RowFigures}
 use Rattle.model.specs.declared.Sheet.{Sheet}
 use Rattle.model.proofs.Standing.{rows-counted, kind-is, a_is}
 use Rattle.model.specs.RowAnswers.{all_figures}
-use Rattle.page.specs.Page.{pages, pages_of, Fits}
+use Rattle.page.specs.Page.{pages, pages_of, EachFits}
 use Rattle.page.proofs.Fitting.{every-field-fits}
 use Rattle.model.proofs.RowAnswers.{figures-at, figures-front}
 
@@ -25,10 +26,12 @@ page-is v rows k a c most = rw (← k, ← a, ← c, figures-front v most)
 
 -- and every field of it fits
 pub page-fits : (v : SheetValue) → Valid v → {rows : ℕ} {all : List RowFigures} → length v.head.rows ≡ rows → all ≡ all_figures v
-    → (r : ℕ) → r < rows → Fits (get_or all r zero_figures)
-page-fits v ok {rows} c e r lt =
+    → EachFits (take rows all)
+page-fits v ok {rows} {all} c e r lt =
+    let t = length-take rows all in
+    let low : r < rows = omega arith in
     let here : r < length v.head.rows = omega (arith, c) in
-    rw (e, figures-at v r zero_figures here ok.rows.rows_within) (every-field-fits v ok r here)
+    rw (get_or-take rows all r zero_figures low, e, figures-at v r zero_figures here ok.rows.rows_within) (every-field-fits v ok r here)
 
 -- those of a standing sheet, from its counts
 module _ (s : Sheet) (c : Standing s) where

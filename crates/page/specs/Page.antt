@@ -1,5 +1,6 @@
 -- The page for the binder: request F-2. 60 lines of exactly 72 characters and a line feed.
-use Rattle.std.specs.Prelude.{ℕ, ◌+◌, ◌-◌, ◌≤◌, List, [], ◌∷◌, ◌++◌, map, cond, length, take, drop, replicate, ltb, leb}
+use Rattle.std.specs.Prelude.{ℕ, ◌+◌, ◌-◌, ◌≤◌, ◌<◌, List, [], ◌∷◌, ◌++◌, map, cond, length, get_or, take, drop, replicate, ltb, leb}
+use Rattle.model.specs.Rows.{zero_figures}
 use Rattle.model.specs.Sheets.{SheetValue}
 use Rattle.model.specs.declared.Kind.{Kind}
 use Rattle.model.specs.declared.RowFigures.{RowFigures}
@@ -130,6 +131,10 @@ pub record Fits (f : RowFigures) : Type 0 where
   pub volume_fits : length (written f.volume) ≤ 12
   pub load_fits : length (written f.load.0) ≤ 12
   pub mean_fits : length (written f.mean) ≤ 12
+
+-- those of each row do
+abbrev pub EachFits : List RowFigures → Type 0
+EachFits fs = (r : ℕ) → r < length fs → Fits (get_or fs r zero_figures)
 
 -- the largest figures: the largest prices; a miss in every step, of the largest size and at the largest weight; and every segment, of the
 -- largest size, in memory in every step

@@ -3,20 +3,19 @@
 // nothing is assumed.
 #![tactic(auto)]
 
-ghost use Rattle.std.specs.Prelude.{◌≡◌, [], ◌∷◌, ◌++◌, map, ℕ, ◌+◌, ◌*◌, ◌-◌, ◌≤◌, ◌<◌, length, get_or, take, drop, replicate};
+ghost use Rattle.std.specs.Prelude.{◌≡◌, [], ◌∷◌, ◌++◌, map, ◌+◌, ◌*◌, ◌≤◌, length, replicate, Ok};
 ghost use Rattle.model.specs.Sheets.{most_rows};
 ghost use Rattle.decimal.specs.Decimal.{written};
-ghost use Rattle.model.specs.Places.{gives, PlaceLeft};
-ghost use Rattle.model.specs.Rows.{zero_figures};
+ghost use Rattle.model.specs.Places.{PlaceLeft};
 ghost use Rattle.model.specs.Standing.{Standing};
 ghost use Rattle.model.specs.Values.{value_of};
 ghost use Rattle.text.specs.inner.Puts.{Put};
 ghost use Rattle.text.specs.Keys.{kind_key, kind_word, a_key};
 ghost use Rattle.page.specs.inner.Wide.{PutWide};
 ghost use Rattle.page.specs.Page.{blank, blanks, field, title_line, names_line, row_line, blank_line};
-ghost use Rattle.page.specs.Page.{page_lines, concatenated, pages, pages_of, pages_length, Fits};
+ghost use Rattle.page.specs.Page.{page_lines, concatenated, pages, pages_of, pages_length, Fits, EachFits};
 
-use model::{Kind, PlaceAnswer, Refusal, RowFigures, Sheet, Verdict};
+use model::{Kind, Refusal, RowFigures, Sheet};
 use text::put;
 
 // Writes `n` blanks, and gives the index after them.
@@ -24,12 +23,9 @@ fn put_blanks(n: usize, out: &mut [u8], at: usize) -> usize
     requires { at + n ≤ length out.old }
     ensures { PutWide (blanks n) n at out.old result out.new }
 {
-    let mut i = 0;
-    while i < n {
-        out[at + i] = 32;
-        i += 1;
-    }
-    at + i
+    let end = at + n;
+    out[at..end].fill(b' ');
+    end
 }
 
 // Writes `n` blanks and a line feed, and gives the index after it.
@@ -38,7 +34,7 @@ fn put_end(n: usize, out: &mut [u8], at: usize) -> usize
     ensures { PutWide (blanks n ++ (10 ∷ [])) (n + 1) at out.old result out.new }
 {
     let last = put_blanks(n, out, at);
-    out[last] = 10;
+    out[last] = b'\n';
     last + 1
 }
 
@@ -65,25 +61,14 @@ fn put_row(f: RowFigures, out: &mut [u8], at: usize) -> usize
     put_end(4, out, last)
 }
 
-// Writes a line for each of the rows from `first` to before `end`, and gives the index after them.
-fn put_rows(
-    figures: [RowFigures; Sheet::MAX_ROWS],
-    first: usize,
-    end: usize,
-    out: &mut [u8],
-    at: usize,
-) -> usize
-    requires { (first ≤ end) × (end ≤ 64) × ((r : ℕ) → r < end → Fits (get_or figures r zero_figures))
-        × (at + 73 * (end - first) ≤ length out.old) }
-    ensures { PutWide (concatenated (map row_line (take (end - first) (drop first figures)))) (73 * (end - first)) at
-        out.old result out.new }
+// Writes a line for each row, and gives the index after them.
+fn put_rows(rows: &[RowFigures], out: &mut [u8], at: usize) -> usize
+    requires { EachFits rows.now × (at + 73 * length rows.now ≤ length out.old) }
+    ensures { PutWide (concatenated (map row_line rows.now)) (73 * length rows.now) at out.old result out.new }
 {
     let mut next = at;
-    let mut i = first;
-    while i < end {
-        let f = figures[i];
-        next = put_row(f, out, next);
-        i += 1;
+    for f in rows {
+        next = put_row(*f, out, next);
     }
     next
 }
@@ -127,94 +112,60 @@ fn put_blank_lines(n: usize, out: &mut [u8], at: usize) -> usize
     ensures { PutWide (concatenated (replicate n blank_line)) (73 * n) at out.old result out.new }
 {
     let mut next = at;
-    let mut i = 0;
-    while i < n {
+    for _ in 0..n {
         next = put_end(72, out, next);
-        i += 1;
     }
     next
 }
 
-// Writes the page of the rows from `first` to before `end`, and gives the index after it.
-fn put_page(
-    kind: Kind,
-    a: u8,
-    figures: [RowFigures; Sheet::MAX_ROWS],
-    first: usize,
-    end: usize,
-    out: &mut [u8],
-    at: usize,
-) -> usize
-    requires { (first ≤ end) × (end ≤ 64) × (end ≤ first + 58) × ((r : ℕ) → r < end → Fits (get_or figures r zero_figures))
-        × (at + 4380 ≤ length out.old) }
-    ensures { PutWide (concatenated (page_lines kind a (take (end - first) (drop first figures)))) 4380 at out.old result
-        out.new }
+// Writes the page of these rows, and gives the index after it.
+fn put_page(kind: Kind, a: u8, rows: &[RowFigures], out: &mut [u8], at: usize) -> usize
+    requires { (length rows.now ≤ 58) × EachFits rows.now × (at + 4380 ≤ length out.old) }
+    ensures { PutWide (concatenated (page_lines kind a rows.now)) 4380 at out.old result out.new }
 {
     let names = put_title(kind, a, out, at);
-    let rows = put_names(out, names);
-    let blanks = put_rows(figures, first, end, out, rows);
-    put_blank_lines(58 - (end - first), out, blanks)
+    let first = put_names(out, names);
+    let blanks = put_rows(rows, out, first);
+    put_blank_lines(58 - rows.len(), out, blanks)
 }
 
 // How many bytes the page or the two pages of so many rows have.
 fn pages_length(rows: usize) -> usize
     ensures { result ≡ pages_length rows }
 {
-    if rows <= 58 {
-        return 4380;
-    }
-    8760
+    if rows <= 58 { 4380 } else { 8760 }
 }
 
-// Writes the page or the two pages of the first `rows` rows at the front of `out`, and gives their length.
-fn put_pages(
-    kind: Kind,
-    a: u8,
-    figures: [RowFigures; Sheet::MAX_ROWS],
-    rows: usize,
-    out: &mut [u8],
-) -> usize
-    requires { (rows ≤ most_rows) × ((r : ℕ) → r < rows → Fits (get_or figures r zero_figures)) × (4380 ≤ length out.old)
-        × (58 < rows → 8760 ≤ length out.old) }
-    ensures { Put (pages kind a (take rows figures)) 0 out.old result out.new }
+// Writes the page or the two pages of the rows at the front of `out`, and gives their length.
+fn put_pages(kind: Kind, a: u8, rows: &[RowFigures], out: &mut [u8]) -> usize
+    requires { (length rows.now ≤ most_rows) × EachFits rows.now × (pages_length (length rows.now) ≤ length out.old) }
+    ensures { Put (pages kind a rows.now) 0 out.old result out.new }
 {
-    if rows <= 58 {
-        return put_page(kind, a, figures, 0, rows, out, 0);
+    if rows.len() <= 58 {
+        return put_page(kind, a, rows, out, 0);
     }
-    let second = put_page(kind, a, figures, 0, 58, out, 0);
-    put_page(kind, a, figures, 58, rows, out, second)
+    let second = put_page(kind, a, &rows[..58], out, 0);
+    put_page(kind, a, &rows[58..], out, second)
 }
 
-// The page or the two pages of the first `rows` rows into a lent place, then its old contents; refusal 11 and no change where the place is
-// shorter.
-pub fn write(
-    kind: Kind,
-    a: u8,
-    figures: [RowFigures; Sheet::MAX_ROWS],
-    rows: usize,
-    out: &mut [u8],
-) -> PlaceAnswer
-    requires { (rows ≤ most_rows) × ((r : ℕ) → r < rows → Fits (get_or figures r zero_figures)) }
-    ensures { PlaceLeft (gives (pages kind a (take rows figures))) out.old out.new result }
+// The page or the two pages of the rows into a lent place, then its old contents; refusal 11 and no change where the place is shorter.
+pub fn write(kind: Kind, a: u8, rows: &[RowFigures], out: &mut [u8]) -> Result<usize, Refusal>
+    requires { (length rows.now ≤ most_rows) × EachFits rows.now }
+    ensures { PlaceLeft (Ok (pages kind a rows.now)) out.old out.new result }
 {
-    let length = pages_length(rows);
-    if out.len() < length {
-        return PlaceAnswer::refused(Refusal::PlaceTooShort);
+    if out.len() < pages_length(rows.len()) {
+        return Err(Refusal::PlaceTooShort);
     }
-    put_pages(kind, a, figures, rows, out);
-    PlaceAnswer {
-        verdict: Verdict::Accepted,
-        length,
-    }
+    Ok(put_pages(kind, a, rows, out))
 }
 
 // The page or the two pages of an accepted sheet into a lent place, or 11.
-pub fn sheet_page(s: Sheet, out: &mut [u8]) -> PlaceAnswer
+pub fn sheet_page(s: Sheet, out: &mut [u8]) -> Result<usize, Refusal>
     requires { Standing s }
-    ensures { PlaceLeft (gives (pages_of (value_of s))) out.old out.new result }
+    ensures { PlaceLeft (Ok (pages_of (value_of s))) out.old out.new result }
 {
     let all = rows::all_figures(s);
     let head = s.head;
     let kind = head.kind;
-    write(kind, head.a, all, head.rows, out)
+    write(kind, head.a, &all[..head.rows], out)
 }

@@ -1,4 +1,5 @@
 -- Running sums along sorted keys are memory and load of the points, and the points are those of the run.
+use Rattle.std.specs.Prelude.{Ok, Err}
 use Prim.Native.Nat.{ℕ, zero, suc, ◌+◌, ◌*◌, ◌%◌, ◌^◌, ◌≤◌, ◌<◌}
 use mathlib.Core.Path.{◌≡◌, refl, ap, sym, ◌∙◌}
 use mathlib.Core.Bool.{Bool, true, false, cond}
@@ -12,12 +13,11 @@ use lib.ListN.{length, get_or, drop, length-append}
 use borrow.Author.Tests.{eqb-true, eqb-false, leb-true, leb-false, le-leb, lt-leb, ltb-true, ltb-false}
 use Rattle.model.specs.Costs.{total_cost}
 use Rattle.model.specs.Figures.{retention_of, kept, ref_cost, optmem}
-use Rattle.model.specs.Places.{gives, nothing_placed, PlaceLeft}
+use Rattle.model.specs.Places.{PlaceLeft}
 use Rattle.model.specs.Sheets.{RunWithin}
 use Rattle.model.specs.Sums.{sum}
 use Rattle.model.specs.Traces.{Trace, segs, steps, touched, touching, size_of, swap_of, unit_of, over_touches}
 use Rattle.model.specs.declared.Refusal.TheVariants.{PlaceTooShort}
-use Rattle.model.specs.declared.Verdict.TheVariants.{Accepted}
 use Rattle.model.proofs.Bounds.{unit-within, either-within}
 use Rattle.model.proofs.Loads.{over_touches-eq, over_touches-total, touching-le, touching-within, load-swaps}
 use Rattle.model.proofs.Places.{text-short, text-fits}
@@ -235,11 +235,11 @@ module _ {T : Trace} {rs ws keys : List ℕ} {n : ℕ} (g : SortedRun T rs ws ke
 
     -- the two ends of `points`
     pub points-short : {out : List ℕ} {count : ℕ} → count ≡ suc (ended keys n) → length out < 4 * count
-        → PlaceLeft (gives (operating_points T)) out out (nothing_placed PlaceTooShort)
+        → PlaceLeft (Ok (operating_points T)) out out (Err PlaceTooShort)
     points-short {out} e lt = text-short (operating_points T) out (omega (arith, numbers-count))
 
     pub points-placed : {out out' : List ℕ} {count : ℕ} → count ≡ suc (ended keys n)
         → out' ≡ points_of rs ws keys memory load n ++ drop (4 * suc (ended keys n)) out → 4 * count ≤ length out
-        → PlaceLeft (gives (operating_points T)) out out' (record { verdict = Accepted; length = 4 * count })
+        → PlaceLeft (Ok (operating_points T)) out out' (Ok (4 * count))
     points-placed {out} e put le =
         rw (put, all-points, ← e) (text-fits (operating_points T) out (omega (arith, numbers-count)) le)

@@ -1,7 +1,7 @@
 -- The loop that writes the points: its start, one key more, and its end.
 use Prim.Native.Nat.{ℕ, zero, suc, ◌+◌, ◌-◌, ◌*◌, ◌^◌, ◌≤◌, ◌<◌}
 use mathlib.Core.Path.{◌≡◌, refl, ap, sym, ◌∙◌}
-use mathlib.Core.Bool.{cond}
+use mathlib.Core.Bool.{Bool, true, false, not, cond}
 use mathlib.Core.Logic.{⊎_elim}
 use mathlib.Core.List.{List, [], ◌∷◌, ◌++◌, append_assoc}
 use native.Mathlib.Omega.{arith}
@@ -12,6 +12,7 @@ use borrow.Table.Steps.{cases}
 use native.Mathlib.Nat.{eq-or-lt_of_le}
 use lib.ListN.{length, get_or, set, drop, length-set, length-append}
 use lib.Seq.{drop-cons, set_at}
+use Rattle.std.specs.Int.{from_bool}
 use Rattle.model.specs.Sums.{sum}
 use Rattle.model.proofs.Sums.{sum-none, sum-suc}
 use Rattle.point_list.specs.inner.Walk.{quotient_at, reuse_at, before_at, ended, first_cost, leader, memory_to, load_to, point_at}
@@ -80,6 +81,11 @@ ended-most keys zero = omega arith
 ended-most keys (suc i) =
     let rec = ended-most keys i in
     cases (eqb (quotient_at keys i) (before_at keys i)) (λ e. rw e (omega arith)) (λ e. rw e (omega arith))
+
+-- 1 where a test fails
+pub not-one : (b : Bool) → from_bool (not b) ≡ cond b 0 1
+not-one true = refl
+not-one false = refl
 
 -- counted up to key k
 pub record Counting (keys : List ℕ) (n count q k : ℕ) : Type 0 where

@@ -10,28 +10,26 @@ ghost use Rattle.model.specs.Standing.{Standing};
 ghost use Rattle.model.specs.Values.{value_of};
 ghost use Rattle.points.specs.Answers.{points_for};
 
-use model::{PlaceAnswer, Sheet};
+use model::{Refusal, Sheet};
 
 // Every operating point of an accepted sheet as four numbers, R, w, optmem and load, at the head of a lent place; what stands beyond them
 // stays: 11. A place for 4 × 2,048 numbers always suffices.
-pub fn sheet_points(s: Sheet, out: &mut [u64]) -> PlaceAnswer
+pub fn sheet_points(s: Sheet, out: &mut [u64]) -> Result<usize, Refusal>
     requires { Standing s }
     ensures { PlaceLeft (points_for (value_of s)) out.old out.new result }
 {
     let head = s.head;
-    let kind = head.kind;
     let segs = head.segs;
     let sizes = head.sizes;
     let warm = head.warm;
     let holds = head.holds;
     let steps = s.steps;
-    let touches = s.touches;
     point_sums::points(
-        kind,
+        head.kind,
         head.a,
         &sizes[..segs],
         &holds[..warm],
-        &touches[..steps],
+        &s.touches[..steps],
         out,
     )
 }

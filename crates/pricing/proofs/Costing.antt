@@ -1,4 +1,5 @@
 -- The costs before the first step, and that the costs of all steps are the schedule's.
+use Rattle.std.specs.Prelude.{Ok}
 use Prim.Native.Nat.{ℕ, suc, ◌+◌, ◌*◌, ◌<◌, ◌^◌}
 use mathlib.Core.Path.{◌≡◌, refl, sym, ◌∙◌}
 use mathlib.Core.Bool.{Bool, true, false, cond, not, ◌&&◌, false≢true}
@@ -11,7 +12,6 @@ use Rattle.model.specs.Figures.{ref_cost}
 use Rattle.model.specs.Schedules.{held, Permitted, schedule_memory, schedule_load, schedule_total}
 use Rattle.model.specs.Sheets.{RunWithin, listed}
 use Rattle.model.specs.declared.MemoryUnits.{MemoryUnits}
-use Rattle.model.specs.declared.Verdict.TheVariants.{Accepted}
 use Rattle.model.proofs.Sums.{sum-none, sum-eq, sum-add}
 use Rattle.model.proofs.Touches.{touching-sum}
 use Rattle.model.specs.Pricing.{schedule_verdict}
@@ -84,7 +84,7 @@ pub through-all : (T : Trace) (p : List ℕ) (h d n total : ℕ) (c : Costs) →
     → total ≡ total_cost h d c.memory.0 c.load.0 → priced c.memory.0 c.load.0 total ≡ price_answer T h d p
 unfolding schedule_total schedule_load load_through
 through-all T p h d n total c whole done all e =
-    let accepted : schedule_verdict T p ≡ Accepted = whole-verdict T p whole ∙ (rw all at done.accepted) in
+    let accepted : schedule_verdict T p ≡ (Ok tt) = whole-verdict T p whole ∙ (rw all at done.accepted) in
     let memory : c.memory.0 ≡ schedule_memory T p =
     (rw all at done.memory_cost) ∙ sym (memory-held T p (accepted-permitted T p accepted)) in
     let load : c.load.0 ≡ schedule_load T p = rw all at done.load_cost in

@@ -1,49 +1,33 @@
 -- The costs step by step: what one step adds, and why nothing overflows.
+use Rattle.std.specs.Prelude.{Err}
 use Prim.Native.Nat.{ℕ, zero, suc, ◌+◌, ◌-◌, ◌≤◌, ◌<◌, ◌^◌}
 use mathlib.Core.Path.{◌≡◌, refl, ap, sym, ◌∙◌}
 use mathlib.Core.Bool.{Bool, true, false, cond, not, ◌&&◌, false≢true}
-use mathlib.Core.List.{List, [], ◌∷◌}
+use mathlib.Core.List.{List}
 use native.Mathlib.Omega.{arith}
 use native.Mathlib.Nat.{add-suc, add-zero}
 use lib.Dec.{ltb}
-use lib.ListN.{length, get_or}
 use borrow.Author.Tests.{lt-ltb, le-ltb, ltb-true}
 use Rattle.model.specs.Sums.{sum}
-use Rattle.model.specs.Traces.{Trace, segs, steps, size_of, unit_of, swap_of, entry, touched, touching}
+use Rattle.model.specs.Traces.{Trace, segs, size_of, unit_of, swap_of, entry, touched, touching}
 use Rattle.model.specs.Schedules.{held}
 use Rattle.model.specs.Sheets.{RunWithin}
 use Rattle.model.specs.declared.Refusal.TheVariants.{TouchedNotHeld, HeldNotBefore}
-use Rattle.model.specs.declared.Verdict.TheVariants.{Refused}
 use Rattle.model.proofs.Bounds.{product-within, unit-within, either-within}
 use Rattle.model.proofs.Sums.{sum-suc, sum-eq, sum-add, sum-within}
 use Rattle.model.proofs.Touches.{touching-sum}
 use Rattle.model.proofs.Loads.{touching-within}
 use Rattle.schedule.proofs.Segments.{by-segment}
-use Rattle.schedule.specs.inner.Segments.{segment_of}
-use Rattle.pricing.specs.declared.step_price.Changes.{Changes}
+use Rattle.schedule.specs.inner.Segments.{chosen}
+use Rattle.pricing.specs.inner.Held.{held_of}
+use Rattle.pricing.proofs.Changing.{held-of, touches-below}
+use Rattle.model.specs.Costs.{unit_cost, swap_cost}
+use Rattle.std.specs.Prelude.{Option, Some, None}
 use Rattle.pricing.specs.declared.step_price.Costs.{Costs}
 use Rattle.model.specs.Pricing.{missing, enters, some_enters, step_verdict}
-use Rattle.pricing.specs.inner.Steps.{held_cost, memory_through, load_through, Through}
-use Rattle.pricing.specs.inner.Passing.{unit_at, leaving, SegmentsPassed, Moved}
+use Rattle.pricing.specs.inner.Steps.{held_cost, memory_through, load_through, Through, Touches}
+use Rattle.pricing.specs.inner.Passing.{unit_at, leaving, SegmentsPassed, Moved, lacks, loaded_size}
 use Rattle.pricing.proofs.StepFaults.{none-enters, step-accepted, one_more, held-touched}
-
--- the touched segment was held before: nothing is loaded
-pub moved-kept : (u w left : ℕ) (b : Bool) (c r : Costs) → b ≡ true → left ≤ c.held.0 + cond b 0 u → r.held.0 ≡ c.held.0 - left
-    → r.memory.0 ≡ c.memory.0 + r.held.0 → r.load.0 ≡ c.load.0 → Moved u w b left c r
-moved-kept u w left true c r e le held memory load = record { held_moved = omega arith; memory_moved = memory; load_moved = omega arith }
-moved-kept u w left false c r e le held memory load = let z : ◌≡◌ {A = ℕ} 0 1 = cc in absurd (omega arith)
-
--- it was not: it is loaded
-pub moved-loaded : (u w left : ℕ) (b : Bool) (c r : Costs) → b ≡ false → left ≤ c.held.0 + cond b 0 u
-    → r.held.0 ≡ c.held.0 + u - left → r.memory.0 ≡ c.memory.0 + r.held.0 → r.load.0 ≡ c.load.0 + w → Moved u w b left c r
-moved-loaded u w left true c r e le held memory load = let z : ◌≡◌ {A = ℕ} 0 1 = cc in absurd (omega arith)
-moved-loaded u w left false c r e le held memory load = record { held_moved = omega arith; memory_moved = memory; load_moved = load }
-
--- beyond a list stands 0
-pub get_or-beyond : (l : List ℕ) (i : ℕ) → length l ≤ i → get_or l i 0 ≡ 0
-get_or-beyond [] i le = refl
-get_or-beyond (x ∷ l) zero le = absurd (omega arith)
-get_or-beyond (x ∷ l) (suc i) le = get_or-beyond l i (omega arith)
 
 -- a sum of terms that are 0 from s on
 sum-beyond : (k s : ℕ) (f : ℕ → ℕ) → ((i : ℕ) → s ≤ i → f i ≡ 0) → sum (s + k) f ≡ sum s f
@@ -81,8 +65,8 @@ module _ (T : Trace) (ok : RunWithin T) (p : List ℕ) where
             (λ i l. either-within (held T p t i && not (held T p (suc t) i)) _ 0 4095 (unit_at-within i) (omega arith)),
       )
 
-  pub passed-within : (t n : ℕ) (c : Changes) → SegmentsPassed T p t n c → n ≤ 256 → c.left.0 < 2 ^ 40
-  passed-within t n c passed le = omega (arith, passed.gone, leaving-within t n le)
+  pub passed-within : (t n left : ℕ) → SegmentsPassed T p t n left → n ≤ 256 → left < 2 ^ 40
+  passed-within t n left passed le = omega (arith, passed.gone, leaving-within t n le)
 
   pub held-within : (t : ℕ) → held_cost T p t ≤ 1048320
   unfolding held_cost
@@ -152,66 +136,83 @@ module _ (T : Trace) (ok : RunWithin T) (p : List ℕ) where
     omega (arith, done.load_cost, load_within n le),
   )
 
--- what is loaded, told by whether x is a segment and by whether nothing is loaded
-loaded-told : (s h b : Bool) (w : ℕ) → b ≡ cond s h true → cond s (cond h 0 w) 0 ≡ cond b 0 w
-loaded-told true h b w e = rw e
-loaded-told false h b w e = rw e
+-- a step that touches that segment, or nothing
+module _ (T : Trace) (start p : List ℕ) (t : ℕ) (touched : Option ℕ) (at : Touches T start p t touched) where
+  ok : RunWithin T
+  ok = at.step.limits
 
--- a step whose segment is x, 256 where it touches none
-module _ (T : Trace) (ok : RunWithin T) (p : List ℕ) (t : ℕ) (lt : t < steps T) (x : ℕ)
-    (is : x ≡ segment_of (segs T) (get_or T.entries t 0)) where
-  missing-told : missing T p t ≡ cond (ltb x 256) (not (held T p (suc t) x)) false
+  -- a choice by the segment, told by the start set and the bytes
+  told : {A : Type 0} (f g : ℕ → A) (z : A) → ((x : ℕ) → x < 256 → f x ≡ g x) → chosen touched f z ≡ chosen touched g z
+  told f g z same = go touched refl
+    where
+      go : (o : Option ℕ) → touched ≡ o → chosen o f z ≡ chosen o g z
+      go None e = refl
+      go (Some x) e = same x (touches-below T start p t touched x at e).1
+
+  missing-told : missing T p t ≡ lacks start p t touched
   unfolding missing
   missing-told =
       and-cond (ltb (entry T t) (segs T)) (not (held T p (suc t) (entry T t)))
-      ∙ by-segment T t x lt ok.segs_within is (λ i. not (held T p (suc t) i)) false
+      ∙ by-segment T t touched at.step.place at.is (λ i. not (held T p (suc t) i)) false
+      ∙ told (λ i. not (held T p (suc t) i)) (λ i. not (held_of start p (suc t) i)) false
+      (λ x few. ap not (held-of T start p t at.step (suc t) x few))
     where
       and-cond : (a b : Bool) → a && b ≡ cond a b false
       and-cond true b = refl
       and-cond false b = refl
 
   -- its faults
-  pub step-lacks : cond (ltb x 256) (not (held T p (suc t) x)) false ≡ true → step_verdict T p t ≡ Refused TouchedNotHeld
+  pub step-lacks : lacks start p t touched ≡ true → step_verdict T p t ≡ Err TouchedNotHeld
   unfolding step_verdict
   step-lacks e = rw (missing-told, e)
 
-  pub step-enters : cond (ltb x 256) (not (held T p (suc t) x)) false ≡ false → some_enters T p t 256 ≡ true
-      → step_verdict T p t ≡ Refused HeldNotBefore
+  pub step-enters : lacks start p t touched ≡ false → some_enters T p t 256 ≡ true → step_verdict T p t ≡ Err HeldNotBefore
   unfolding step_verdict
   step-enters e f = rw (missing-told, e, f)
 
-  module _ (c : Costs) (g : Changes) (done : Through T p t c) (found : SegmentsPassed T p t 256 g)
-      (e : cond (ltb x 256) (not (held T p (suc t) x)) false ≡ false) (still : g.others ≡ false) (b : Bool)
-      (before : b ≡ cond (ltb x 256) (held T p t x) true) where
-    -- what it loads, each segment i of cost f i
-    loads : (f : ℕ → ℕ) → touching T (λ t i. cond (held T p t i) 0 (f i)) t ≡ cond b 0 (f x)
+  module _ (c : Costs) (left : ℕ) (done : Through T p t c) (found : SegmentsPassed T p t 256 left) (e : lacks start p t touched ≡ false)
+      (loaded : Option ℕ) (size : loaded ≡ loaded_size T.sizes start p t touched) where
+    -- what it loads, a segment of size z of cost g z
+    loads : (g : ℕ → ℕ) → touching T (λ t i. cond (held T p t i) 0 (g (size_of T i))) t ≡ chosen loaded g 0
     unfolding touching
-    loads f =
-        by-segment T t x lt ok.segs_within is (λ i. cond (held T p t i) 0 (f i)) 0
-        ∙ loaded-told (ltb x 256) (held T p t x) b (f x) before
+    loads g =
+        by-segment T t touched at.step.place at.is (λ i. cond (held T p t i) 0 (g (size_of T i))) 0
+        ∙ told (λ i. cond (held T p t i) 0 (g (size_of T i))) (λ i. cond (held_of start p t i) 0 (g (size_of T i))) 0
+        (λ x few. ap (λ b. cond b 0 (g (size_of T x))) (held-of T start p t at.step t x few))
+        ∙ go touched
+        ∙ ap (λ l. chosen l g 0) (sym size)
+      where
+        one : (b : Bool) (z : ℕ) → cond b 0 (g z) ≡ chosen (cond b None (Some z)) g 0
+        one true z = refl
+        one false z = refl
+
+        go : (o : Option ℕ) → chosen o (λ i. cond (held_of start p t i) 0 (g (size_of T i))) 0
+            ≡ chosen (loaded_size T.sizes start p t o) g 0
+        go None = refl
+        go (Some x) = one (held_of start p t x) (size_of T x)
 
     -- what is held after the step and what left
-    moves : held_cost T p (suc t) + g.left.0 ≡ c.held.0 + cond b 0 (unit_of T x)
+    moves : held_cost T p (suc t) + left ≡ c.held.0 + chosen loaded (unit_cost T.kind) 0
     moves =
         omega (
           arith,
           done.held-cost,
           found.gone,
-          held-step T ok p t (missing-told ∙ e) (sym found.entered ∙ still),
-          loads (unit_of T),
+          held-step T ok p t (missing-told ∙ e) found.entered,
+          loads (unit_cost T.kind),
         )
 
     -- what left was held or loaded
-    pub left-within : g.left.0 ≤ c.held.0 + cond b 0 (unit_of T x)
+    pub left-within : left ≤ c.held.0 + chosen loaded (unit_cost T.kind) 0
     left-within = omega (arith, moves)
 
     -- the costs with the step
-    pub through-step : (r : Costs) → Moved (unit_of T x) (swap_of T x) b g.left.0 c r → Through T p (suc t) r
+    pub through-step : (r : Costs) → Moved T.kind T.a loaded left c r → Through T p (suc t) r
     unfolding memory_through load_through
     through-step r m =
         let held-now : r.held.0 ≡ held_cost T p (suc t) = omega (arith, moves, m.held_moved) in
         record {
-          accepted = one_more T p t done.accepted (step-accepted T p t (missing-told ∙ e) (sym found.entered ∙ still));
+          accepted = one_more T p t done.accepted (step-accepted T p t (missing-told ∙ e) found.entered);
           held-cost = held-now;
           memory_cost = omega (arith, m.memory_moved, done.memory_cost, held-now, sum-suc t (λ t. held_cost T p (suc t)));
           load_cost =
@@ -220,6 +221,6 @@ module _ (T : Trace) (ok : RunWithin T) (p : List ℕ) (t : ℕ) (lt : t < steps
                 m.load_moved,
                 done.load_cost,
                 sum-suc t (touching T (λ t i. cond (held T p t i) 0 (swap_of T i))),
-                loads (swap_of T),
+                loads (swap_cost T.a),
               );
         }

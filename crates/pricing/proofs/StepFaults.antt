@@ -1,4 +1,5 @@
 -- The faults of one step: where it has none, each segment that it holds was held before or is touched, and it is accepted.
+use Rattle.std.specs.Prelude.{Ok}
 use Prim.Native.Nat.{ℕ, zero, suc, ◌<◌}
 use mathlib.Core.Path.{◌≡◌, refl}
 use mathlib.Core.Logic.{⊎_elim}
@@ -8,7 +9,6 @@ use native.Mathlib.Omega.{arith}
 use borrow.Author.Tests.{lt-ltb, not-false}
 use Rattle.model.specs.Traces.{Trace, segs, touched}
 use Rattle.model.specs.Schedules.{held}
-use Rattle.model.specs.declared.Verdict.TheVariants.{Accepted}
 use Rattle.model.proofs.Sums.{last-or-below}
 use Rattle.model.proofs.Touches.{touched-below, entry-touched}
 use Rattle.model.specs.Pricing.{missing, enters, some_enters, step_verdict, steps_verdict}
@@ -34,12 +34,12 @@ module _ (T : Trace) (p : List ℕ) where
       (last-or-below n i lt)
 
   -- a step is accepted where it has neither fault
-  pub step-accepted : (t : ℕ) → missing T p t ≡ false → some_enters T p t 256 ≡ false → step_verdict T p t ≡ Accepted
+  pub step-accepted : (t : ℕ) → missing T p t ≡ false → some_enters T p t 256 ≡ false → step_verdict T p t ≡ (Ok tt)
   unfolding step_verdict
   step-accepted t m e = rw (m, e)
 
   -- one accepted step more
-  pub one_more : (n : ℕ) → steps_verdict T p n ≡ Accepted → step_verdict T p n ≡ Accepted → steps_verdict T p (suc n) ≡ Accepted
+  pub one_more : (n : ℕ) → steps_verdict T p n ≡ (Ok tt) → step_verdict T p n ≡ (Ok tt) → steps_verdict T p (suc n) ≡ (Ok tt)
   unfolding steps_verdict
   one_more n before e = rw (before, e)
 

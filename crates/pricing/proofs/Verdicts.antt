@@ -1,5 +1,7 @@
 -- The verdict on a schedule is Accepted exactly where the schedule is permitted; the earliest faulty step decides a refusal; and pricing
 -- the optimal schedule gives optmem, load and opttotal.
+use Rattle.std.specs.Prelude.{Result, Ok, Err}
+use Rattle.model.specs.declared.Price.{Price}
 use Prim.Native.Nat.{ℕ, zero, suc, ◌*◌, ◌≤◌, ◌<◌}
 use mathlib.Core.Path.{◌≡◌, refl, ◌∙◌}
 use mathlib.Core.Logic.{⊎_elim}
@@ -14,26 +16,23 @@ use Rattle.model.specs.Figures.{load, optmem, opttotal}
 use Rattle.model.specs.Schedules.{held, Permitted, schedule_memory, schedule_load, schedule_total, optimal_schedule}
 use Rattle.model.specs.declared.Refusal.{Refusal}
 use Rattle.model.specs.declared.Refusal.TheVariants.{ScheduleLength, TouchedNotHeld, HeldNotBefore}
-use Rattle.model.specs.declared.Verdict.{Verdict}
-use Rattle.model.specs.declared.Verdict.TheVariants.{Accepted, Refused}
 use Rattle.model.proofs.Sums.{last-or-below}
 use Rattle.model.proofs.Touches.{touched-at}
 use Rattle.model.proofs.Optimal.{optimal-permitted, optimal-memory, optimal-load, optimal-total}
-use Rattle.model.specs.declared.PriceAnswer.{PriceAnswer}
-use Rattle.model.specs.Pricing.{schedule_verdict, no_price}
+use Rattle.model.specs.Pricing.{schedule_verdict}
 use Rattle.pricing.specs.inner.Prices.{price_answer}
 use Rattle.model.specs.Pricing.{missing, enters, some_enters, step_verdict, steps_verdict}
 use Rattle.model.specs.Refusals.{first_of}
 use Rattle.pricing.proofs.StepFaults.{none-enters, step-accepted, held-touched}
 
 -- two verdicts are accepted where the first of them is
-first_left : (v w : Verdict) → first_of v w ≡ Accepted → v ≡ Accepted
-first_left Accepted w e = refl
-first_left (Refused r) w e = e
+first_left : (v w : Result (Unit {0}) Refusal) → first_of v w ≡ (Ok tt) → v ≡ (Ok tt)
+first_left (Ok tt) w e = refl
+first_left (Err r) w e = e
 
-first-right : (v w : Verdict) → first_of v w ≡ Accepted → w ≡ Accepted
-first-right Accepted w e = e
-first-right (Refused r) w e = let z : ◌≡◌ {A = ℕ} 0 1 = cc in absurd (omega arith)
+first-right : (v w : Result (Unit {0}) Refusal) → first_of v w ≡ (Ok tt) → w ≡ (Ok tt)
+first-right (Ok tt) w e = e
+first-right (Err r) w e = let z : ◌≡◌ {A = ℕ} 0 1 = cc in absurd (omega arith)
 
 module _ (T : Trace) (p : List ℕ) where
   -- none of the first n enters where each of them does not
@@ -43,17 +42,18 @@ module _ (T : Trace) (p : List ℕ) where
   enters_none t (suc n) each = rw (enters_none t n (λ i l. each i (omega arith)), each n (omega arith))
 
   -- an accepted step has neither fault
-  accepted-step : (t : ℕ) → step_verdict T p t ≡ Accepted → (missing T p t ≡ false) × (some_enters T p t 256 ≡ false)
+  accepted-step : (t : ℕ) → step_verdict T p t ≡ (Ok tt) → (missing T p t ≡ false) × (some_enters T p t 256 ≡ false)
   unfolding step_verdict
   accepted-step t = go (missing T p t) (some_enters T p t 256)
     where
-      go : (m e : Bool) → cond m (Refused TouchedNotHeld) (cond e (Refused HeldNotBefore) Accepted) ≡ Accepted → (m ≡ false) × (e ≡ false)
+      go : (m e : Bool) → ◌≡◌ {A = Result (Unit {0}) Refusal} (cond m (Err TouchedNotHeld) (cond e (Err HeldNotBefore) (Ok tt))) (Ok tt)
+          → (m ≡ false) × (e ≡ false)
       go true e v = let z : ◌≡◌ {A = ℕ} 0 1 = cc in absurd (omega arith)
       go false true v = let z : ◌≡◌ {A = ℕ} 0 1 = cc in absurd (omega arith)
       go false false v = (refl, refl)
 
   -- a run of steps is accepted where each of them is
-  accepted-steps : (n : ℕ) → steps_verdict T p n ≡ Accepted → (t : ℕ) → t < n → step_verdict T p t ≡ Accepted
+  accepted-steps : (n : ℕ) → steps_verdict T p n ≡ (Ok tt) → (t : ℕ) → t < n → step_verdict T p t ≡ (Ok tt)
   unfolding steps_verdict
   accepted-steps zero e t lt = absurd (omega arith)
   accepted-steps (suc n) e t lt =
@@ -62,14 +62,14 @@ module _ (T : Trace) (p : List ℕ) where
       (λ l. accepted-steps n (first_left (steps_verdict T p n) (step_verdict T p n) e) t l)
       (last-or-below n t lt)
 
-  steps-accepted : (n : ℕ) → ((t : ℕ) → t < n → step_verdict T p t ≡ Accepted) → steps_verdict T p n ≡ Accepted
+  steps-accepted : (n : ℕ) → ((t : ℕ) → t < n → step_verdict T p t ≡ (Ok tt)) → steps_verdict T p n ≡ (Ok tt)
   unfolding steps_verdict
   steps-accepted zero each = refl
   steps-accepted (suc n) each = rw (steps-accepted n (λ t l. each t (omega arith)), each n (omega arith))
 
   -- the earliest faulty step decides, however many follow
-  pub first-fault : (n t : ℕ) (r : Refusal) → t < n → steps_verdict T p t ≡ Accepted → step_verdict T p t ≡ Refused r
-      → steps_verdict T p n ≡ Refused r
+  pub first-fault : (n t : ℕ) (r : Refusal) → t < n → steps_verdict T p t ≡ (Ok tt) → step_verdict T p t ≡ Err r
+      → steps_verdict T p n ≡ Err r
   unfolding steps_verdict
   first-fault zero t r lt before e = absurd (omega arith)
   first-fault (suc n) t r lt before e =
@@ -81,17 +81,17 @@ module _ (T : Trace) (p : List ℕ) where
   whole-verdict e = rw (eq-eqb (length p) (32 * steps T) e)
 
   -- a schedule of another length is refused with 8
-  pub other_length : eqb (length p) (32 * steps T) ≡ false → schedule_verdict T p ≡ Refused ScheduleLength
+  pub other_length : eqb (length p) (32 * steps T) ≡ false → schedule_verdict T p ≡ Err ScheduleLength
   unfolding schedule_verdict
   other_length e = rw e
 
   -- an accepted schedule has the right length, and its steps are accepted
-  accepted-whole : schedule_verdict T p ≡ Accepted → (length p ≡ 32 * steps T) × (steps_verdict T p (steps T) ≡ Accepted)
+  accepted-whole : schedule_verdict T p ≡ (Ok tt) → (length p ≡ 32 * steps T) × (steps_verdict T p (steps T) ≡ (Ok tt))
   unfolding schedule_verdict
   accepted-whole = go (eqb (length p) (32 * steps T)) refl
     where
-      go : (b : Bool) → eqb (length p) (32 * steps T) ≡ b → cond b (steps_verdict T p (steps T)) (Refused ScheduleLength) ≡ Accepted
-          → (length p ≡ 32 * steps T) × (steps_verdict T p (steps T) ≡ Accepted)
+      go : (b : Bool) → eqb (length p) (32 * steps T) ≡ b → cond b (steps_verdict T p (steps T)) (Err ScheduleLength) ≡ (Ok tt)
+          → (length p ≡ 32 * steps T) × (steps_verdict T p (steps T) ≡ (Ok tt))
       go true q v = (eqb-true (length p) (32 * steps T) q, v)
       go false q v = let z : ◌≡◌ {A = ℕ} 0 1 = cc in absurd (omega arith)
 
@@ -101,7 +101,7 @@ module _ (T : Trace) (p : List ℕ) where
   stays t i e m h = not-false (held T p t i) (rw (h, m) at e)
 
   -- an accepted schedule is permitted
-  pub accepted-permitted : schedule_verdict T p ≡ Accepted → Permitted T p
+  pub accepted-permitted : schedule_verdict T p ≡ (Ok tt) → Permitted T p
   accepted-permitted v =
       let (whole, all) = accepted-whole v in
       let each : (t : ℕ) → t < steps T → (missing T p t ≡ false) × (some_enters T p t 256 ≡ false) =
@@ -131,22 +131,22 @@ module _ (T : Trace) (p : List ℕ) where
       go false h m e = refl
 
   -- a permitted schedule is accepted
-  pub permitted-accepted : Permitted T p → schedule_verdict T p ≡ Accepted
+  pub permitted-accepted : Permitted T p → schedule_verdict T p ≡ (Ok tt)
   permitted-accepted ok =
       whole-verdict ok.whole
       ∙ steps-accepted (steps T) (λ t lt. step-accepted T p t (lacks-none ok t lt) (enters_none t 256 (λ i l. enters-not ok t i lt l)))
 
 -- what pricing an accepted schedule answers
-abbrev pub priced : ℕ → ℕ → ℕ → PriceAnswer
-priced memory load total = record { verdict = Accepted; memory = record { 0 = memory }; load = record { 0 = load }; total = total }
+abbrev pub priced : ℕ → ℕ → ℕ → Result Price Refusal
+priced m l total = Ok (record { memory = record { 0 = m }; load = record { 0 = l }; total = total })
 
 module _ (T : Trace) (h d : ℕ) (p : List ℕ) where
-  pub accepted-answer : schedule_verdict T p ≡ Accepted
+  pub accepted-answer : schedule_verdict T p ≡ (Ok tt)
       → price_answer T h d p ≡ priced (schedule_memory T p) (schedule_load T p) (schedule_total T h d p)
   unfolding price_answer
   accepted-answer e = rw (e, price_answer)
 
-  pub refused-answer : (r : Refusal) → schedule_verdict T p ≡ Refused r → price_answer T h d p ≡ no_price r
+  pub refused-answer : (r : Refusal) → schedule_verdict T p ≡ Err r → price_answer T h d p ≡ Err r
   unfolding price_answer
   refused-answer r e = rw (e, price_answer)
 

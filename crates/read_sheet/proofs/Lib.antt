@@ -1,9 +1,8 @@
 pub mod Answered
 pub mod EntriesRead
-pub mod FormLines
 pub mod HeadParts
-pub mod HeadStages
 pub mod ReadRows
 pub mod ReadStages
 pub mod ReadWarm
+pub mod ValueLines
 pub mod WarmTables

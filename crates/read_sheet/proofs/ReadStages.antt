@@ -1,4 +1,7 @@
 -- Laws of the end of a sheet, and of the answer with it.
+use Rattle.std.specs.Prelude.{Result, Ok, Err}
+use Rattle.model.specs.declared.Refusal.{Refusal}
+use Rattle.model.specs.declared.Sheet.{Sheet}
 use Prim.Native.Nat.{ℕ, ◌≤◌, ◌<◌, max}
 use mathlib.Core.Path.{◌≡◌, refl, sym, ap, ◌∙◌}
 use mathlib.Core.Bool.{Bool, true, false, cond}
@@ -10,7 +13,6 @@ use lib.Seq.{drop-cons}
 use Rattle.model.specs.Sheets.{SheetValue, most_segs, most_rows, most_steps, form_bytes}
 use Rattle.model.specs.declared.Head.{Head}
 use Rattle.model.specs.declared.Refusal.TheVariants.{SheetTooLong, BytesAfterEnd}
-use Rattle.model.specs.declared.Verdict.TheVariants.{Accepted}
 use Rattle.text.specs.Keys.{form_key}
 use Rattle.sheet.specs.Lines.{read, and_then, same_bytes, number_line}
 use Rattle.sheet.specs.Order.{body_part, sheet_part}
@@ -21,7 +23,6 @@ use Rattle.scan.specs.inner.AtPlace.{Filled}
 use Rattle.read_sheet.specs.inner.FormAtPlace.{form_line}
 use Rattle.read_sheet.specs.inner.HeadsAtPlace.{HeadFilled}
 use Rattle.read_touches.specs.inner.TouchesAtPlace.{mark_count}
-use Rattle.sheet.specs.declared.SheetAnswer.{SheetAnswer}
 use Rattle.scan.proofs.Blanks.{filled-length, filled-padded}
 use Rattle.scan.proofs.NumberLines.{number-bounds}
 use Rattle.scan.proofs.Tails.{tail, tail-is}
@@ -50,10 +51,7 @@ head-held h f =
 pub finished : (form : ℕ) (h : Head) (letters : Bool) (steps marked : ℕ) (touches : List ℕ) (marks : List Bool) → HeadFilled h
     → Filled steps touches (idles most_steps) → marked ≡ mark_count letters steps
     → Filled (mark_count letters steps) marks (blank_marks most_steps)
-    → record {
-      verdict = Accepted;
-      sheet = record { form = form; head = h; steps = steps; touches = touches; marked = marked; marks = marks };
-    }
+    → Ok (record { form = form; head = h; steps = steps; touches = touches; marked = marked; marks = marks })
     ≡ answer_of (accepted (record {
       form = form;
       head = head_value_of h;
@@ -78,8 +76,8 @@ finished form h letters steps marked touches marks f g e k =
 
 -- bytes beyond the limit, and within it
 pub answer-long : (lo hi : ℕ) (s : List ℕ) (b : Bool) → b ≡ ltb (form_bytes (named_form s)) (length s) → b ≡ true
-    → answer_of (read_forms lo hi s) ≡ answer_of (rejected SheetTooLong)
-unfolding read_forms
+    → answer_of (read_forms lo hi s) ≡ Err SheetTooLong
+unfolding read_forms answer_of
 answer-long lo hi s b e t = rw (← e, t)
 
 -- the form line, and then the head and the entries
@@ -93,8 +91,8 @@ sheet-form lo hi s = go (same_bytes (take 5 s) form_key)
     go true = refl
     go false = refl
 
-pub answer-short : (lo hi : ℕ) (s : List ℕ) (r : SheetAnswer) (b : Bool) → b ≡ ltb (form_bytes (named_form s)) (length s) → b ≡ false
-    → r ≡ answer_of (at_end (and_then (form_line lo hi s) (λ form rest. (body_part lo form).reads rest))) → r
+pub answer-short : (lo hi : ℕ) (s : List ℕ) (r : Result Sheet Refusal) (b : Bool) → b ≡ ltb (form_bytes (named_form s)) (length s)
+    → b ≡ false → r ≡ answer_of (at_end (and_then (form_line lo hi s) (λ form rest. (body_part lo form).reads rest))) → r
     ≡ answer_of (read_forms lo hi s)
 unfolding read_forms
 answer-short lo hi s r b e t f = rw (← e, t) (f ∙ ap (λ p. answer_of (at_end p)) (sym (sheet-form lo hi s)))

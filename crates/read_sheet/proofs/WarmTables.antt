@@ -1,19 +1,20 @@
 -- The tables of a later form: the sizes and the rows, and then the warm segments.
-use Prim.Native.Nat.{ℕ}
+use Prim.Native.Nat.{ℕ, ◌+◌}
 use mathlib.Core.Path.{◌≡◌, refl, sym, ap, ◌∙◌}
 use mathlib.Core.Bool.{Bool, true, false}
 use mathlib.Core.List.{List, []}
-use lib.ListN.{length, drop}
+use lib.ListN.{length, take, drop}
+use lib.Seq.{drop-drop}
 use Rattle.model.specs.Sheets.{HeadValue}
+use Rattle.model.specs.Values.{head_value_of}
+use Rattle.model.specs.declared.Head.{Head}
 use Rattle.model.specs.declared.Kind.{Kind}
 use Rattle.model.specs.declared.PriceRow.{PriceRow}
 use Rattle.model.specs.declared.Refusal.{Refusal}
 use Rattle.sheet.specs.Lines.{Parsed, read, refused, and_then}
 use Rattle.sheet.specs.Order.{sizes_part, prices_part, warm_part, tables_part}
-use Rattle.scan.specs.inner.AtPlace.{parsed_lines, moved_on}
-use Rattle.scan.specs.declared.numbers.LinesRead.{LinesRead}
-use Rattle.scan.proofs.Stages.{stage-refused, then-part}
-use Rattle.scan.proofs.Tails.{tail}
+use Rattle.scan.proofs.Stages.{stage-read, stage-refused}
+use Rattle.scan.proofs.Tails.{tail, tail-is}
 use Rattle.read_sheet.specs.inner.HeadsAtPlace.{with_warm}
 
 -- the sizes and the rows, then the warm segments of a later form
@@ -43,15 +44,32 @@ warm-tables kind a s = go (sizes_part.reads s)
     go (read sizes rest) = prices sizes (prices_part.reads rest)
     go (refused why) = refl
 
-module _ (later : Bool) (kind : Kind) (a : ℕ) (s : List ℕ) (t : later ≡ true) where
-  -- where the sizes or the rows are refused, and where they are read up to the place at
-  pub tables-refused : (why : Refusal) (r : Parsed HeadValue) → r ≡ refused why → (tables_part false kind a).reads s ≡ refused why
-      → r ≡ (tables_part later kind a).reads s
-  tables-refused why r f e = rw (t, warm-tables kind a s) (stage-refused (λ q. q) _ _ why r f e)
+module _ (later : Bool) (kind : Kind) (a : ℕ) (s : List ℕ) where
+  -- where the sizes or the rows are refused
+  pub tables-refused : (why : Refusal) → (tables_part false kind a).reads s ≡ refused why → (tables_part later kind a).reads s ≡ refused why
+  tables-refused why e = go later
+    where
+      go : (b : Bool) → (tables_part b kind a).reads s ≡ refused why
+      go true = warm-tables kind a s ∙ sym (stage-refused (λ q. q) _ _ why _ refl e)
+      go false = e
 
-  pub tables-warm : (h v : HeadValue) (segs at : ℕ) (l q : LinesRead) → (tables_part false kind a).reads s ≡ read h (drop at s)
-      → length h.sizes ≡ segs → parsed_lines (tail s at) l v ≡ and_then ((warm_part segs).reads (tail s at)) (with_warm h)
-      → q ≡ moved_on at l → parsed_lines s q v ≡ (tables_part later kind a).reads s
-  tables-warm h v segs at l q e n f m =
-      rw (t, warm-tables kind a s)
-      (then-part _ _ h s at l q v e (f ∙ ap (λ k. and_then ((warm_part k).reads (tail s at)) (with_warm h)) (sym n)) m)
+  -- and where they are read up to the place at into a head
+  module _ (t : later ≡ true) (h : Head) (segs at : ℕ) (e : read (head_value_of h) (drop at s) ≡ (tables_part false kind a).reads s)
+      (n : length (head_value_of h).sizes ≡ segs) where
+    whole : (tables_part later kind a).reads s
+        ≡ and_then ((warm_part segs).reads (tail s at)) (with_warm (head_value_of h))
+    whole =
+        rw (t, warm-tables kind a s)
+        (sym (stage-read (λ q. q) _ _ _ s at _ refl (sym e))
+        ∙ ap (λ k. and_then ((warm_part k).reads (tail s at)) (with_warm (head_value_of h))) n)
+
+    -- its warm segments are refused
+    pub warm-refused : (why : Refusal) → (warm_part segs).reads (tail s at) ≡ refused why → (tables_part later kind a).reads s ≡ refused why
+    warm-refused why f = whole ∙ rw f
+
+    -- or read
+    pub warm-read : (warm : ℕ) (holds : List ℕ) (next : ℕ)
+        → (warm_part segs).reads (tail s at) ≡ read (take warm holds) (drop next (tail s at))
+        → read (head_value_of (record h { warm = warm; holds = holds })) (drop (at + next) s) ≡ (tables_part later kind a).reads s
+    unfolding head_value_of
+    warm-read warm holds next f = sym (whole ∙ rw (f, tail-is s at, drop-drop))

@@ -1,5 +1,5 @@
 pub mod AtPlace
 pub mod FormAtPlace
 pub mod HeadsAtPlace
-pub mod HoldsAtPlace
 pub mod RowsAtPlace
+pub mod Values

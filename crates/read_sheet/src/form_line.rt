@@ -3,11 +3,10 @@
 ghost use Rattle.std.specs.Prelude.{◌≡◌, max, ltb, length};
 ghost use Rattle.model.specs.Sheets.{form_bytes};
 ghost use Rattle.sheet.specs.Reading.{named_form};
-ghost use Rattle.scan.specs.inner.AtPlace.{NumberReads};
+ghost use Rattle.scan.specs.inner.AtPlace.{LineReads};
 ghost use Rattle.read_sheet.specs.inner.FormAtPlace.{form_line};
 
-use model::Sheet;
-use scan::numbers::NumberAt;
+use model::{Refusal, Sheet};
 use scan::{bytes, numbers};
 
 // The form that the first line names, 1 where it names none from 2 on.
@@ -15,8 +14,8 @@ fn named_form(bytes: &[u8]) -> u32
     ensures { result ≡ named_form bytes.now }
 {
     match numbers::number_line(bytes, b"form=", 2, Sheet::NEWEST_FORM as u32) {
-        NumberAt::Refused(_) => 1,
-        NumberAt::Number(form, _) => form,
+        Ok((form, _)) => form,
+        Err(_) => 1,
     }
 }
 
@@ -24,16 +23,12 @@ fn named_form(bytes: &[u8]) -> u32
 fn form_bytes(form: u32) -> usize
     ensures { result ≡ form_bytes form }
 {
-    if form == 2 {
-        return Sheet::MAX_BYTES_2;
+    match form {
+        2 => Sheet::MAX_BYTES_2,
+        3 => Sheet::MAX_BYTES_3,
+        4 => Sheet::MAX_BYTES_4,
+        _ => Sheet::MAX_BYTES,
     }
-    if form == 3 {
-        return Sheet::MAX_BYTES_3;
-    }
-    if form == 4 {
-        return Sheet::MAX_BYTES_4;
-    }
-    Sheet::MAX_BYTES
 }
 
 // Whether there are more bytes than a sheet of the form that the first line names may have. Up to the least limit no line is looked at.
@@ -46,22 +41,12 @@ pub fn too_long(bytes: &[u8]) -> bool
     form_bytes(named_form(bytes)) < bytes.len()
 }
 
-// The least form that a form line may name, where a call takes the forms from `lo` on.
-fn least_form(lo: u8) -> u32
-    ensures { result ≡ max 2 lo }
-{
-    if lo <= 2 {
-        return 2;
-    }
-    lo as u32
-}
-
-// The form `lo` to `hi` of the form line, or 1 where the bytes do not begin with its key.
-pub fn form_line(bytes: &[u8], lo: u8, hi: u8) -> NumberAt
-    ensures { NumberReads bytes.now result (form_line lo hi bytes.now) }
+// The form `lo` to `hi` of the form line and the place of what follows it, or 1 where the bytes do not begin with its key.
+pub fn form_line(bytes: &[u8], lo: u8, hi: u8) -> Result<(u32, usize), Refusal>
+    ensures { LineReads bytes.now result (form_line lo hi bytes.now) }
 {
     if bytes::has_key(bytes, b"form=") {
-        return numbers::number_line(bytes, b"form=", least_form(lo), hi as u32);
+        return numbers::number_line(bytes, b"form=", lo.max(2) as u32, hi as u32);
     }
-    NumberAt::Number(1, 0)
+    Ok((1, 0))
 }

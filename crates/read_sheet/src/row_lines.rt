@@ -1,185 +1,111 @@
 // Lines with a row of prices, and the count with so many of them. Each function reads from the head of the bytes that it is lent, and
 // gives the place of what follows.
-ghost use Rattle.std.specs.Prelude.{◌≡◌, ◌≤◌};
+ghost use Rattle.std.specs.Prelude.{◌≡◌, ◌≤◌, List, ℕ, length, IfOk};
 ghost use Rattle.std.proofs.Math.Option.{none};
 ghost use Rattle.model.specs.Sheets.{most_rows, largest_price};
 ghost use Rattle.model.specs.Values.{zero_rows};
-ghost use Rattle.text.specs.Keys.{slash};
-ghost use Rattle.sheet.specs.Lines.{split_at};
+ghost use Rattle.text.specs.Keys.{rows_key, slash};
+ghost use Rattle.sheet.specs.Lines.{split_at, number_line};
 ghost use Rattle.sheet.specs.Order.{prices_part};
 ghost use Rattle.sheet.specs.Values.{above, row_after, row_parts, row_line, row_lines};
-ghost use Rattle.scan.specs.inner.AtPlace.{StandsFor, ListReads};
-ghost use Rattle.read_sheet.specs.inner.RowsAtPlace.{before, parsed_row, row_next, number_in, row_of_readings, RowReads, RowBeyond};
+ghost use Rattle.scan.specs.inner.AtPlace.{counted_in, LineReads, LinesReads, ListReads};
+ghost use Rattle.read_sheet.specs.inner.RowsAtPlace.{row_of_readings};
+ghost use Rattle.read_sheet.specs.inner.Values.{before, parsed};
 
-use decimal::Reading;
+use decimal::NumberError;
 use model::{PriceRow, Refusal, Sheet};
-use scan::numbers::{LinesRead, NumberAt, ValueAt};
 use scan::{bytes, numbers};
 
-// The row before, where there is one.
-#[derive(Clone, Copy)]
-enum Previous {
-    Nothing,
-    Row(PriceRow),
-}
-
-// A row and the place of what follows its line, or the refusal.
-#[derive(Clone, Copy)]
-enum RowAt {
-    Row(PriceRow, usize),
-    Refused(Refusal),
-}
-
-// So many rows at the front of rows 0/0, and the place of what follows their lines, or the refusal.
-#[derive(Clone, Copy)]
-pub struct RowsRead {
-    pub lines: LinesRead,
-    pub count: usize,
-    pub rows: [PriceRow; Sheet::MAX_ROWS],
-}
-
-// Whether the threshold of the row exceeds the one before.
-fn exceeds(prev: Previous, row: PriceRow) -> bool
+// Whether the threshold of the row exceeds that of the row before it, where there is one.
+fn exceeds(prev: Option<PriceRow>, row: PriceRow) -> bool
     ensures { result ≡ above (before prev) row }
 {
     match prev {
-        Previous::Nothing => true,
-        Previous::Row(p) => (p.h as u64) * (row.d as u64) < (row.h as u64) * (p.d as u64),
+        None => true,
+        Some(p) => (p.h as u64) * (row.d as u64) < (row.h as u64) * (p.d as u64),
     }
 }
 
-// The row after another, and the next place.
-fn row_after(prev: Previous, row: PriceRow, next: usize) -> RowAt
-    ensures { StandsFor next (row_next result) (λ s. parsed_row s result) (row_after (before prev) row) }
+// The row after the row before it.
+fn row_after(prev: Option<PriceRow>, row: PriceRow) -> Result<PriceRow, Refusal>
+    ensures { (rest : List ℕ) → parsed result rest ≡ row_after (before prev) row rest }
 {
     if exceeds(prev, row) {
-        return RowAt::Row(row, next);
+        return Ok(row);
     }
-    RowAt::Refused(Refusal::ThresholdNotAbove)
+    Err(Refusal::ThresholdNotAbove)
 }
 
-// The row with the price `h` and the reading of the other, and the next place.
-fn row_with(prev: Previous, h: u16, y: Reading, next: usize) -> RowAt
-    requires { number_in y ≤ largest_price }
-    ensures { StandsFor next (row_next result) (λ s. parsed_row s result) (row_of_readings (before prev) (Reading.Number h) y) }
+// The row of the two readings after the row before it. That one is no number comes first, and then that one lies outside its range.
+fn row_of(
+    prev: Option<PriceRow>,
+    x: Result<u32, NumberError>,
+    y: Result<u32, NumberError>,
+) -> Result<PriceRow, Refusal>
+    requires x_bound { IfOk x (λ h. h ≤ largest_price) }
+    requires y_bound { IfOk y (λ d. d ≤ largest_price) }
+    ensures { (rest : List ℕ) → parsed result rest ≡ row_of_readings (before prev) x y rest }
 {
-    match y {
-        Reading::NotNumber => RowAt::Refused(Refusal::ValueMalformed),
-        Reading::OutOfRange => RowAt::Refused(Refusal::OutOfRange),
-        Reading::Number(d) => {
-            let row = PriceRow { h: h, d: d as u16 };
-            row_after(prev, row, next)
+    match (x, y) {
+        (Ok(h), Ok(d)) => row_after(
+            prev,
+            PriceRow {
+                h: h as u16,
+                d: d as u16,
+            },
+        ),
+        (Err(NumberError::NotNumber), _) => Err(Refusal::ValueMalformed),
+        (_, Err(NumberError::NotNumber)) => Err(Refusal::ValueMalformed),
+        _ => Err(Refusal::OutOfRange),
+    }
+}
+
+// The row that the value stands for after the row before it.
+fn row_value(prev: Option<PriceRow>, v: &[u8]) -> Result<PriceRow, Refusal>
+    ensures { (rest : List ℕ) → parsed result rest ≡ row_parts (before prev) (split_at slash v.now) rest }
+{
+    match bytes::find(v, b'/') {
+        None => Err(Refusal::ValueMalformed),
+        Some(k) => {
+            let x = decimal::read(&v[..k], 0, Sheet::MAX_PRICE);
+            let y = decimal::read(&v[k + 1..], 1, Sheet::MAX_PRICE);
+            row_of(prev, x, y)
         }
     }
 }
 
-// The refusal where the first price lies outside its range: the other may be no number.
-fn row_beyond(y: Reading) -> RowAt
-    ensures { RowBeyond y result }
+// The row of the line row= after the row before it, and the place of what follows the line.
+fn row_line(s: &[u8], prev: Option<PriceRow>) -> Result<(PriceRow, usize), Refusal>
+    ensures { LineReads s.now result (row_line (before prev) s.now) }
 {
-    match y {
-        Reading::NotNumber => RowAt::Refused(Refusal::ValueMalformed),
-        Reading::OutOfRange => RowAt::Refused(Refusal::OutOfRange),
-        Reading::Number(_) => RowAt::Refused(Refusal::OutOfRange),
-    }
+    let (start, end) = numbers::value_line(s, b"row=")?;
+    let row = row_value(prev, &s[start..end])?;
+    Ok((row, end + 1))
 }
 
-// The row of two readings, and the next place.
-fn row_of(prev: Previous, x: Reading, y: Reading, next: usize) -> RowAt
-    requires x_bound { number_in x ≤ largest_price }
-    requires y_bound { number_in y ≤ largest_price }
-    ensures { StandsFor next (row_next result) (λ s. parsed_row s result) (row_of_readings (before prev) x y) }
+// As many rows as `out` is long, one from each line row=, and the place of what follows these lines. Where it refuses, `out` may be partly
+// filled.
+fn row_lines(s: &[u8], out: &mut [PriceRow]) -> Result<usize, Refusal>
+    ensures { LinesReads s.now result out.new (row_lines (length out.old) none s.now) }
 {
-    match x {
-        Reading::NotNumber => RowAt::Refused(Refusal::ValueMalformed),
-        Reading::OutOfRange => row_beyond(y),
-        Reading::Number(h) => row_with(prev, h as u16, y, next),
-    }
-}
-
-// The row that the value stands for, and the next place.
-fn row_value(prev: Previous, v: &[u8], next: usize) -> RowAt
-    ensures { StandsFor next (row_next result) (λ s. parsed_row s result) (row_parts (before prev) (split_at slash v.now)) }
-{
-    let k = bytes::find(v, b'/');
-    if k < v.len() {
-        let after = k + 1;
-        let x = decimal::read(&v[..k], 0, Sheet::MAX_PRICE);
-        let y = decimal::read(&v[after..], 1, Sheet::MAX_PRICE);
-        return row_of(prev, x, y, next);
-    }
-    RowAt::Refused(Refusal::ValueMalformed)
-}
-
-// The row of the line row= after the row before it.
-fn row_line(s: &[u8], prev: Previous) -> RowAt
-    ensures { RowReads s.now result (row_line (before prev) s.now) }
-{
-    match numbers::value_line(s, b"row=") {
-        ValueAt::Missing => RowAt::Refused(Refusal::LineMalformed),
-        ValueAt::Value(start, end) => row_value(prev, &s[start..end], end + 1),
-    }
-}
-
-// 64 rows 0/0.
-fn blank_rows() -> [PriceRow; Sheet::MAX_ROWS]
-    ensures { result ≡ zero_rows most_rows }
-{
-    [PriceRow { h: 0, d: 0 }; Sheet::MAX_ROWS]
-}
-
-// The rows of `n` lines row=; beyond them stand rows 0/0.
-fn row_lines(s: &[u8], n: usize) -> RowsRead
-    requires { n ≤ most_rows }
-    ensures { ListReads s.now result.lines result.count result.rows (zero_rows most_rows) (row_lines n none s.now) }
-{
-    let mut rows = blank_rows();
-    let mut prev = Previous::Nothing;
+    let mut prev = None;
     let mut at = 0;
-    let mut i = 0;
-    while i < n {
-        match row_line(&s[at..], prev) {
-            RowAt::Refused(why) => {
-                return RowsRead {
-                    lines: LinesRead::Refused(why),
-                    count: n,
-                    rows: rows,
-                };
-            }
-            RowAt::Row(row, next) => {
-                rows[i] = row;
-                prev = Previous::Row(row);
-                at += next;
-                i += 1;
-            }
-        }
+    for place in out.iter_mut() {
+        let (row, next) = row_line(&s[at..], prev)?;
+        *place = row;
+        prev = Some(row);
+        at += next;
     }
-    RowsRead {
-        lines: LinesRead::Done(at),
-        count: n,
-        rows: rows,
-    }
+    Ok(at)
 }
 
-// The line rows= and so many rows.
-pub fn price_lines(s: &[u8]) -> RowsRead
-    ensures { ListReads s.now result.lines result.count result.rows (zero_rows most_rows) (prices_part.reads s.now) }
+// The line rows= and so many rows into the front of `out`: how many they are, and the place of what follows them.
+pub fn price_lines(s: &[u8], out: &mut [PriceRow]) -> Result<(usize, usize), Refusal>
+    requires { length out.old ≡ most_rows }
+    ensures { ListReads s.now result (counted_in (number_line rows_key 1 most_rows s.now)) out.new out.old (prices_part.reads s.now) }
 {
-    match numbers::number_line(s, b"rows=", 1, Sheet::MAX_ROWS as u32) {
-        NumberAt::Refused(why) => RowsRead {
-            lines: LinesRead::Refused(why),
-            count: 0,
-            rows: blank_rows(),
-        },
-        NumberAt::Number(n, at) => {
-            let found = row_lines(&s[at..], n as usize);
-            let lines = found.lines;
-            let rows = found.rows;
-            RowsRead {
-                lines: numbers::after(at, lines),
-                count: found.count,
-                rows: rows,
-            }
-        }
-    }
+    let (n, at) = numbers::number_line(s, b"rows=", 1, Sheet::MAX_ROWS as u32)?;
+    let end = n as usize;
+    let next = row_lines(&s[at..], &mut out[..end])?;
+    Ok((end, at + next))
 }

@@ -10,15 +10,17 @@ use native.Mathlib.Numerals.{add-one}
 use native.Mathlib.Omega.{arith}
 use lib.ListN.{length, take, drop, set, replicate, length-set, length-replicate}
 use lib.ListN.{replicate-append-replicate, take-append-drop}
-use lib.Seq.{drop-drop, take_at}
+use lib.Seq.{drop-drop, take_at, length-take-le}
+use Rattle.std.specs.Prelude.{Result, Err}
 use Rattle.model.specs.Sheets.{idle}
 use Rattle.model.specs.declared.Refusal.{Refusal}
 use Rattle.sheet.specs.Lines.{Parsed, read, refused, and_then}
-use Rattle.scan.specs.inner.AtPlace.{Filled}
-use Rattle.sheet.specs.Touches.{Touch, touch_line, touch_lines, entry_lines}
-use Rattle.read_touches.specs.inner.TouchesAtPlace.{entries_with, mark_count}
+use Rattle.scan.specs.inner.AtPlace.{moved_on, counted_in, list_end, list_count, Filled}
+use Rattle.sheet.specs.Touches.{Touch, Entries, touch_line, touch_lines, entry_lines}
+use Rattle.read_touches.specs.inner.TouchesAtPlace.{entries_with, mark_count, EntriesReads, StepsReads}
 use Rattle.read_touches.specs.inner.Passed.{with_touches, filling, PassedTouches}
 use Rattle.scan.proofs.Blanks.{filled_start, front-filled, front-take}
+use Rattle.scan.proofs.Stages.{stage-refused, then-reads}
 use Rattle.scan.proofs.Tails.{tail, tail-is, tail-place}
 use Rattle.sheet.proofs.Touches.{TouchFits, touch_reads, touches_reads, filled_with, filled-placed}
 
@@ -162,3 +164,30 @@ pub marks-filled : (letters : Bool) (n : ℕ) (ms blank : List Bool) → length 
 marks-filled true n ms blank l h u = front-filled n ms blank blank l h refl
 marks-filled false n ms blank l h u =
     filled_start 0 (ms ++ drop n blank) blank (omega arith) (ap (λ xs. xs ++ drop n blank) (u refl) ∙ take-append-drop n blank)
+
+-- the steps of a count that is refused
+pub steps-refused : (letters : Bool) (f : ℕ → List ℕ → Parsed Entries) (p : Parsed ℕ) (s out : List ℕ) (blank : List Bool) (why : Refusal)
+    → p ≡ refused why → StepsReads letters s (Err why) (counted_in p) out out blank blank (and_then p f)
+steps-refused letters f p s out blank why e =
+    record {
+      reads = record { same = stage-refused (λ q. q) f p why (refused why) refl e; within = omega arith };
+      filled = rw e (filled_start 0 out out (omega arith) refl);
+      marked = rw e (none-marked letters blank);
+    }
+
+-- a count n of steps and then their entries and marks, which were read into the first n places of blank ones
+pub steps-reads : (letters : Bool) (f : ℕ → List ℕ → Parsed Entries) (p : Parsed ℕ) (n : ℕ) (s : List ℕ) (at : ℕ) (l : Result ℕ Refusal)
+    (q : Result (ℕ × ℕ) Refusal) (xs out : List ℕ) (ms blank : List Bool) → p ≡ read n (drop at s) → at ≤ length s
+    → n ≤ length out → n ≤ length blank → length xs ≡ length (take n out) → length ms ≡ length (take n blank)
+    → EntriesReads letters (tail s at) l xs ms (take n blank) (f (length (take n out)) (tail s at)) → list_count q n ≡ n
+    → list_end q ≡ moved_on at l → StepsReads letters s q (counted_in p) (xs ++ drop n out) out (ms ++ drop n blank) blank (and_then p f)
+steps-reads letters f p n s at l q xs out ms blank e h k₁ k₂ i₁ i₂ w c m =
+    let t₁ = i₁ ∙ length-take-le n out k₁ in
+    let t₂ = i₂ ∙ length-take-le n blank k₂ in
+    let n' : list_count q (counted_in p) ≡ n = ap (λ r. list_count q (counted_in r)) e ∙ c in
+    let r = then-reads f p n s at l (list_end q) (entries_with letters xs ms) e h (rw (length-take-le n out k₁) at w.reads) m in
+    record {
+      reads = rw (n', entries-front letters n xs out ms blank t₁ t₂) r;
+      filled = rw n' (front-filled n xs out out t₁ k₁ refl);
+      marked = rw n' (marks-filled letters n ms blank t₂ k₂ w.unmarked);
+    }

@@ -1,35 +1,16 @@
 -- Laws of the parts before and after a byte, where its place is known, and of the place past a line.
-use Prim.Native.Nat.{ℕ, zero, suc, ◌+◌, ◌-◌, ◌≤◌, ◌<◌}
+use Prim.Native.Nat.{ℕ, zero, suc, ◌+◌, ◌-◌, ◌≤◌}
 use mathlib.Core.Path.{◌≡◌, refl, sym, ap, ◌∙◌}
 use mathlib.Core.List.{List, [], ◌∷◌, ◌++◌}
 use native.Mathlib.Nat.{not-suc-le-zero}
-use native.Mathlib.Numerals.{add-one}
 use native.Mathlib.Omega.{arith}
-use lib.ListN.{length, take, drop, length-append, length-drop, drop_of_length-le}
+use lib.ListN.{length, drop, length-append, length-drop, drop_of_length-le}
 use lib.Seq.{drop-drop}
 use Rattle.text.specs.Keys.{line_feed}
 use Rattle.sheet.specs.Lines.{Split, parts, none, split_at}
-use Rattle.scan.specs.inner.AtPlace.{split_at_place}
 use Rattle.sheet.proofs.Parsing.{split-back}
-use Rattle.scan.proofs.Splits.{place-within, place-beyond}
-use Rattle.scan.proofs.Tails.{tail, tail-is}
 use Rattle.reader.specs.Along.{left_after}
-use Rattle.reader.specs.Parts.{part_before, part_after, line_value, after_line, place_after}
-
--- the place k of the first byte c: what stands before it, and what stands after it
-module _ (c : ℕ) (s : List ℕ) (k : ℕ) (e : split_at c s ≡ split_at_place s k) where
-  pub before-within : k < length s → take k s ≡ part_before (split_at c s)
-  before-within h = sym (ap part_before (e ∙ place-within s k h))
-
-  pub after-within : k < length s → tail s (k + 1) ≡ part_after (split_at c s)
-  after-within h = tail-is s (k + 1) ∙ rw add-one (sym (ap part_after (e ∙ place-within s k h)))
-
-  -- nothing where there is none
-  pub before-none : length s ≤ k → [] ≡ part_before (split_at c s)
-  before-none h = sym (ap part_before (e ∙ place-beyond s k h))
-
-  pub after_none : length s ≤ k → [] ≡ part_after (split_at c s)
-  after_none h = sym (ap part_after (e ∙ place-beyond s k h))
+use Rattle.reader.specs.Parts.{part_after, line_value, after_line, place_after}
 
 -- what stands after a byte is no longer than the whole
 pub after-length : (c : ℕ) (s : List ℕ) → length (part_after (split_at c s)) ≤ length s

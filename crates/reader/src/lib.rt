@@ -20,33 +20,27 @@ pub struct Reader<'a> {
 fn before(s: &[u8], c: u8) -> &[u8]
     ensures { result.now ≡ part_before (split_at c s.now) }
 {
-    let k = bytes::find(s, c);
-    if k < s.len() {
-        return &s[..k];
+    match bytes::find(s, c) {
+        None => &s[..0],
+        Some(k) => &s[..k],
     }
-    &s[..0]
 }
 
 // What stands after the first byte `c`, nothing where there is none.
 fn after(s: &[u8], c: u8) -> &[u8]
     ensures { result.now ≡ part_after (split_at c s.now) }
 {
-    let k = bytes::find(s, c);
-    if k < s.len() {
-        let next = k + 1;
-        return &s[next..];
+    match bytes::find(s, c) {
+        None => &s[..0],
+        Some(k) => &s[k + 1..],
     }
-    &s[..0]
 }
 
 // What is left from the place `at` on.
 fn rest(s: &[u8], at: usize) -> &[u8]
     ensures { result.now ≡ drop at s.now }
 {
-    if at <= s.len() {
-        return &s[at..];
-    }
-    &s[..0]
+    &s[at.min(s.len())..]
 }
 
 // The line at the place `at`.
@@ -85,53 +79,53 @@ pub fn ends_at(s: &[u8], at: usize) -> bool
     s.len() <= at
 }
 
-// A reader at the start of a sheet.
-pub fn new<'a>(src: &'a [u8]) -> Reader<'a>
-    ensures { (result.src ≡ src.entry) × (result.at ≡ 0) }
-{
-    Reader { src, at: 0 }
-}
+impl<'a> Reader<'a> {
+    // A reader at the start of a sheet.
+    pub fn new(src: &'a [u8]) -> Reader<'a>
+        ensures { (result.src ≡ src.entry) × (result.at ≡ 0) }
+    {
+        Reader { src, at: 0 }
+    }
 
-// The key of the line at the reader's place.
-pub fn key<'a>(r: Reader<'a>) -> &'a [u8]
-    ensures { result.now ≡ line_key (drop r.entry.at r.entry.src.now) }
-{
-    key_at(r.src, r.at)
-}
+    // The key of the line at the reader's place.
+    pub fn key(self) -> &'a [u8]
+        ensures { result.now ≡ line_key (drop self.entry.at self.entry.src.now) }
+    {
+        key_at(self.src, self.at)
+    }
 
-// The value of the line at the reader's place.
-pub fn value<'a>(r: Reader<'a>) -> &'a [u8]
-    ensures { result.now ≡ line_value (drop r.entry.at r.entry.src.now) }
-{
-    value_at(r.src, r.at)
-}
+    // The value of the line at the reader's place.
+    pub fn value(self) -> &'a [u8]
+        ensures { result.now ≡ line_value (drop self.entry.at self.entry.src.now) }
+    {
+        value_at(self.src, self.at)
+    }
 
-// The reader moved past the line at its place, to the end where there is none.
-pub fn next<'a>(r: Reader<'a>) -> Reader<'a>
-    ensures { (result.src ≡ r.entry.src) × (result.at ≡ place_after r.entry.src.now r.entry.at) }
-{
-    let at = place_after(r.src, r.at);
-    Reader { src: r.src, at }
-}
+    // The reader moved past the line at its place, to the end where there is none.
+    pub fn next(self) -> Reader<'a>
+        ensures { (result.src ≡ self.entry.src) × (result.at ≡ place_after self.entry.src.now self.entry.at) }
+    {
+        let at = place_after(self.src, self.at);
+        Reader { src: self.src, at }
+    }
 
-// Whether nothing is left before the reader.
-pub fn at_end<'a>(r: Reader<'a>) -> bool
-    ensures { result ≡ leb (length r.entry.src.now) r.entry.at }
-{
-    ends_at(r.src, r.at)
+    // Whether nothing is left before the reader.
+    pub fn at_end(self) -> bool
+        ensures { result ≡ leb (length self.entry.src.now) self.entry.at }
+    {
+        ends_at(self.src, self.at)
+    }
 }
 
 // The value of line `n`, counted from 0: a reader goes along `n` lines and shows the value of the next.
 fn value_along(s: &[u8], n: usize) -> &[u8]
     ensures { result.now ≡ line_value (left_after n s.now) }
 {
-    let mut r = new(s);
-    let mut i = 0;
-    while i < n {
-        r = next(r);
-        i += 1;
+    let mut r = Reader::new(s);
+    for _ in 0..n {
+        r = r.next();
     }
-    value(r)
+    r.value()
 }
 
 // The same in time linear in the bytes, whatever `n` is: there are no more lines than bytes.

@@ -1,4 +1,5 @@
 -- What the calls of a recorder answer: each answer meets its contract.
+use Rattle.std.specs.Prelude.{Ok, Err}
 use Prim.Native.Nat.{ℕ, ◌≤◌, ◌<◌, min}
 use mathlib.Core.Path.{◌≡◌, refl, sym, ap}
 use mathlib.Core.Bool.{Bool, true, false, cond}
@@ -11,19 +12,17 @@ use Rattle.model.specs.Sheets.{SheetValue, Valid, trace_of, most_segs, most_rows
 use Rattle.model.specs.Figures.{ref_cost, ref_volume}
 use Rattle.model.specs.Traces.{unit_of, size_of, touching}
 use Rattle.model.proofs.Sums.{sum-none}
-use Rattle.model.specs.Rows.{zero_figures}
 use Rattle.model.specs.declared.RowFigures.{RowFigures}
 use Rattle.model.specs.declared.Refusal.{Refusal}
 use Rattle.model.specs.declared.Refusal.TheVariants.{OutOfRange, NoSuchRow, RecorderFull}
-use Rattle.model.specs.declared.Verdict.{Verdict}
-use Rattle.model.specs.declared.Verdict.TheVariants.{Accepted, Refused}
 use Rattle.model.specs.Values.{zeros, head_of, sheet_of}
 use Rattle.model.specs.declared.Sheet.{Sheet}
 use Rattle.buckets.specs.Buckets.{all_empty}
 use Rattle.model.specs.LastTouches.{start_table}
 use Rattle.model.specs.RowAnswers.{figures_at, figures_of}
 use Rattle.buckets.proofs.Passing.{pass_start}
-use Rattle.recorder.specs.Recorders.{recorder_of, started, appended, taken, with_step, room_verdict, refs_verdict, touch_all_verdict}
+use Rattle.recorder.specs.Recorders.{recorder_of, started, appended, taken, with_step, room_verdict, ref_verdict}
+use Rattle.recorder.specs.Recorders.{touch_verdict, touch_all_verdict}
 use Rattle.recorder.specs.Recorders.{idle_verdict}
 use Rattle.recorder.specs.Recorders.{Touched, TouchedAll, Rested, Figured}
 use Rattle.recorder.specs.inner.Passes.{begun}
@@ -32,23 +31,31 @@ use Rattle.recorder.proofs.Standing.{front, few-warm, recorder-passed}
 use Rattle.recorder.proofs.Stepping.{rested-stands}
 
 -- an answer is not both
-pub refused-accepted : {A : Type 0} (why : Refusal) → Refused why ≡ Accepted → A
+pub refused-accepted : {A : Type 0} (why : Refusal) → Err why ≡ (Ok (tt {0})) → A
 refused-accepted why e = let z : ◌≡◌ {A = ℕ} 0 1 = cc in absurd (omega arith)
 
 -- after `count` steps there is room for one where the verdict on it accepts, and none where it refuses
-pub step_room : (count : ℕ) → room_verdict count ≡ Accepted → count < most_steps
+pub step_room : (count : ℕ) → room_verdict count ≡ (Ok (tt {0})) → count < most_steps
 step_room count = go (ltb count most_steps) refl
   where
-    go : (b : Bool) → ltb count most_steps ≡ b → cond b Accepted (Refused RecorderFull) ≡ Accepted → count < most_steps
+    go : (b : Bool) → ltb count most_steps ≡ b → cond b (Ok (tt {0})) (Err RecorderFull) ≡ (Ok (tt {0})) → count < most_steps
     go true t a = ltb-true count most_steps t
     go false t a = refused-accepted RecorderFull a
 
-pub step-full : (count : ℕ) (why : Refusal) → room_verdict count ≡ Refused why → most_steps ≤ count
+pub step-full : (count : ℕ) (why : Refusal) → room_verdict count ≡ Err why → most_steps ≤ count
 step-full count why = go (ltb count most_steps) refl
   where
-    go : (b : Bool) → ltb count most_steps ≡ b → cond b Accepted (Refused RecorderFull) ≡ Refused why → most_steps ≤ count
+    go : (b : Bool) → ltb count most_steps ≡ b → cond b (Ok (tt {0})) (Err RecorderFull) ≡ Err why → most_steps ≤ count
     go true t a = refused-accepted why (sym a)
     go false t a = ltb-false count most_steps t
+
+-- and a reference that is accepted is a segment
+pub ref-room : (segs count x : ℕ) → ref_verdict segs count x ≡ (Ok (tt {0})) → (x < segs) × (count < most_steps)
+ref-room segs count x = go (ltb x segs) refl
+  where
+    go : (b : Bool) → ltb x segs ≡ b → cond b (room_verdict count) (Err OutOfRange) ≡ (Ok (tt {0})) → (x < segs) × (count < most_steps)
+    go true e a = (ltb-true x segs e, step_room count a)
+    go false e a = refused-accepted OutOfRange a
 
 -- a start: the warm segments count as touched
 begun-stands : (v : SheetValue) → Valid v → begun (head_of v.head) ≡ recorder_of (started v)
@@ -65,44 +72,30 @@ pub start-stands : (v : SheetValue) → Valid v → (sheet : Sheet) → sheet �
 unfolding sheet_of
 start-stands v valid sheet e = rw e (begun-stands v valid)
 
+-- a reference, refused or taken
 module _ (R : Recorder) (x : ℕ) where
-  pub out_of_range : min R.head.segs most_segs ≤ x → Touched R x (record { verdict = Refused OutOfRange; recorder = R })
-  out_of_range le =
+  pub one-refused : (why : Refusal) → touch_verdict R x ≡ Err why → Touched R x (record { verdict = Err why; recorder = R })
+  one-refused why e =
       record {
-        verdict_is = rw (le-ltb x (min R.head.segs most_segs) le) refl;
-        unchanged = λ why e. refl;
-        stands = λ v valid e a. refused-accepted OutOfRange a;
+        verdict_is = sym e;
+        unchanged = λ w f. refl;
+        stands = λ v valid f a. refused-accepted why a;
       }
 
-  module _ (lt : x < min R.head.segs most_segs) where
-    pub full : most_steps ≤ R.steps → Touched R x (record { verdict = Refused RecorderFull; recorder = R })
-    full le =
-        record {
-          verdict_is = rw (lt-ltb x (min R.head.segs most_segs) lt, le-ltb R.steps most_steps le) refl;
-          unchanged = λ why e. refl;
-          stands = λ v valid e a. refused-accepted RecorderFull a;
-        }
-
--- a reference taken
-pub accepted : (R N : Recorder) (x : ℕ) → x < min R.head.segs most_segs → R.steps < most_steps
-    → ((v : SheetValue) → Valid v → R ≡ recorder_of v → N ≡ recorder_of (taken v x))
-    → Touched R x (record { verdict = Accepted; recorder = N })
-accepted R N x lt room next =
-    record {
-      verdict_is = rw (lt-ltb x (min R.head.segs most_segs) lt, lt-ltb R.steps most_steps room) refl;
-      unchanged = λ why e. refused-accepted why (sym e);
-      stands = λ v valid e a. next v valid e;
-    }
-
--- the verdict on several references that the code finds is the definition's
-pub verdict-found : (segs least count : ℕ) (xs : List ℕ) (w : Verdict) → least ≡ min segs most_segs → w ≡ refs_verdict least count xs
-    → w ≡ refs_verdict (min segs most_segs) count xs
-verdict-found segs least count xs w clamped found = rw clamped at found
+  pub one-taken : (N : Recorder) → touch_verdict R x ≡ (Ok (tt {0}))
+      → ((v : SheetValue) → Valid v → R ≡ recorder_of v → N ≡ recorder_of (taken v x))
+      → Touched R x (record { verdict = (Ok (tt {0})); recorder = N })
+  one-taken N e next =
+      record {
+        verdict_is = sym e;
+        unchanged = λ why f. refused-accepted why (sym f);
+        stands = λ v valid f a. next v valid f;
+      }
 
 -- several references, refused or taken
 module _ (R : Recorder) (xs : List ℕ) where
-  pub all-refused : (why : Refusal) → touch_all_verdict R xs ≡ Refused why
-      → TouchedAll R xs (record { verdict = Refused why; recorder = R })
+  pub all-refused : (why : Refusal) → touch_all_verdict R xs ≡ Err why
+      → TouchedAll R xs (record { verdict = Err why; recorder = R })
   all-refused why e =
       record {
         verdict_is = sym e;
@@ -111,9 +104,9 @@ module _ (R : Recorder) (xs : List ℕ) where
         stands = λ v valid f a. refused-accepted why a;
       }
 
-  pub all-accepted : (N : Recorder) → touch_all_verdict R xs ≡ Accepted → (xs ≡ [] → N ≡ R)
+  pub all-accepted : (N : Recorder) → touch_all_verdict R xs ≡ (Ok (tt {0})) → (xs ≡ [] → N ≡ R)
       → ((v : SheetValue) → Valid v → R ≡ recorder_of v → N ≡ recorder_of (appended v xs))
-      → TouchedAll R xs (record { verdict = Accepted; recorder = N })
+      → TouchedAll R xs (record { verdict = (Ok (tt {0})); recorder = N })
   all-accepted N e none next =
       record {
         verdict_is = sym e;
@@ -124,7 +117,7 @@ module _ (R : Recorder) (xs : List ℕ) where
 
 -- an idle step, refused or taken
 module _ (R : Recorder) where
-  pub idle-refused : (why : Refusal) → idle_verdict R ≡ Refused why → Rested R (record { verdict = Refused why; recorder = R })
+  pub idle-refused : (why : Refusal) → idle_verdict R ≡ Err why → Rested R (record { verdict = Err why; recorder = R })
   idle-refused why e =
       record {
         verdict_is = sym e;
@@ -133,7 +126,7 @@ module _ (R : Recorder) where
         stands = λ v valid f a. refused-accepted why a;
       }
 
-  pub idle-accepted : idle_verdict R ≡ Accepted → Rested R (record { verdict = Accepted; recorder = with_step R })
+  pub idle-accepted : idle_verdict R ≡ (Ok (tt {0})) → Rested R (record { verdict = (Ok (tt {0})); recorder = with_step R })
   idle-accepted e =
       record {
         verdict_is = sym e;
@@ -147,24 +140,22 @@ rows_are : (R : Recorder) (v : SheetValue) → R ≡ recorder_of v → R.head.ro
 unfolding recorder_of head_of
 rows_are R v e = ap (λ (Q : Recorder). Q.head.rows) e
 
-pub no-such-row : (R : Recorder) (row : ℕ) (f : RowFigures) → f ≡ zero_figures → min R.head.rows most_rows ≤ row
-    → Figured R row (record { verdict = Refused NoSuchRow; figures = f })
+pub no-such-row : (R : Recorder) (row : ℕ) → min R.head.rows most_rows ≤ row → Figured R row (Err NoSuchRow)
 unfolding figures_of
-no-such-row R row f zero le =
+no-such-row R row le =
     record {
       verdict_is = rw (le-ltb row (min R.head.rows most_rows) le) refl;
-      zero-figures = λ why e. let same : NoSuchRow ≡ why = cc in rw (← same, zero) refl;
-      stands = λ v valid e.
-          rw (le-ltb row (length v.head.rows) (omega (arith, rows_are R v e, valid.rows.rows_within)), zero) refl;
+      refused_is = λ why e. cc;
+      stands = λ v valid e. rw (le-ltb row (length v.head.rows) (omega (arith, rows_are R v e, valid.rows.rows_within))) refl;
     }
 
 pub figured : (R : Recorder) (row : ℕ) (f : RowFigures) → row < min R.head.rows most_rows
     → ((v : SheetValue) → Valid v → R ≡ recorder_of v → f ≡ figures_at v row)
-    → Figured R row (record { verdict = Accepted; figures = f })
+    → Figured R row (Ok f)
 unfolding figures_of
 figured R row f lt figures =
     record {
       verdict_is = rw (lt-ltb row (min R.head.rows most_rows) lt) refl;
-      zero-figures = λ why e. refused-accepted why (sym e);
+      refused_is = λ why e. absurd cc;
       stands = λ v valid e. rw (lt-ltb row (length v.head.rows) (omega (arith, rows_are R v e)), figures v valid e) refl;
     }

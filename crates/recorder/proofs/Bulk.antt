@@ -1,4 +1,6 @@
 -- Taking several references at once: the verdict of the first that would be refused, and that it is the same as touching one by one.
+use Rattle.std.specs.Prelude.{Result, Ok, Err}
+use Rattle.model.specs.declared.Refusal.{Refusal}
 use Prim.Native.Nat.{ℕ, zero, suc, ◌+◌, ◌≤◌, ◌<◌, min}
 use mathlib.Core.Path.{◌≡◌, refl, sym, ap, ◌∙◌}
 use mathlib.Core.Bool.{Bool, true, false, cond}
@@ -12,8 +14,6 @@ use borrow.Author.Tests.{lt-ltb, le-ltb, ltb-true}
 use Rattle.model.specs.Sheets.{SheetValue, RunWithin, Valid, trace_of, most_segs, most_steps}
 use Rattle.model.specs.Values.{head_of}
 use Rattle.model.specs.declared.Refusal.TheVariants.{OutOfRange, RecorderFull}
-use Rattle.model.specs.declared.Verdict.{Verdict}
-use Rattle.model.specs.declared.Verdict.TheVariants.{Accepted, Refused}
 use Rattle.recorder.specs.Recorders.{recorder_of, appended, taken, ref_verdict, refs_verdict, touch_verdict, touch_all_verdict}
 use Rattle.recorder.specs.Recorders.{TouchedAll, one_by_one}
 use Rattle.recorder.specs.declared.Recorder.{Recorder}
@@ -22,28 +22,28 @@ use Rattle.recorder.proofs.Answers.{refused-accepted}
 use Rattle.recorder.proofs.Standing.{appended-run, appended-valid}
 
 -- the verdict on the references after one, by the verdict on that one
-rest-verdict : ℕ → ℕ → List ℕ → Verdict → Verdict
+rest-verdict : ℕ → ℕ → List ℕ → Result (Unit {0}) Refusal → Result (Unit {0}) Refusal
 rest-verdict segs count xs w =
     elim w [
-      | Accepted ↦ refs_verdict segs (suc count) xs
-      | Refused why ↦ Refused why
+      | Ok _ ↦ refs_verdict segs (suc count) xs
+      | Err why ↦ Err why
     ]
 
-verdict-step : (segs count x : ℕ) (xs : List ℕ) (w : Verdict) → ref_verdict segs count x ≡ w
+verdict-step : (segs count x : ℕ) (xs : List ℕ) (w : Result (Unit {0}) Refusal) → ref_verdict segs count x ≡ w
     → refs_verdict segs count (x ∷ xs) ≡ rest-verdict segs count xs w
 unfolding refs_verdict rest-verdict
-verdict-step segs count x xs w e = ap (λ (q : Verdict). rest-verdict segs count xs q) e
+verdict-step segs count x xs w e = ap (λ (q : Result (Unit {0}) Refusal). rest-verdict segs count xs q) e
 
 -- the three verdicts on one reference
 module _ (segs count x : ℕ) where
-  ref-out-of-range : segs ≤ x → ref_verdict segs count x ≡ Refused OutOfRange
+  ref-out-of-range : segs ≤ x → ref_verdict segs count x ≡ Err OutOfRange
   ref-out-of-range le = rw (le-ltb x segs le) refl
 
   module _ (lt : x < segs) where
-    ref-full : most_steps ≤ count → ref_verdict segs count x ≡ Refused RecorderFull
+    ref-full : most_steps ≤ count → ref_verdict segs count x ≡ Err RecorderFull
     ref-full le = rw (lt-ltb x segs lt, le-ltb count most_steps le) refl
 
-    ref-accepted : count < most_steps → ref_verdict segs count x ≡ Accepted
+    ref-accepted : count < most_steps → ref_verdict segs count x ≡ (Ok (tt {0}))
     ref-accepted room = rw (lt-ltb x segs lt, lt-ltb count most_steps room) refl
 
 -- going along the references xs, n of which were asked: the verdict on all is that on those left
@@ -53,7 +53,7 @@ module _ (segs count : ℕ) (xs : List ℕ) (n : ℕ) where
 
   module _ (along : Along) where
     -- there is none left
-    pub along-end : length xs ≤ n → Accepted ≡ refs_verdict segs count xs
+    pub along-end : length xs ≤ n → (Ok (tt {0})) ≡ refs_verdict segs count xs
     unfolding refs_verdict
     along-end le = sym (along.1 ∙ rw (drop-none n xs le) refl)
       where
@@ -65,23 +65,23 @@ module _ (segs count : ℕ) (xs : List ℕ) (n : ℕ) where
 
     module _ (lt : n < length xs) where
       -- the next one, by its verdict
-      next : (w : Verdict) → ref_verdict segs (count + n) (get_or xs n 0) ≡ w
+      next : (w : Result (Unit {0}) Refusal) → ref_verdict segs (count + n) (get_or xs n 0) ≡ w
           → refs_verdict segs count xs ≡ rest-verdict segs (count + n) (drop (suc n) xs) w
       next w e =
           along.1 ∙ rw (drop-cons xs n 0 lt) (verdict-step segs (count + n) (get_or xs n 0) (drop (suc n) xs) w e)
 
-      pub along-out-of-range : segs ≤ get_or xs n 0 → Refused OutOfRange ≡ refs_verdict segs count xs
+      pub along-out-of-range : segs ≤ get_or xs n 0 → Err OutOfRange ≡ refs_verdict segs count xs
       unfolding rest-verdict
-      along-out-of-range le = sym (next (Refused OutOfRange) (ref-out-of-range segs (count + n) (get_or xs n 0) le))
+      along-out-of-range le = sym (next (Err OutOfRange) (ref-out-of-range segs (count + n) (get_or xs n 0) le))
 
-      pub along-full : get_or xs n 0 < segs → most_steps ≤ count + n → Refused RecorderFull ≡ refs_verdict segs count xs
+      pub along-full : get_or xs n 0 < segs → most_steps ≤ count + n → Err RecorderFull ≡ refs_verdict segs count xs
       unfolding rest-verdict
-      along-full below le = sym (next (Refused RecorderFull) (ref-full segs (count + n) (get_or xs n 0) below le))
+      along-full below le = sym (next (Err RecorderFull) (ref-full segs (count + n) (get_or xs n 0) below le))
 
       along-accepted : get_or xs n 0 < segs → count + n < most_steps
           → refs_verdict segs count xs ≡ refs_verdict segs (suc (count + n)) (drop (suc n) xs)
       unfolding rest-verdict
-      along-accepted below room = next Accepted (ref-accepted segs (count + n) (get_or xs n 0) below room)
+      along-accepted below room = next (Ok (tt {0})) (ref-accepted segs (count + n) (get_or xs n 0) below room)
 
 pub along-start : (segs count : ℕ) (xs : List ℕ) → Along segs count xs 0
 along-start segs count xs = let none : count + 0 ≡ count = omega arith in (omega arith, rw none refl)
@@ -110,15 +110,15 @@ one_more segs count x xs below room rest = record { segments = at; room = left }
 
 -- the first reference is accepted, and then the rest
 accepted-first : (segs count x : ℕ) (xs : List ℕ) (p : Bool) → ltb x segs ≡ p → (q : Bool) → ltb count most_steps ≡ q
-    → rest-verdict segs count xs (cond p (cond q Accepted (Refused RecorderFull)) (Refused OutOfRange)) ≡ Accepted
-    → (x < segs) × (count < most_steps) × (refs_verdict segs (suc count) xs ≡ Accepted)
+    → rest-verdict segs count xs (cond p (cond q (Ok (tt {0})) (Err RecorderFull)) (Err OutOfRange)) ≡ (Ok (tt {0}))
+    → (x < segs) × (count < most_steps) × (refs_verdict segs (suc count) xs ≡ (Ok (tt {0})))
 unfolding rest-verdict
 accepted-first segs count x xs true p true q f = (ltb-true x segs p, ltb-true count most_steps q, f)
 accepted-first segs count x xs true p false q f = refused-accepted RecorderFull f
 accepted-first segs count x xs false p q any f = refused-accepted OutOfRange f
 
 -- so it is where they are accepted
-pub takable-is : (segs count : ℕ) (xs : List ℕ) → refs_verdict segs count xs ≡ Accepted → Takable segs count xs
+pub takable-is : (segs count : ℕ) (xs : List ℕ) → refs_verdict segs count xs ≡ (Ok (tt {0})) → Takable segs count xs
 unfolding refs_verdict rest-verdict
 takable-is segs count [] e = record { segments = λ t lt. absurd (omega arith); room = λ t lt. absurd (omega arith) }
 takable-is segs count (x ∷ xs) e =
@@ -126,12 +126,12 @@ takable-is segs count (x ∷ xs) e =
     one_more segs count x xs first.0 first.1 (takable-is segs (suc count) xs first.2)
 
 -- and only there
-pub takable-accepted : (segs count : ℕ) (xs : List ℕ) → Takable segs count xs → refs_verdict segs count xs ≡ Accepted
+pub takable-accepted : (segs count : ℕ) (xs : List ℕ) → Takable segs count xs → refs_verdict segs count xs ≡ (Ok (tt {0}))
 unfolding refs_verdict rest-verdict
 takable-accepted segs count [] s = refl
 takable-accepted segs count (x ∷ xs) s =
     let first = ref-accepted segs count x (s.segments 0 (omega arith)) (omega (arith, s.room 0 (omega arith))) in
-    verdict-step segs count x xs Accepted first
+    verdict-step segs count x xs (Ok (tt {0})) first
     ∙ takable-accepted segs (suc count) xs
     (record { segments = λ t lt. s.segments (suc t) (omega arith); room = λ t lt. omega (arith, s.room (suc t) (omega arith)) })
 
@@ -155,35 +155,35 @@ verdict-of R xs v valid e =
     rw (e, all) refl
 
 -- references that such a recorder accepts can be taken after the sheet
-pub takable-of : (R : Recorder) (xs : List ℕ) → touch_all_verdict R xs ≡ Accepted
+pub takable-of : (R : Recorder) (xs : List ℕ) → touch_all_verdict R xs ≡ (Ok (tt {0}))
     → (v : SheetValue) → Valid v → R ≡ recorder_of v → Takable (length v.head.sizes) (length v.entries) xs
 takable-of R xs a v valid e = takable-is (length v.head.sizes) (length v.entries) xs (sym (verdict-of R xs v valid e) ∙ a)
 
 -- the touches after one, by the verdict on that one
-rest-touched : SheetValue → ℕ → List ℕ → Verdict → TouchAnswer
+rest-touched : SheetValue → ℕ → List ℕ → Result (Unit {0}) Refusal → TouchAnswer
 rest-touched v x xs w =
     elim w [
-      | Accepted ↦ one_by_one (taken v x) xs
-      | Refused why ↦ record { verdict = Refused why; recorder = recorder_of v }
+      | Ok _ ↦ one_by_one (taken v x) xs
+      | Err why ↦ record { verdict = Err why; recorder = recorder_of v }
     ]
 
 -- the answer of touching one by one: the verdict on all references, and where it accepts the sheet with all of them
-record OneByOne (v : SheetValue) (xs : List ℕ) (r : TouchAnswer) (w : Verdict) : Type 0 where
+record OneByOne (v : SheetValue) (xs : List ℕ) (r : TouchAnswer) (w : Result (Unit {0}) Refusal) : Type 0 where
   verdict_is : r.verdict ≡ w
-  all_taken : r.verdict ≡ Accepted → r.recorder ≡ recorder_of (appended v xs)
+  all_taken : r.verdict ≡ (Ok (tt {0})) → r.recorder ≡ recorder_of (appended v xs)
 
 one-by-one-step : (v : SheetValue) (x : ℕ) (xs : List ℕ)
     → OneByOne (taken v x) xs (one_by_one (taken v x) xs)
     (refs_verdict (min (length v.head.sizes) most_segs) (suc (length v.entries)) xs)
-    → (w : Verdict)
+    → (w : Result (Unit {0}) Refusal)
     → OneByOne v (x ∷ xs) (rest-touched v x xs w) (rest-verdict (min (length v.head.sizes) most_segs) (length v.entries) xs w)
 unfolding rest-touched rest-verdict
-one-by-one-step v x xs rest Accepted =
+one-by-one-step v x xs rest (Ok _) =
     record {
       verdict_is = rest.verdict_is;
       all_taken = λ a. rest.all_taken a ∙ ap recorder_of (rw (append_assoc v.entries (x ∷ []) xs) refl);
     }
-one-by-one-step v x xs rest (Refused why) = record { verdict_is = refl; all_taken = λ a. refused-accepted why a }
+one-by-one-step v x xs rest (Err why) = record { verdict_is = refl; all_taken = λ a. refused-accepted why a }
 
 one_by_one_lem : (v : SheetValue) (xs : List ℕ)
     → OneByOne v xs (one_by_one v xs) (refs_verdict (min (length v.head.sizes) most_segs) (length v.entries) xs)
@@ -196,7 +196,7 @@ one_by_one_lem v (x ∷ xs) =
 -- taking all at once is touching one by one: the verdict is the same, and where it accepts so is the whole answer
 pub touched-one-by-one : (R : Recorder) (xs : List ℕ) (r : TouchAnswer) → TouchedAll R xs r
     → (v : SheetValue) → Valid v → R ≡ recorder_of v
-    → (r.verdict ≡ (one_by_one v xs).verdict) × (r.verdict ≡ Accepted → r ≡ one_by_one v xs)
+    → (r.verdict ≡ (one_by_one v xs).verdict) × (r.verdict ≡ (Ok (tt {0})) → r ≡ one_by_one v xs)
 unfolding recorder_of head_of
 touched-one-by-one R xs r t v valid e =
     let each = one_by_one_lem v xs in
@@ -208,7 +208,7 @@ touched-one-by-one R xs r t v valid e =
     )
 
 -- references that a recorder that stands for a sheet accepts leave the sheet's run within the limits, and a sheet of forms 1 to 3
-module _ (R : Recorder) (xs : List ℕ) (a : touch_all_verdict R xs ≡ Accepted) (v : SheetValue) (valid : Valid v) (e : R ≡ recorder_of v)
+module _ (R : Recorder) (xs : List ℕ) (a : touch_all_verdict R xs ≡ Ok (tt {0})) (v : SheetValue) (valid : Valid v) (e : R ≡ recorder_of v)
   where
     can : Takable (length v.head.sizes) (length v.entries) xs
     can = takable-of R xs a v valid e
@@ -223,6 +223,6 @@ module _ (R : Recorder) (xs : List ℕ) (a : touch_all_verdict R xs ≡ Accepted
     all_valid early = appended-valid v valid xs can.segments few early
 
 -- a reference that is accepted is accepted as a list of one
-pub one-accepted : (R : Recorder) (x : ℕ) → touch_verdict R x ≡ Accepted → touch_all_verdict R (x ∷ []) ≡ Accepted
+pub one-accepted : (R : Recorder) (x : ℕ) → touch_verdict R x ≡ (Ok (tt {0})) → touch_all_verdict R (x ∷ []) ≡ (Ok (tt {0}))
 unfolding rest-verdict refs_verdict
-one-accepted R x e = verdict-step (min R.head.segs most_segs) R.steps x [] Accepted e
+one-accepted R x e = verdict-step (min R.head.segs most_segs) R.steps x [] (Ok (tt {0})) e

@@ -5,9 +5,9 @@ use mathlib.Core.List.{List}
 use native.Mathlib.Omega.{arith}
 use lib.ListN.{get_or}
 use Rattle.model.specs.Sheets.{most_steps}
-use Rattle.buckets.specs.inner.Pass.{Within}
+use Rattle.buckets.specs.inner.Pass.{Within, added}
 use Rattle.buckets.specs.Buckets.{no_bucket}
-use Rattle.figures.specs.inner.Sweep.{added, summed}
+use Rattle.figures.specs.inner.Sweep.{summed}
 use Rattle.figures.specs.inner.OneRow.{Holds}
 use Rattle.buckets.specs.declared.Bucket.{Bucket}
 use Rattle.figures.proofs.Sweeps.{summed-suc, summed-more}

@@ -1,11 +1,9 @@
 pub mod Answers
 pub mod Bulk
 pub mod Examples
-pub mod Fitting
 pub mod Guarding
 pub mod Moves
 pub mod Recorded
 pub mod RowNow
 pub mod Standing
 pub mod Stepping
-pub mod Telling

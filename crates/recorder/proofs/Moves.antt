@@ -1,5 +1,7 @@
 -- Touches and idle steps in any order: a recorder that stands for a sheet then stands for the sheet with those steps; and from a sheet's
 -- head on the moves that it records are all accepted and lead to the sheet.
+use Rattle.std.specs.Prelude.{Result, Ok, Err}
+use Rattle.model.specs.declared.Refusal.{Refusal}
 use Prim.Native.Nat.{ℕ, suc, ◌+◌, ◌≤◌, ◌<◌, min}
 use mathlib.Core.Path.{◌≡◌, refl, sym, ap, ◌∙◌}
 use mathlib.Core.Bool.{Bool, true, false, cond}
@@ -11,8 +13,6 @@ use lib.ListN.{length, get_or, length-append}
 use borrow.Author.Tests.{lt-ltb, ltb-true, ltb-false}
 use Rattle.model.specs.Sheets.{HeadValue, SheetValue, Valid, idle, most_segs, most_steps}
 use Rattle.model.specs.Values.{head_of}
-use Rattle.model.specs.declared.Verdict.{Verdict}
-use Rattle.model.specs.declared.Verdict.TheVariants.{Accepted, Refused}
 use Rattle.recorder.specs.Recorders.{recorder_of, started, appended, taken, with_idle, touch_verdict, idle_verdict}
 use Rattle.recorder.specs.Moves.{Move, touching, resting, entry_of, after_move, after_moves, move_verdict, moves_verdict}
 use Rattle.recorder.specs.Moves.{Moved, Led, unmoved, led, move_of, moves_of}
@@ -49,7 +49,7 @@ moves-entries v (touching x ∷ ms) = moves-entries (taken v x) ms ∙ append_as
 moves-entries v (resting ∷ ms) = moves-entries (with_idle v) ms ∙ append_assoc v.entries (idle ∷ []) (map entry_of ms)
 
 -- a move that is accepted leaves a sheet of forms 1 to 3 within the limits, and one of these forms
-pub moved-valid : (R : Recorder) (m : Move) → move_verdict R m ≡ Accepted
+pub moved-valid : (R : Recorder) (m : Move) → move_verdict R m ≡ (Ok (tt {0}))
     → (v : SheetValue) → Valid v → v.form ≤ 3 → R ≡ recorder_of v → Valid (after_move v m)
 unfolding recorder_of
 moved-valid R (touching x) a v valid early e = all_valid R (x ∷ []) (one-accepted R x a) v valid e early
@@ -65,7 +65,7 @@ moved-verdict : (R : Recorder) (m : Move) (r : TouchAnswer) → Moved R m r → 
 moved-verdict R (touching x) r t = t.verdict_is
 moved-verdict R resting r t = t.verdict_is
 
-moved-stands : (R : Recorder) (m : Move) (r : TouchAnswer) → Moved R m r → r.verdict ≡ Accepted
+moved-stands : (R : Recorder) (m : Move) (r : TouchAnswer) → Moved R m r → r.verdict ≡ (Ok (tt {0}))
     → (v : SheetValue) → Valid v → R ≡ recorder_of v → r.recorder ≡ recorder_of (after_move v m)
 moved-stands R (touching x) r t a v valid e = t.stands v valid e a
 moved-stands R resting r t a v valid e = t.stands v valid e a
@@ -107,39 +107,39 @@ sheet-moves v valid =
     (moves-entries (started v) (moves_of v) ∙ entries-again (length v.head.sizes) v.entries valid.run.entry_within)
 
 -- one move that is accepted, and then the rest
-first-move : (v : SheetValue) (m : Move) (ms : List Move) → move_verdict (recorder_of v) m ≡ Accepted
-    → moves_verdict (after_move v m) ms ≡ Accepted
-    → moves_verdict v (m ∷ ms) ≡ Accepted
+first-move : (v : SheetValue) (m : Move) (ms : List Move) → move_verdict (recorder_of v) m ≡ (Ok (tt {0}))
+    → moves_verdict (after_move v m) ms ≡ (Ok (tt {0}))
+    → moves_verdict v (m ∷ ms) ≡ (Ok (tt {0}))
 unfolding moves_verdict
 first-move v m ms a rest =
     ap
-    (λ (w : Verdict).
+    (λ (w : Result (Unit {0}) Refusal).
     elim w [
-      | Accepted ↦ moves_verdict (after_move v m) ms
-      | Refused why ↦ Refused why
+      | Ok _ ↦ moves_verdict (after_move v m) ms
+      | Err why ↦ Err why
     ])
     a
     ∙ rest
 
 -- where there is room, a touch of a segment is accepted, and an idle step
 module _ (v : SheetValue) (few : length v.head.sizes ≤ most_segs) (room : length v.entries < most_steps) where
-  touch-accepted : (x : ℕ) → x < length v.head.sizes → touch_verdict (recorder_of v) x ≡ Accepted
+  touch-accepted : (x : ℕ) → x < length v.head.sizes → touch_verdict (recorder_of v) x ≡ (Ok (tt {0}))
   unfolding recorder_of head_of
   touch-accepted x lt =
       let all : min (length v.head.sizes) most_segs ≡ length v.head.sizes = omega arith in
       rw (all, lt-ltb x (length v.head.sizes) lt, lt-ltb (length v.entries) most_steps room) refl
 
-  rest-accepted : idle_verdict (recorder_of v) ≡ Accepted
+  rest-accepted : idle_verdict (recorder_of v) ≡ (Ok (tt {0}))
   unfolding recorder_of
   rest-accepted = rw (lt-ltb (length v.entries) most_steps room) refl
 
   -- an entry is accepted as a move, and then the rest
   entry-accepted : (x : ℕ) (ms : List Move)
-      → (x < length v.head.sizes → moves_verdict (taken v x) ms ≡ Accepted) → moves_verdict (with_idle v) ms ≡ Accepted
-      → moves_verdict v (move_of (length v.head.sizes) x ∷ ms) ≡ Accepted
+      → (x < length v.head.sizes → moves_verdict (taken v x) ms ≡ (Ok (tt {0}))) → moves_verdict (with_idle v) ms ≡ (Ok (tt {0}))
+      → moves_verdict v (move_of (length v.head.sizes) x ∷ ms) ≡ (Ok (tt {0}))
   entry-accepted x ms after-touch after-rest = go (ltb x (length v.head.sizes)) refl
     where
-      go : (b : Bool) → ltb x (length v.head.sizes) ≡ b → moves_verdict v (cond b (touching x) resting ∷ ms) ≡ Accepted
+      go : (b : Bool) → ltb x (length v.head.sizes) ≡ b → moves_verdict v (cond b (touching x) resting ∷ ms) ≡ (Ok (tt {0}))
       go true e =
           let lt = ltb-true x (length v.head.sizes) e in
           first-move v (touching x) ms (touch-accepted x lt) (after-touch lt)
@@ -147,7 +147,7 @@ module _ (v : SheetValue) (few : length v.head.sizes ≤ most_segs) (room : leng
 
 -- entries, not too many, are all accepted as moves after a sheet
 entries-accepted : (v : SheetValue) → length v.head.sizes ≤ most_segs → (xs : List ℕ) → length v.entries + length xs ≤ most_steps
-    → moves_verdict v (map (move_of (length v.head.sizes)) xs) ≡ Accepted
+    → moves_verdict v (map (move_of (length v.head.sizes)) xs) ≡ (Ok (tt {0}))
 unfolding moves_verdict
 entries-accepted v few [] room = refl
 entries-accepted v few (x ∷ xs) room =
@@ -156,5 +156,5 @@ entries-accepted v few (x ∷ xs) room =
     (entries-accepted (with_idle v) few xs (omega (arith, length-append v.entries (idle ∷ []))))
 
 -- so are those that a sheet records, from its head on
-pub moves-accepted : (v : SheetValue) → Valid v → moves_verdict (started v) (moves_of v) ≡ Accepted
+pub moves-accepted : (v : SheetValue) → Valid v → moves_verdict (started v) (moves_of v) ≡ (Ok (tt {0}))
 moves-accepted v valid = entries-accepted (started v) valid.run.segs_within v.entries (omega (arith, valid.run.steps_within))

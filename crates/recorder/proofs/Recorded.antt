@@ -1,5 +1,6 @@
 -- Of the recorder that stands for a sheet: the counts of its buckets add up to its references; and from the sheet's head on it takes the
 -- sheet's references where every step has one.
+use Rattle.std.specs.Prelude.{Ok}
 use Prim.Native.Nat.{ℕ, ◌<◌}
 use mathlib.Core.Path.{◌≡◌, refl, ◌∙◌}
 use native.Mathlib.Omega.{arith}
@@ -7,7 +8,6 @@ use lib.ListN.{length, get_or}
 use Rattle.model.specs.Sums.{sum}
 use Rattle.model.specs.Traces.{segs, entry, refs_of}
 use Rattle.model.specs.Sheets.{SheetValue, Valid, trace_of}
-use Rattle.model.specs.declared.Verdict.TheVariants.{Accepted}
 use Rattle.model.proofs.Lists.{get_or-any}
 use Rattle.buckets.specs.Buckets.{bucket_count, tally_of, no_bucket}
 use Rattle.figures.proofs.Filed.{counts_add_up}
@@ -23,7 +23,7 @@ counts_are v valid = counts_add_up v.head.rows valid.rows (trace_of v)
 
 -- a sheet's references are all accepted, from its head on, where every step has one
 pub sheet-accepted : (v : SheetValue) → Valid v → ((t : ℕ) → t < length v.entries → entry (trace_of v) t < segs (trace_of v))
-    → touch_all_verdict (recorder_of (started v)) v.entries ≡ Accepted
+    → touch_all_verdict (recorder_of (started v)) v.entries ≡ (Ok (tt {0}))
 sheet-accepted v valid whole =
     verdict-of (recorder_of (started v)) v.entries (started v) (started-valid v valid) refl
     ∙ takable-accepted (length v.head.sizes) 0 v.entries

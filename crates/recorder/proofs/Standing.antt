@@ -1,5 +1,6 @@
 -- What a recorder that stands for a sheet holds is what the pass has after the sheet's steps, and there is room in it; a sheet with
 -- more steps is within the limits.
+use Rattle.std.specs.Prelude.{Ok, Err}
 use Prim.Native.Nat.{ℕ, ◌+◌, ◌-◌, ◌^◌, ◌≤◌, ◌<◌, min, max}
 use mathlib.Core.Path.{◌≡◌, refl, sym, ap, ◌∙◌}
 use mathlib.Core.Bool.{Bool, true, false, cond, false≢true}
@@ -14,14 +15,13 @@ use Rattle.model.specs.Figures.{ref_cost, ref_volume}
 use Rattle.model.specs.Sheets.{HeadValue, SheetValue, RowsWithin, RunWithin, Valid, head_run, trace_of}
 use Rattle.model.specs.Sheets.{idle, newest_form, most_segs, most_rows, most_steps}
 use Rattle.model.specs.Values.{padded, zero_rows, head_of}
-use Rattle.model.specs.declared.PriceRow.{PriceRow}
 use Rattle.model.specs.declared.Refusal.TheVariants.{RecorderFull}
-use Rattle.model.specs.declared.Verdict.TheVariants.{Accepted, Refused}
 use Rattle.model.proofs.Lists.{get_or-any}
 use Rattle.model.proofs.Warm.{warm-few}
 use Rattle.buckets.specs.inner.Pass.{Roomy, passed_after, passed_of}
-use Rattle.buckets.specs.inner.Search.{load_prices, memory_prices, RowsOf}
+use Rattle.buckets.specs.inner.Search.{in_places, prices_of, RowsOf}
 use Rattle.buckets.specs.declared.Bucket.{Bucket}
+use Rattle.buckets.specs.declared.search.Prices.{Prices}
 use Rattle.buckets.specs.declared.pass.Passed.{Passed}
 use Rattle.figures.proofs.Limits.{buckets-roomy}
 use Rattle.recorder.specs.Recorders.{recorder_of, started, appended, taken, with_idle, room_verdict, idle_verdict}
@@ -39,21 +39,15 @@ pub padded-at : {A : Type 0} (xs blank : List A) (i : ℕ) (d : A) → i < lengt
 unfolding padded
 padded-at xs blank i d lt = get_or-append xs (drop (length xs) blank) d i lt
 
--- the prices hs and ds are those of the first n rows of a list
-pub record PricedBy (hs ds : List ℕ) (n : ℕ) (prices : List PriceRow) : Type 0 where
-  pub loads : hs ≡ load_prices (take n prices)
-  pub memories : ds ≡ memory_prices (take n prices)
-
 -- the rows of a head, from the prices of those that it counts
-pub head_rows : (v : HeadValue) → RowsWithin v.rows → (n : ℕ) → n ≡ min (length v.rows) most_rows → (hs ds : List ℕ)
-    → PricedBy hs ds n (padded v.rows (zero_rows most_rows)) → RowsOf n hs ds v.rows
-head_rows v up n is hs ds priced =
+pub head_rows : (v : HeadValue) → RowsWithin v.rows → (n : ℕ) → n ≡ min (length v.rows) most_rows → (p : Prices)
+    → p ≡ prices_of n (take n (padded v.rows (zero_rows most_rows))) → RowsOf p v.rows
+head_rows v up n is p priced =
     let all = front v.rows (zero_rows most_rows) n most_rows up.rows_within is in
     record {
-      loads = priced.loads ∙ ap load_prices all;
-      memories = priced.memories ∙ ap memory_prices all;
+      priced = ap (λ (q : Prices). q.rows) priced ∙ ap in_places all;
       within = up;
-      counted = omega (arith, up.rows_within);
+      counted = omega (arith, up.rows_within, ap (λ (q : Prices). q.count) priced);
     }
 
 -- the warm segments of a sheet have room in a head
@@ -188,12 +182,12 @@ later-valid v valid early =
     (λ first. absurd (omega (arith, first))) (λ late. absurd (omega arith))
 
 -- a recorder that takes an idle step has room for it
-pub idle-room : (R : Recorder) (v : SheetValue) → R ≡ recorder_of v → idle_verdict R ≡ Accepted → length v.entries < most_steps
+pub idle-room : (R : Recorder) (v : SheetValue) → R ≡ recorder_of v → idle_verdict R ≡ (Ok (tt {0})) → length v.entries < most_steps
 unfolding recorder_of
 idle-room R v e a =
     go (ltb (length v.entries) most_steps) refl (ap (λ (Q : Recorder). room_verdict Q.steps) (sym e) ∙ a)
   where
-    go : (b : Bool) → ltb (length v.entries) most_steps ≡ b → cond b Accepted (Refused RecorderFull) ≡ Accepted
+    go : (b : Bool) → ltb (length v.entries) most_steps ≡ b → cond b (Ok (tt {0})) (Err RecorderFull) ≡ (Ok (tt {0}))
         → length v.entries < most_steps
     go true l w = ltb-true (length v.entries) most_steps l
     go false l w = let z : ◌≡◌ {A = ℕ} 0 1 = cc in omega arith

@@ -15,7 +15,8 @@ use Rattle.model.specs.Values.{zeros, zero_rows, head_of}
 use Rattle.model.specs.declared.Head.{Head}
 use Rattle.model.proofs.Bounds.{unit-within}
 use Rattle.buckets.specs.inner.Pass.{touch_of, Limited, Within, with_touch, PassedOn, passed_after, passed_of}
-use Rattle.buckets.specs.inner.Search.{time_since}
+use Rattle.buckets.specs.inner.Search.{time_since, prices_of}
+use Rattle.buckets.specs.declared.search.Prices.{Prices}
 use Rattle.buckets.specs.Buckets.{bucket_count, tally_of, no_bucket}
 use Rattle.figures.specs.inner.Sweep.{summed, Tallied}
 use Rattle.figures.specs.inner.OneRow.{by_kind, Holds}
@@ -29,7 +30,7 @@ use Rattle.buckets.proofs.Passing.{pass_step, pass-idle, passed-agree}
 use Rattle.recorder.specs.inner.Passes.{Continued}
 use Rattle.recorder.specs.Recorders.{recorder_of, appended, taken, with_idle, with_step}
 use Rattle.recorder.specs.declared.Recorder.{Recorder}
-use Rattle.recorder.proofs.Standing.{PricedBy, front, padded-at, head_rows, standing, standing-roomy, taken-run, recorder-passed}
+use Rattle.recorder.proofs.Standing.{front, padded-at, head_rows, standing, standing-roomy, taken-run, recorder-passed}
 
 -- N is the recorder R with one more reference, to segment x: a touch, its bucket, Q and V as the code makes them
 pub record Stepped (R : Recorder) (x : ℕ) (N : Recorder) : Type 0 where
@@ -120,27 +121,27 @@ pub rested-stands : (R : Recorder) (v : SheetValue) → Valid v → R ≡ record
 rested-stands R v valid e = rw e (rested-of v valid)
 
 -- the pass goes on from what it has after a sheet
-passed-of : (v : SheetValue) (rows segs : ℕ) (hs ds : List ℕ) (p : Passed) (n : ℕ) (xs : List ℕ) (r : Passed)
+passed-of : (v : SheetValue) (rows segs : ℕ) (prices : Prices) (p : Passed) (n : ℕ) (xs : List ℕ) (r : Passed)
     → rows ≡ min (head_of v.head).rows most_rows → segs ≡ min (head_of v.head).segs most_segs
-    → PricedBy hs ds rows (head_of v.head).prices
-    → PassedOn (head_of v.head).kind (head_of v.head).a (take segs (head_of v.head).sizes) rows hs ds n xs p r
+    → prices ≡ prices_of rows (take rows (head_of v.head).prices)
+    → PassedOn (head_of v.head).kind (head_of v.head).a (take segs (head_of v.head).sizes) prices n xs p r
     → RowsWithin v.head.rows → RunWithin (trace_of (appended v xs)) → length v.entries ≡ n → p ≡ passed_of v.head.rows (trace_of v)
     → r ≡ passed_of v.head.rows (trace_of (appended v xs))
 unfolding head_of
-passed-of v rows segs hs ds p n xs r rows_are segs_are priced on up run all is =
+passed-of v rows segs prices p n xs r rows_are segs_are priced on up run all is =
     let T = trace_of v in
     let U = with_refs T (v.entries ++ xs) in
     let sizes = front v.head.sizes (zeros most_segs) segs most_segs run.segs_within segs_are in
-    (rw sizes at on) v.head.rows (head_rows v.head up rows rows_are hs ds priced) v.head.warm v.entries all run
+    (rw sizes at on) v.head.rows (head_rows v.head up rows rows_are prices priced) v.head.warm v.entries all run
     (rw (← all) (is ∙ passed-agree v.head.rows T (v.entries ++ xs) (length v.entries)
     (λ t lt. get_or-append v.entries xs (length v.head.sizes) t lt)))
 
-pub passed_on : (head : Head) (rows segs : ℕ) (hs ds : List ℕ) (p : Passed) (n : ℕ) (xs : List ℕ) (r : Passed)
+pub passed_on : (head : Head) (rows segs : ℕ) (prices : Prices) (p : Passed) (n : ℕ) (xs : List ℕ) (r : Passed)
     → rows ≡ min head.rows most_rows → segs ≡ min head.segs most_segs
-    → PricedBy hs ds rows head.prices
-    → PassedOn head.kind head.a (take segs head.sizes) rows hs ds n xs p r → Continued head p n xs r
-passed_on head rows segs hs ds p n xs r rows_are segs_are priced on v up run e =
-    passed-of v rows segs hs ds p n xs r (rw e at rows_are) (rw e at segs_are) (rw e at priced) (rw e at on) up run
+    → prices ≡ prices_of rows (take rows head.prices)
+    → PassedOn head.kind head.a (take segs head.sizes) prices n xs p r → Continued head p n xs r
+passed_on head rows segs prices p n xs r rows_are segs_are priced on v up run e =
+    passed-of v rows segs prices p n xs r (rw e at rows_are) (rw e at segs_are) (rw e at priced) (rw e at on) up run
 
 -- several references, as the code takes them from the recorder of v: Q and V are sums of the buckets
 taken_of : (v : SheetValue) (xs : List ℕ) → RowsWithin v.head.rows → RunWithin (trace_of (appended v xs))

@@ -14,7 +14,8 @@ ghost use Rattle.recorder.specs.inner.Passes.{begun};
 ghost use Rattle.recorder.specs.Recorders.{recorder_of, empty_recorder, started, Touched, TouchedAll, Rested, Figured};
 
 use buckets::{Bucket, Tally};
-use model::{FiguresAnswer, Head, MemoryUnits, Refusal, RowFigures, Sheet, Verdict};
+pub use guards::{ROOM, has_room};
+use model::{Head, MemoryUnits, Refusal, RowFigures, Sheet};
 
 // A recorder by value: the head of its sheet, how many steps were taken, the table of last touches, the buckets, Q and V.
 #[derive(Clone, Copy)]
@@ -79,7 +80,7 @@ impl Recorder {
 // as it was.
 #[derive(Clone, Copy)]
 pub struct TouchAnswer {
-    pub verdict: Verdict,
+    pub verdict: Result<(), Refusal>,
     pub recorder: Recorder,
 }
 
@@ -87,15 +88,13 @@ pub struct TouchAnswer {
 fn begin(head: Head) -> Recorder
     ensures { result ≡ begun head }
 {
-    let count = guards::least(head.warm, Recorder::MAX_SEGS);
-    let holds = head.holds;
-    let last = model::start_table(&holds[..count]);
-    let buckets = buckets::pass::empty_buckets();
+    let count = head.warm.min(Recorder::MAX_SEGS);
+    let last = model::start_table(&head.holds[..count]);
     Recorder {
-        head: head,
+        head,
         steps: 0,
-        last: last,
-        buckets: buckets,
+        last,
+        buckets: buckets::pass::empty_buckets(),
         cost: MemoryUnits(0),
         volume: 0,
     }
@@ -106,39 +105,31 @@ impl Recorder {
     pub fn empty() -> Recorder
         ensures { result ≡ empty_recorder }
     {
-        let head = Head::empty();
-        begin(head)
+        begin(Head::empty())
     }
 
     // From a sheet's head and its warm segments, with no steps.
     pub fn start(sheet: Sheet) -> Recorder
         ensures { (v : SheetValue) → Valid v → sheet ≡ sheet_of v → result ≡ recorder_of (started v) }
     {
-        let head = sheet.head;
-        begin(head)
+        begin(sheet.head)
     }
 
     // Takes one reference: 4 for a segment not below segs, then 13 where there are 2,048 steps.
     pub fn touch(self, segment: usize) -> TouchAnswer
         ensures { Touched self segment result }
     {
-        let head = self.head;
-        let segs = guards::least(head.segs, Recorder::MAX_SEGS);
-        if segs <= segment {
-            return TouchAnswer {
-                verdict: Verdict::Refused(Refusal::OutOfRange),
+        let segs = self.head.segs.min(Recorder::MAX_SEGS);
+        let verdict = taking::touch_verdict(segs, self.steps, segment);
+        match verdict {
+            Ok(()) => TouchAnswer {
+                verdict,
+                recorder: taking::take_one(self, segment),
+            },
+            Err(_) => TouchAnswer {
+                verdict,
                 recorder: self,
-            };
-        }
-        if Recorder::MAX_STEPS <= self.steps {
-            return TouchAnswer {
-                verdict: Verdict::Refused(Refusal::RecorderFull),
-                recorder: self,
-            };
-        }
-        TouchAnswer {
-            verdict: Verdict::Accepted,
-            recorder: taking::take_one(self, segment),
+            },
         }
     }
 
@@ -146,18 +137,17 @@ impl Recorder {
     pub fn touch_all(self, refs: &[u16]) -> TouchAnswer
         ensures { TouchedAll self refs.now result }
     {
-        let head = self.head;
-        let segs = guards::least(head.segs, Recorder::MAX_SEGS);
+        let segs = self.head.segs.min(Recorder::MAX_SEGS);
         let verdict = taking::acceptable(refs, segs, self.steps);
-        if let Verdict::Refused(why) = verdict {
-            return TouchAnswer {
-                verdict: Verdict::Refused(why),
+        match verdict {
+            Ok(()) => TouchAnswer {
+                verdict,
+                recorder: taking::take_all(self, refs),
+            },
+            Err(_) => TouchAnswer {
+                verdict,
                 recorder: self,
-            };
-        }
-        TouchAnswer {
-            verdict: Verdict::Accepted,
-            recorder: taking::take_all(self, refs),
+            },
         }
     }
 
@@ -165,36 +155,23 @@ impl Recorder {
     pub fn idle(mut self) -> TouchAnswer
         ensures { Rested self result }
     {
-        let t = self.steps;
-        let step = taking::idle_verdict(t);
-        if let Verdict::Refused(why) = step {
-            return TouchAnswer {
-                verdict: Verdict::Refused(why),
-                recorder: self,
-            };
+        let verdict = taking::idle_verdict(self.steps);
+        if let Ok(()) = verdict {
+            self.steps += 1;
         }
-        self.steps = t + 1;
         TouchAnswer {
-            verdict: Verdict::Accepted,
+            verdict,
             recorder: self,
         }
     }
 
     // The figures of a row at this moment: 7 for no such row.
-    pub fn figures(self, row: usize) -> FiguresAnswer
+    pub fn figures(self, row: usize) -> Result<RowFigures, Refusal>
         ensures { Figured self row result }
     {
-        let head = self.head;
-        let rows = guards::least(head.rows, Recorder::MAX_ROWS);
-        if rows <= row {
-            return FiguresAnswer {
-                verdict: Verdict::Refused(Refusal::NoSuchRow),
-                figures: RowFigures::zero(),
-            };
+        if self.head.rows.min(Recorder::MAX_ROWS) <= row {
+            return Err(Refusal::NoSuchRow);
         }
-        FiguresAnswer {
-            verdict: Verdict::Accepted,
-            figures: reading::row_now(self, row),
-        }
+        Ok(reading::row_now(self, row))
     }
 }

@@ -1,13 +1,17 @@
 // The figures of a row at this moment: the end intervals from the table of last touches, the sums of the buckets up to the row, and the
 // swap costs of the warm segments.
-ghost use Rattle.std.specs.Prelude.{◌≡◌, ◌+◌, ◌<◌, min};
+ghost use Rattle.std.specs.Prelude.{◌≡◌, ◌<◌, min};
 ghost use Rattle.model.specs.Sheets.{SheetValue, Valid, trace_of, most_rows};
 ghost use Rattle.buckets.specs.Buckets.{tally_of};
 ghost use Rattle.model.specs.RowAnswers.{figures_at};
 ghost use Rattle.recorder.specs.Recorders.{recorder_of};
 
 use crate::Recorder;
+use crate::guards::{sum_first, with_start};
+use crate::row_guards::{row_of, start_now};
+use buckets::search::Prices;
 use buckets::{Bucket, Tally};
+use figures::row_sums::Sums;
 use model::RowFigures;
 
 // The buckets of the end intervals at this moment.
@@ -15,18 +19,12 @@ fn ends_now(recorder: Recorder) -> [Bucket; Tally::BUCKETS]
     ensures { (v : SheetValue) → Valid v → recorder ≡ recorder_of v → result ≡ (tally_of v.head.rows (trace_of v)).ends }
 {
     let head = recorder.head;
-    let kind = head.kind;
-    let a = head.a;
-    let rows = crate::guards::least(head.rows, Recorder::MAX_ROWS);
-    let segs = crate::guards::least(head.segs, Recorder::MAX_SEGS);
-    let steps = crate::guards::least(recorder.steps, Recorder::MAX_STEPS) as u16;
-    let prices = head.prices;
-    let all_sizes = head.sizes;
-    let last = recorder.last;
-    let sizes = &all_sizes[..segs];
-    let hs = buckets::search::load_prices(prices, rows);
-    let ds = buckets::search::memory_prices(prices, rows);
-    buckets::pass::ends(kind, a, rows, &hs, &ds, sizes, &last, steps)
+    let rows = head.rows.min(Recorder::MAX_ROWS);
+    let segs = head.segs.min(Recorder::MAX_SEGS);
+    let steps = recorder.steps.min(Recorder::MAX_STEPS) as u16;
+    let prices = Prices::of(head.prices, rows);
+    let sizes = &head.sizes[..segs];
+    buckets::pass::ends(head.kind, head.a, &prices, sizes, &recorder.last, steps)
 }
 
 // The figures of a row of the recorder.
@@ -36,22 +34,13 @@ pub fn row_now(recorder: Recorder, row: usize) -> RowFigures
 {
     let ended = ends_now(recorder);
     let head = recorder.head;
-    let kind = head.kind;
-    let prices = head.prices;
-    let buckets = recorder.buckets;
-    let touches = crate::guards::sum_first(buckets, Tally::BUCKETS);
-    let all = crate::guards::with_start(touches, crate::row_guards::start_now(head));
-    let kept = crate::guards::sum_first(buckets, row + 1);
-    let ends = crate::guards::sum_first(ended, row + 1);
-    crate::row_guards::row_of(
-        kind,
-        head.a,
-        prices[row],
-        recorder.steps,
-        recorder.cost,
-        recorder.volume,
-        all,
-        kept,
-        ends,
-    )
+    let touches = sum_first(recorder.buckets, Tally::BUCKETS);
+    let sums = Sums {
+        cost: recorder.cost,
+        volume: recorder.volume,
+        all: with_start(touches, start_now(head)),
+        kept: sum_first(recorder.buckets, row + 1),
+        ends: sum_first(ended, row + 1),
+    };
+    row_of(head.kind, head.a, head.prices[row], recorder.steps, sums)
 }

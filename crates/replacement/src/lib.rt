@@ -5,22 +5,20 @@
 ghost use Rattle.std.specs.Prelude.{◌≡◌};
 ghost use Rattle.replacement.specs.Answers.{no_curve};
 
-use model::{PlaceAnswer, Refusal};
-
-// Whether the list of misses was written and how long it is, and the entries looked at, 0 where it was not.
+// What the call by distances writes and counts: the length of the list of misses, and the entries of the recency list looked at.
 #[derive(Clone, Copy)]
-pub struct CurveAnswer {
-    pub placed: PlaceAnswer,
+pub struct Curve {
+    pub length: usize,
     pub looked: u64,
 }
 
-impl CurveAnswer {
-    // No list, and why.
-    pub fn refused(why: Refusal) -> CurveAnswer
-        ensures { result ≡ no_curve why }
+impl Curve {
+    // No list, and no entry looked at: what stands beside a refusal.
+    pub fn zero() -> Curve
+        ensures { result ≡ no_curve }
     {
-        CurveAnswer {
-            placed: PlaceAnswer::refused(why),
+        Curve {
+            length: 0,
             looked: 0,
         }
     }

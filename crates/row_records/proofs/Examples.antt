@@ -6,7 +6,7 @@ use lib.ListN.{replicate}
 use Rattle.decimal.specs.Decimal.{all_digits, value_from, is_number}
 use Rattle.text.proofs.Strings.{bytes}
 use Rattle.model.specs.Figures.{misses, volume, load, optmem, opttotal, optocc, wsmem, wsocc, mean, kept, ref_cost, ref_volume, smaller}
-use Rattle.model.specs.Refusals.{verdict_number}
+use Rattle.model.specs.Refusals.{verdict_number, value_or_zero}
 use Rattle.model.specs.Rows.{row_figures}
 use Rattle.model.specs.Sheets.{listed}
 use Rattle.model.specs.Sums.{sum, tabulate}
@@ -65,7 +65,8 @@ after = refl
 
 -- the number, and how many records were written
 answered : List ℕ → ℕ → List ℕ
-answered s room = verdict_number (list_answer s (replicate room (old 5))).verdict ∷ (list_answer s (replicate room (old 5))).length ∷ []
+answered s room =
+    verdict_number (list_answer s (replicate room (old 5))) ∷ value_or_zero 0 (list_answer s (replicate room (old 5))) ∷ []
 
 answers : answered sheet 4 ++ answered sheet 2 ++ answered sheet 1 ++ answered bad 1 ≡ 0 ∷ 2 ∷ 0 ∷ 2 ∷ 11 ∷ 0 ∷ 3 ∷ 0 ∷ []
 unfolding bytes sheet bad row old answered list_answer sheet_answer same_bytes all_digits value_from is_number split_at after_key

@@ -1,84 +1,108 @@
--- The records held by value are those that the call is to write: how many they are, what is answered, and the list with them at its front.
-use Prim.Native.Nat.{ℕ, ◌≤◌}
-use mathlib.Core.Path.{◌≡◌, refl, sym, ap}
+-- The records that are found for a list of so many: how many they are, what is answered, and the list with them at its front.
+use Rattle.std.specs.Prelude.{Ok, Err}
+use Prim.Native.Nat.{ℕ, ◌≤◌, ◌<◌}
+use mathlib.Core.Path.{◌≡◌, refl, ap}
 use mathlib.Core.Bool.{Bool, true, false}
 use mathlib.Core.List.{List, ◌++◌}
 use native.Mathlib.Omega.{arith}
 use lib.Dec.{leb}
-use lib.ListN.{length, drop, get_or}
-use borrow.Author.Tests.{leb-true}
-use Rattle.model.specs.Rows.{zero_figures}
+use lib.ListN.{length, take, drop}
+use borrow.Author.Tests.{leb-true, leb-false, le-leb, lt-leb}
 use Rattle.model.specs.Sheets.{SheetValue, newest_form, most_rows}
+use Rattle.model.specs.declared.Refusal.{Refusal}
+use Rattle.model.specs.declared.Refusal.TheVariants.{PlaceTooShort}
 use Rattle.model.specs.declared.RowFigures.{RowFigures}
+use Rattle.std.proofs.lemmas.List.{length-take}
+use Rattle.model.specs.RowAnswers.{all_figures, figures_at}
+use Rattle.model.proofs.Tables.{length-tabulate}
+use Rattle.model.proofs.RowAnswers.{figures-front}
+use Rattle.sheet.specs.Accepting.{on_sheet}
 use Rattle.sheet.specs.Reading.{Outcome, accepted, rejected, read_sheet}
 use Rattle.sheet.proofs.Accepted.{accepted-valid}
-use Rattle.model.specs.RowAnswers.{figures_at}
-use Rattle.model.proofs.Tables.{tabulate-eq}
-use Rattle.sheet.specs.Accepting.{on_sheet}
-use Rattle.model.proofs.RowAnswers.{figures-at}
-use Rattle.row_records.specs.Listed.{sheet_answer, sheet_after, list_answer, list_after}
-use Rattle.row_records.specs.Held.{no_records, records_for, records_found}
+use Rattle.row_records.specs.Listed.{row_records, sheet_answer, sheet_after, list_answer, list_after}
+use Rattle.row_records.specs.Held.{records_for, records_found}
 use Rattle.row_records.specs.declared.Records.{Records}
-use Rattle.row_records.proofs.Fronts.{front, front-none}
 
--- the records are no more than the list has, and than the array has
-pub record Counted (r : Records) (list : List RowFigures) : Type 0 where
-  pub within : r.answer.length ≤ length list
-  pub most : r.answer.length ≤ most_rows
+-- r are the records of the sheet that the bytes s stand for, and no more than the list has, or the array
+pub record RecordsOf (s : List ℕ) (room : ℕ) (r : Records) : Type 0 where
+  pub sheet : SheetValue
+  pub read : read_sheet s ≡ accepted sheet
+  pub count_is : r.count ≡ length sheet.head.rows
+  pub within : r.count ≤ room
+  pub most : r.count ≤ most_rows
+  pub records_are : take r.count r.figures ≡ row_records sheet
 
--- the figures of row i among the records
-abbrev pub record_of : Records → ℕ → RowFigures
-record_of r i = get_or r.figures i zero_figures
+-- there are none for the refusal q: the sheet's, or the list is too short
+pub data NoRecords (s : List ℕ) (room : ℕ) : (q : Refusal) → Type 0 where
+  sheet_refused : {q : Refusal} → read_sheet s ≡ rejected q → NoRecords s room q
+  too_short : (v : SheetValue) → read_sheet s ≡ accepted v → room < length v.head.rows → NoRecords s room PlaceTooShort
 
--- the list with the records at its front
-abbrev pub written : Records → List RowFigures → List RowFigures
-written r list = front (record_of r) list r.answer.length
+module _ (s : List ℕ) (room : ℕ) (v : SheetValue) (e : read_sheet s ≡ accepted v) where
+  sheet-found : (r : Records) (b : Bool) → leb (length v.head.rows) room ≡ b → records_for v room ≡ Ok r → RecordsOf s room r
+  unfolding records_for
+  sheet-found r true t a =
+      let most = (accepted-valid 1 newest_form (omega arith) s v e).rows.rows_within in
+      let f = rw t at a in
+      let same : r ≡ record { count = length v.head.rows; figures = all_figures v } = cc in
+      rw same
+      (record {
+        sheet = v;
+        read = e;
+        count_is = refl;
+        within = leb-true _ _ t;
+        most = most;
+        records_are = figures-front v most;
+      })
+  sheet-found r false t a = let f = rw t at a in absurd cc
 
-module _ (v : SheetValue) (most : length v.head.rows ≤ most_rows) (list : List RowFigures) where
-  sheet-counted : (b : Bool) → leb (length v.head.rows) (length list) ≡ b → Counted (records_for v (length list)) list
-  unfolding records_for sheet_answer no_records
-  sheet-counted true e = rw e (record { within = leb-true _ _ e; most = most })
-  sheet-counted false e = rw e (record { within = omega arith; most = omega arith })
+  sheet-none : (q : Refusal) (b : Bool) → leb (length v.head.rows) room ≡ b → records_for v room ≡ Err q → NoRecords s room q
+  unfolding records_for
+  sheet-none q true t a = let f = rw t at a in absurd cc
+  sheet-none q false t a =
+      let f = rw t at a in
+      let same : q ≡ PlaceTooShort = cc in
+      rw same (too_short v e (leb-false _ _ t))
 
-  sheet-answer : (b : Bool) → leb (length v.head.rows) (length list) ≡ b → (records_for v (length list)).answer
-      ≡ sheet_answer v (length list)
-  unfolding records_for sheet_answer no_records
-  sheet-answer true e = rw e
-  sheet-answer false e = rw e
+module _ (s : List ℕ) (room : ℕ) where
+  pub found-ok : {r : Records} → records_found s room ≡ Ok r → RecordsOf s room r
+  unfolding records_found
+  found-ok {r} a = go (read_sheet s) refl a
+    where
+      go : (o : Outcome) → read_sheet s ≡ o → on_sheet o Err (λ v. records_for v room) ≡ Ok r → RecordsOf s room r
+      go (accepted v) e a = sheet-found s room v e r _ refl a
+      go (rejected q) e a = absurd cc
 
-  sheet-after : (b : Bool) → leb (length v.head.rows) (length list) ≡ b → written (records_for v (length list)) list ≡ sheet_after v list
-  unfolding records_for sheet_answer sheet_after no_records
-  sheet-after true e =
-      rw e (ap (λ t. t ++ drop (length v.head.rows) list)
-      (tabulate-eq (length v.head.rows) _ (figures_at v) (λ j lt. figures-at v j zero_figures lt most)))
-  sheet-after false e = rw e (sym (front-none _ list))
+  pub found-none : {q : Refusal} → records_found s room ≡ Err q → NoRecords s room q
+  unfolding records_found
+  found-none {q} a = go (read_sheet s) refl a
+    where
+      go : (o : Outcome) → read_sheet s ≡ o → on_sheet o Err (λ v. records_for v room) ≡ Err q → NoRecords s room q
+      go (accepted v) e a = sheet-none s room v e q _ refl a
+      go (rejected p) e a = let same : p ≡ q = cc in sheet_refused (rw same at e)
 
+-- the array has them all
+pub counted : {s : List ℕ} {room : ℕ} {r : Records} → RecordsOf s room r → r.count ≤ length r.figures
+counted {r = r} o =
+    omega (
+      arith,
+      o.count_is,
+      ap length o.records_are,
+      length-take r.count r.figures,
+      length-tabulate (length o.sheet.head.rows) (figures_at o.sheet),
+    )
+
+-- a list with the records at its front, and what is answered
 module _ (s : List ℕ) (list : List RowFigures) where
-  counted-on : (o : Outcome) → read_sheet s ≡ o → Counted (on_sheet o no_records (λ v. records_for v (length list))) list
-  unfolding no_records
-  counted-on (accepted v) e = sheet-counted v (accepted-valid 1 newest_form (omega arith) s v e).rows.rows_within list _ refl
-  counted-on (rejected q) e = record { within = omega arith; most = omega arith }
+  pub answered : {r : Records} → RecordsOf s (length list) r → Ok r.count ≡ list_answer s list
+  unfolding list_answer sheet_answer
+  answered {r} o = rw (o.read, le-leb (length o.sheet.head.rows) (length list) (omega (arith, o.within, o.count_is)), o.count_is) refl
 
-  pub found-counted : Counted (records_found s (length list)) list
-  unfolding records_found
-  found-counted = counted-on (read_sheet s) refl
+  pub written : {r : Records} → RecordsOf s (length list) r → take r.count r.figures ++ drop r.count list ≡ list_after s list
+  unfolding list_after sheet_after
+  written {r} o =
+      rw (o.read, le-leb (length o.sheet.head.rows) (length list) (omega (arith, o.within, o.count_is)), o.records_are, o.count_is) refl
 
-  answer-on : (o : Outcome) → read_sheet s ≡ o → (on_sheet o no_records (λ v. records_for v (length list))).answer ≡ list_answer s list
-  unfolding no_records list_answer
-  answer-on (accepted v) e = rw e (sheet-answer v (accepted-valid 1 newest_form (omega arith) s v e).rows.rows_within list _ refl)
-  answer-on (rejected q) e = rw e
-
-  -- what is answered
-  pub found-answer : (records_found s (length list)).answer ≡ list_answer s list
-  unfolding records_found
-  found-answer = answer-on (read_sheet s) refl
-
-  after_on : (o : Outcome) → read_sheet s ≡ o → written (on_sheet o no_records (λ v. records_for v (length list))) list ≡ list_after s list
-  unfolding no_records list_after
-  after_on (accepted v) e = rw e (sheet-after v (accepted-valid 1 newest_form (omega arith) s v e).rows.rows_within list _ refl)
-  after_on (rejected q) e = rw e (sym (front-none _ list))
-
-  -- the list afterwards
-  pub found_after : written (records_found s (length list)) list ≡ list_after s list
-  unfolding records_found
-  found_after = after_on (read_sheet s) refl
+  pub refused : {q : Refusal} → NoRecords s (length list) q → (Err q ≡ list_answer s list) × (list ≡ list_after s list)
+  unfolding list_answer sheet_answer list_after sheet_after
+  refused (sheet_refused e) = rw e (refl, refl)
+  refused (too_short v e lt) = rw (e, lt-leb (length v.head.rows) (length list) lt) (refl, refl)

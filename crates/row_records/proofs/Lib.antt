@@ -1,3 +1,2 @@
 pub mod Examples
 pub mod Found
-pub mod Fronts

@@ -1,24 +1,24 @@
--- Sizing by one pass over the rows: optmem never falls from a row to the next, so the rows within the ceiling come first.
-use Prim.Native.Nat.{ℕ, ◌+◌, ◌≤◌, ◌<◌}
-use mathlib.Core.Path.{◌≡◌, refl, ap, ◌∙◌}
-use mathlib.Core.Logic.{◌⊎◌, ⊎_elim}
-use mathlib.Core.Bool.{Bool, true, false}
+-- Sizing by one pass over the rows, which chooses as the definition does.
+use Rattle.std.specs.Prelude.{Option, None, Some}
+use Rattle.std.specs.Option.{ok_or}
+use Prim.Native.Nat.{ℕ, suc, ◌+◌, ◌<◌}
+use mathlib.Core.Path.{◌≡◌, refl, sym, ap, subst, ◌∙◌}
+use mathlib.Core.Bool.{Bool, true, false, cond, ◌&&◌}
 use mathlib.Core.List.{List}
+use mathlib.Core.Option.{Option as Maybe, none, some}
+use native.Mathlib.Numerals.{add-one}
 use native.Mathlib.Omega.{arith}
-use lib.Dec.{leb}
-use lib.ListN.{length, get_or}
-use borrow.Author.Tests.{leb-true, leb-false}
+use lib.Dec.{leb, ltb}
+use lib.ListN.{length, get_or, take}
+use lib.Seq.{get_or-take}
+use Rattle.std.proofs.lemmas.Option.{none-some, same_Some}
 use Rattle.model.specs.Rows.{row_figures, zero_figures}
 use Rattle.model.specs.Sheets.{SheetValue, Valid, row_optmem, row_load}
-use Rattle.model.specs.Sizing.{sized_row, Sized}
 use Rattle.model.specs.declared.Refusal.TheVariants.{NoRowFits}
 use Rattle.model.specs.declared.RowFigures.{RowFigures}
-use Rattle.model.specs.declared.Verdict.TheVariants.{Accepted}
-use Rattle.model.proofs.Ascent.{rows-optmem-rises}
-use Rattle.model.proofs.Sizing.{sized-chosen, none-chosen}
-use Rattle.model.proofs.Sums.{last-or-below}
+use Rattle.model.proofs.Sizing.{Choice, choice-is}
 use Rattle.model.specs.RowAnswers.{all_figures, figures_at}
-use Rattle.model.specs.Sizing.{no_size, sizing}
+use Rattle.model.specs.Sizing.{chosen, chosen_of, sizing}
 use Rattle.model.proofs.RowAnswers.{figures-at}
 
 -- optmem and load of a row among the figures of all rows
@@ -28,103 +28,73 @@ memory_at all q = (get_or all q zero_figures).optmem.0
 abbrev pub load_at : List RowFigures → ℕ → ℕ
 load_at all q = (get_or all q zero_figures).load.0
 
--- of so many rows, the first i are within the ceiling, and `row` is the lowest of them with the least load; 0 where there is none yet
-pub record RowsPassed (ceiling : ℕ) (all : List RowFigures) (rows row i : ℕ) : Type 0 where
-  pub in_rows : i ≤ rows
-  pub up_to : row ≤ i
-  pub before : 0 < i → row < i
-  pub within : (q : ℕ) → q < i → memory_at all q ≤ ceiling
-  pub least : (q : ℕ) → q < i → load_at all row ≤ load_at all q
-  pub lowest : (q : ℕ) → q < row → load_at all row < load_at all q
+-- a choice as the code has it
+abbrev pub given : Maybe ℕ → Option ℕ
+given none = None
+given (some r) = Some r
 
-module _ (ceiling : ℕ) (all : List RowFigures) (rows : ℕ) where
-  pub passed_none : RowsPassed ceiling all rows 0 0
-  passed_none =
-      record {
-        in_rows = omega arith;
-        up_to = omega arith;
-        before = λ lt. absurd (omega arith);
-        within = λ q lt. absurd (omega arith);
-        least = λ q lt. absurd (omega arith);
-        lowest = λ q lt. absurd (omega arith);
-      }
+-- what is answered for it
+pub answered : (o : Maybe ℕ) → ok_or (given o) NoRowFits ≡ sizing o
+answered none = refl
+answered (some r) = refl
 
-  module _ (row i : ℕ) (p : RowsPassed ceiling all rows row i) (more : i < rows) (fits : memory_at all i ≤ ceiling) where
-    within_more : (q : ℕ) → q < i + 1 → memory_at all q ≤ ceiling
-    within_more q lt = ⊎_elim (λ same. rw same fits) (λ below. p.within q below) (last-or-below i q (omega arith))
+pub given-some : (o : Maybe ℕ) (r : ℕ) → given o ≡ Some r → o ≡ some r
+given-some none r e = absurd (none-some r e)
+given-some (some q) r e = ap some (same_Some q r e)
 
-    -- a row whose load is no less is passed
-    passed_by : load_at all row ≤ load_at all i → RowsPassed ceiling all rows row (i + 1)
-    passed_by no_less =
-        record {
-          in_rows = omega arith;
-          up_to = omega (arith, p.up_to);
-          before = λ lt. omega (arith, p.up_to);
-          within = within_more;
-          least = λ q lt. ⊎_elim (λ same. rw same no_less) (λ below. p.least q below) (last-or-below i q (omega arith));
-          lowest = p.lowest;
-        }
+pub given-none : (o : Maybe ℕ) → given o ≡ None → o ≡ none
+given-none none e = refl
+given-none (some q) e = absurd (none-some q (sym e))
 
-    -- one of less load is taken
-    passed_to : load_at all i < load_at all row → RowsPassed ceiling all rows i (i + 1)
-    passed_to less =
-        record {
-          in_rows = omega arith;
-          up_to = omega arith;
-          before = λ lt. omega arith;
-          within = within_more;
-          least =
-              λ q lt. ⊎_elim (λ same. rw same (omega arith)) (λ below. omega (arith, p.least q below))
-              (last-or-below i q (omega arith));
-          lowest = λ q lt. omega (arith, p.least q lt);
-        }
+pub given-cond : (b : Bool) (n : ℕ) (o : Maybe ℕ) → given (cond b (some n) o) ≡ cond b (Some n) (given o)
+given-cond true n o = refl
+given-cond false n o = refl
 
-    -- row i is taken where its load is less
-    pub passed_row : (next : ℕ) → ((load_at all i < load_at all row) × (next ≡ i)) ⊎ ((load_at all row ≤ load_at all i) × (next ≡ row))
-        → RowsPassed ceiling all rows next (i + 1)
-    passed_row next = ⊎_elim (λ w. rw w.1 (passed_to w.0)) (λ w. rw w.1 (passed_by w.0))
+module _ (v : SheetValue) (c : Valid v) (ceiling : ℕ) (rows : List RowFigures)
+    (e : rows ≡ take (length v.head.rows) (all_figures v)) where
+  row_of : (q : ℕ) → q < length v.head.rows → get_or rows q zero_figures ≡ figures_at v q
+  row_of q lt =
+      ap (λ fs. get_or fs q zero_figures) e
+      ∙ get_or-take (length v.head.rows) (all_figures v) q zero_figures lt
+      ∙ figures-at v q zero_figures lt c.rows.rows_within
 
-module _ (v : SheetValue) (c : Valid v) (ceiling : ℕ) (all : List RowFigures) (e : all ≡ all_figures v) where
-  row_of : (q : ℕ) → q < length v.head.rows → get_or all q zero_figures ≡ figures_at v q
-  row_of q lt = ap (λ fs. get_or fs q zero_figures) e ∙ figures-at v q zero_figures lt c.rows.rows_within
-
-  memory-of : (q : ℕ) → q < length v.head.rows → memory_at all q ≡ row_optmem v q
+  memory-of : (q : ℕ) → q < length v.head.rows → memory_at rows q ≡ row_optmem v q
   unfolding row_figures
   memory-of q lt = ap (λ f. f.optmem.0) (row_of q lt)
 
-  load_of : (q : ℕ) → q < length v.head.rows → load_at all q ≡ row_load v q
+  load_of : (q : ℕ) → q < length v.head.rows → load_at rows q ≡ row_load v q
   unfolding row_figures
   load_of q lt = ap (λ f. f.load.0) (row_of q lt)
 
-  -- the pass ends at the rows' end or at a row beyond the ceiling
-  module _ (row i : ℕ) (p : RowsPassed ceiling all (length v.head.rows) row i)
-      (end : i < length v.head.rows → ceiling < memory_at all i) where
-    -- then every row from i on is beyond it
-    later_beyond : (q : ℕ) → i ≤ q → q < length v.head.rows → ceiling < row_optmem v q
-    later_beyond q from lt =
-        omega (arith, end (omega arith), memory-of i (omega arith), rows-optmem-rises v c i q from lt)
+  -- whether the load of row n is less than that of the row chosen before, or none was
+  abbrev pub less_load : ℕ → Maybe ℕ → Bool
+  less_load n none = true
+  less_load n (some r) = ltb (load_at rows n) (load_at rows r)
 
-    row_sized : 0 < i → Sized v ceiling (length v.head.rows) row
-    row_sized found =
-        let lt = p.before found in
-        record {
-          is_row = omega arith;
-          within = omega (arith, memory-of row (omega arith), p.within row lt);
-          least = λ q below fit. go q below fit (leb i q) refl;
-          lowest =
-              λ q below fit. omega (arith, load_of row (omega (arith, lt)), load_of q (omega (arith, lt)), p.lowest q below);
-        }
-      where
-        go : (q : ℕ) → q < length v.head.rows → row_optmem v q ≤ ceiling → (b : Bool) → leb i q ≡ b → row_load v row ≤ row_load v q
-        go q below fit true b = absurd (omega (arith, later_beyond q (leb-true i q b) below))
-        go q below fit false b =
-            let less = leb-false i q b in
-            omega (arith, load_of row (omega (arith, p.before (omega arith))), load_of q below, p.least q less)
+  -- what is chosen after row n
+  pub chosen-next : (n : ℕ) → n < length v.head.rows
+      → chosen_of v ceiling (suc n)
+      ≡ cond (leb (memory_at rows n) ceiling && less_load n (chosen_of v ceiling n)) (some n) (chosen_of v ceiling n)
+  unfolding chosen_of
+  chosen-next n lt = rw (memory-of n lt) (go (chosen_of v ceiling n) (choice-is v ceiling n))
+    where
+      go : (o : Maybe ℕ) → Choice v ceiling n o
+          → chosen v ceiling n o ≡ cond (leb (row_optmem v n) ceiling && less_load n o) (some n) o
+      go none z = alone (leb (row_optmem v n) ceiling)
+        where
+          alone : (b : Bool) → cond b (some n) none ≡ cond (b && true) (some n) none
+          alone true = refl
+          alone false = refl
+      go (some r) z = rw (load_of n lt, load_of r (omega (arith, z.is_row))) refl
 
-    -- the answer: the row, or 12 where the pass ended at once
-    pub sized_answer : 0 < i → record { verdict = Accepted; row = row } ≡ sizing (sized_row v ceiling)
-    sized_answer found = rw (sized-chosen v ceiling (length v.head.rows) row (row_sized found))
+  -- as the code goes on
+  pub chosen-step : (n : ℕ) → n < length v.head.rows → (before now : Option ℕ) (less : Bool) → before ≡ given (chosen_of v ceiling n)
+      → less ≡ less_load n (chosen_of v ceiling n) → now ≡ cond (leb (memory_at rows n) ceiling && less) (Some n) before
+      → now ≡ given (chosen_of v ceiling (n + 1))
+  chosen-step n lt before now less chose is goes =
+      rw (goes, chose, is, add-one n, chosen-next n lt)
+      (sym (given-cond (leb (memory_at rows n) ceiling && less_load n (chosen_of v ceiling n)) n (chosen_of v ceiling n)))
 
-    pub none_answer : i ≡ 0 → no_size NoRowFits ≡ sizing (sized_row v ceiling)
-    none_answer none_yet =
-        rw (none-chosen v ceiling (length v.head.rows) (λ q lt. later_beyond q (omega arith) lt))
+  -- the row chosen is one of those before
+  pub chosen-below : (n r : ℕ) → chosen_of v ceiling n ≡ some r → r < n
+  chosen-below n r is = (subst (Choice v ceiling n) is (choice-is v ceiling n)).is_row

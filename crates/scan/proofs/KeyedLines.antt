@@ -11,14 +11,14 @@ use borrow.Table.Steps.{cases}
 use lib.Dec.{eqb, leb}
 use lib.ListN.{length, take, drop, length-take, length-drop}
 use lib.Seq.{drop-drop}
+use Rattle.std.specs.Prelude.{Result, Ok, Err}
+use Rattle.model.specs.declared.Refusal.{Refusal}
 use Rattle.model.specs.declared.Refusal.TheVariants.{LineMalformed}
 use Rattle.text.specs.Keys.{line_feed}
 use Rattle.sheet.specs.Lines.{Parsed, refused, and_then, Split, parts, none, and_before, split_at, same_bytes, after_key, of_line}
 use Rattle.sheet.specs.Lines.{value_line}
 use Rattle.scan.specs.inner.AtPlace.{split_at_place, parsed_value, ValueWithin}
-use Rattle.scan.specs.declared.numbers.ValueAt.{ValueAt}
-use Rattle.scan.specs.declared.numbers.ValueAt.TheVariants.{Value, Missing}
-use Rattle.scan.proofs.Splits.{same-lengths, place-within, place-beyond}
+use Rattle.scan.proofs.Splits.{same-lengths, place-within}
 use Rattle.scan.proofs.Tails.{tail, tail-is}
 
 -- bytes without c: the first is another, and the rest is without c
@@ -76,35 +76,33 @@ module _ (key s : List ℕ) (n : split_at line_feed key ≡ none) where
   pub no_key : same_bytes (take (length key) s) key ≡ false → value_line key s ≡ refused LineMalformed
   no_key e = keyed key s n ∙ rw e
 
-  module _ (k : ℕ) (e : same_bytes (take (length key) s) key ≡ true)
-      (f : split_at line_feed (tail s (length key)) ≡ split_at_place (tail s (length key)) k) where
+  module _ (e : same_bytes (take (length key) s) key ≡ true) where
     -- without a line feed behind its key neither
-    pub no-feed : length s ≤ length key + k → value_line key s ≡ refused LineMalformed
+    pub no-feed : split_at line_feed (tail s (length key)) ≡ none → value_line key s ≡ refused LineMalformed
     unfolding value_line
-    no-feed h =
-        let f' : split_at line_feed (drop (length key) s) ≡ split_at_place (drop (length key) s) k = rw tail-is at f in
-        let g : length (drop (length key) s) ≤ k = omega (arith, length-drop (length key) s) in
-        keyed key s n ∙ rw (e, f', place-beyond (drop (length key) s) k g)
+    no-feed f = let f' : split_at line_feed (drop (length key) s) ≡ none = rw tail-is at f in keyed key s n ∙ rw (e, f')
 
     -- else the value stands between the two
-    pub between : length key + k < length s → value_line key s ≡ parsed_value s (Value (length key) (length key + k))
+    pub between : (k : ℕ) → split_at line_feed (tail s (length key)) ≡ split_at_place (tail s (length key)) k → length key + k < length s
+        → value_line key s ≡ parsed_value s (Ok (length key, length key + k))
     unfolding value_line after_key
-    between h =
+    between k f h =
         let f' : split_at line_feed (drop (length key) s) ≡ split_at_place (drop (length key) s) k = rw tail-is at f in
         let g : k < length (drop (length key) s) = omega (arith, length-drop (length key) s) in
         let d : length key + k - length key ≡ k = omega arith in
         keyed key s n ∙ rw (e, f', place-within (drop (length key) s) k g, drop-drop (suc k) (length key) s, add-suc, d)
 
--- what a reader of a line goes on with, where the code found no value, and where it found one
-module _ (key s : List ℕ) (r : ValueAt) (e : parsed_value s r ≡ value_line key s) {B : Type 0} (f : List ℕ → List ℕ → Parsed B) where
-  pub line-missing : r ≡ Missing → and_then (value_line key s) f ≡ refused LineMalformed
-  line-missing m = ap (λ p. and_then p f) (sym e ∙ ap (parsed_value s) m)
+-- what a reader of a line goes on with, where the code refused its value, and where it found one
+module _ (key s : List ℕ) (r : Result (ℕ × ℕ) Refusal) (e : parsed_value s r ≡ value_line key s) {B : Type 0}
+    (f : List ℕ → List ℕ → Parsed B) where
+  pub line-missing : (why : Refusal) → r ≡ Err why → and_then (value_line key s) f ≡ refused why
+  line-missing why m = ap (λ p. and_then p f) (sym e ∙ ap (parsed_value s) m)
 
-  pub line-value : (start end : ℕ) → r ≡ Value start end
+  pub line-value : (start end : ℕ) → r ≡ Ok (start, end)
       → and_then (value_line key s) f ≡ f (take (end - start) (drop start s)) (drop (end + 1) s)
   line-value start end m = rw add-one (ap (λ p. and_then p f) (sym e ∙ ap (parsed_value s) m))
 
 -- the places of a value that was found lie within the bytes
-pub value-within : (s : List ℕ) (r : ValueAt) (start end : ℕ) → ValueWithin s r → r ≡ Value start end
+pub value-within : (s : List ℕ) (r : Result (ℕ × ℕ) Refusal) (start end : ℕ) → ValueWithin s r → r ≡ Ok (start, end)
     → (start ≤ end) × (end < length s)
 value-within s r start end w m = subst (ValueWithin s) m w

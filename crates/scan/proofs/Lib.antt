@@ -1,8 +1,8 @@
 pub mod Blanks
 pub mod KeyedLines
 pub mod LinesPassed
+pub mod LinesRead
 pub mod NumberLines
-pub mod NumbersRead
 pub mod ShortLines
 pub mod Splits
 pub mod Stages

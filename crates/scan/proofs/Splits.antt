@@ -1,18 +1,19 @@
 -- Laws of splitting bytes at the first byte c, and of comparing two runs of bytes.
 use Prim.Native.Nat.{ℕ, zero, suc, ◌+◌, ◌≤◌, ◌<◌}
 use mathlib.Core.Path.{◌≡◌, refl, sym, ap, ◌∙◌}
-use mathlib.Core.Bool.{true, false, cond}
+use mathlib.Core.Bool.{false, cond}
 use mathlib.Core.List.{List, [], ◌∷◌}
 use native.Mathlib.Nat.{le_of_suc-le-suc}
-use native.Mathlib.Numerals.{add-one}
 use native.Mathlib.Omega.{arith}
-use borrow.Author.Tests.{lt-ltb, le-ltb, ltb-true, ltb-false, eq-eqb, ne_eqb}
+use borrow.Author.Tests.{lt-ltb, le-ltb, ltb-true, ltb-false, eq-eqb, ne_eqb, eqb-true, eqb-false}
 use borrow.Table.Steps.{cases}
 use lib.Dec.{ltb, eqb}
-use lib.ListN.{length, get_or, take, drop, drop_of_length-le}
-use lib.Seq.{drop-cons}
+use lib.ListN.{length, get_or, take, drop}
+use Rattle.std.specs.List.{position_or_len}
+use Rattle.std.specs.Prelude.{Option, Some, None}
+use Rattle.std.specs.Cmp.Lexicographic.{pointwise}
 use Rattle.sheet.specs.Lines.{parts, none, and_before, split_at, same_bytes}
-use Rattle.scan.specs.inner.AtPlace.{split_at_place, Compared}
+use Rattle.scan.specs.inner.AtPlace.{split_at_place, FoundAt}
 
 -- a place within the bytes splits them, and any other does not
 pub place-within : (s : List ℕ) (k : ℕ) → k < length s → split_at_place s k ≡ parts (take k s) (drop (suc k) s)
@@ -48,31 +49,48 @@ same-lengths [] (y ∷ t) n = refl
 same-lengths (x ∷ s) [] n = refl
 same-lengths (x ∷ s) (y ∷ t) n = cases (eqb x y) (λ e. rw e (same-lengths s t (λ l. n (ap suc l)))) (λ e. rw e)
 
--- the bytes at i decide, or what follows them
-left-same : (s t : List ℕ) (i : ℕ) → i < length s → i < length t
-    → same_bytes (drop i s) (drop i t) ≡ cond (eqb (get_or s i 0) (get_or t i 0)) (same_bytes (drop (suc i) s) (drop (suc i) t)) false
+-- `==` of the bytes, one by one, is the same
+pub same-is : (s t : List ℕ) → pointwise eqb s t ≡ same_bytes s t
 unfolding same_bytes
-left-same s t i h k = rw (drop-cons s i 0 h, drop-cons t i 0 k)
+same-is [] [] = refl
+same-is [] (y ∷ t) = refl
+same-is (x ∷ s) [] = refl
+same-is (x ∷ s) (y ∷ t) = cases (eqb x y) (λ e. rw e (same-is s t)) (λ e. rw e)
 
-module _ (s t : List ℕ) where
-  pub compare-start : length s ≡ length t → Compared s t 0
-  compare-start e = record { place = omega arith; lengths = e; same = refl }
+-- so is that of the bytes exchanged
+eqb-swap : (x y : ℕ) → eqb y x ≡ eqb x y
+eqb-swap x y =
+    cases (eqb x y) (λ e. eq-eqb y x (sym (eqb-true x y e)) ∙ sym e) (λ e. ne_eqb y x (λ h. eqb-false x y e (sym h)) ∙ sym e)
 
-  module _ (i : ℕ) (c : Compared s t i) where
-    pub compare-step : i < length s → get_or s i 0 ≡ get_or t i 0 → Compared s t (i + 1)
-    compare-step h e =
-        record {
-          place = omega arith;
-          lengths = c.lengths;
-          same = rw add-one (rw (left-same s t i h (omega (arith, c.lengths)), eq-eqb (get_or s i 0) (get_or t i 0) e) at c.same);
-        }
+pub same-swap : (s t : List ℕ) → pointwise eqb t s ≡ same_bytes s t
+unfolding same_bytes
+same-swap [] [] = refl
+same-swap [] (y ∷ t) = refl
+same-swap (x ∷ s) [] = refl
+same-swap (x ∷ s) (y ∷ t) = rw (eqb-swap x y) (cases (eqb x y) (λ e. rw e (same-swap s t)) (λ e. rw e))
 
-    pub compare-stop : i < length s → (get_or s i 0 ≡ get_or t i 0 → ⊥) → same_bytes s t ≡ false
-    compare-stop h n =
-        sym c.same ∙ (left-same s t i h (omega (arith, c.lengths)) ∙ rw (ne_eqb (get_or s i 0) (get_or t i 0) n))
+-- the place of the first byte c, or the length
+record FirstPlace (c : ℕ) (s : List ℕ) (place : ℕ) : Type 0 where
+  within : place ≤ length s
+  split : split_at c s ≡ split_at_place s place
 
-    pub compare-end : length s ≤ i → same_bytes s t ≡ true
-    unfolding same_bytes
-    compare-end h =
-        let k : length t ≤ i = omega (arith, c.lengths) in
-        sym c.same ∙ rw (drop_of_length-le s h, drop_of_length-le t k)
+place-found : (c : ℕ) (s : List ℕ) → FirstPlace c s (position_or_len (λ b. eqb b c) s)
+unfolding split_at
+place-found c [] = record { within = omega arith; split = refl }
+place-found c (b ∷ s) =
+    let f = place-found c s in
+    cases (eqb b c) (λ e. rw e (record { within = omega arith; split = rw (e, lt-ltb 0 (suc (length s)) (omega arith)) }))
+    (λ e. rw e (record { within = omega (arith, f.within); split = rw e (ap (and_before b) f.split ∙ (place-suc b s _ ∙ ap (split_at_place (b ∷ s)) (one-more _))) }))
+  where
+    one-more : (n : ℕ) → suc n ≡ 1 + n
+    one-more n = omega arith
+
+-- as a search gives it
+pub place-if-any : (c : ℕ) (s : List ℕ) (r : Option ℕ)
+    → r ≡ cond (ltb (position_or_len (λ b. eqb b c) s) (length s)) (Some (position_or_len (λ b. eqb b c) s)) None → FoundAt c s r
+place-if-any c s r e =
+    let f = place-found c s in
+    let k = position_or_len (λ b. eqb b c) s in
+    rw e
+    (cases (ltb k (length s)) (λ t. rw t (record { within = ltb-true k (length s) t; split = f.split }))
+    (λ t. rw t (record { within = tt; split = f.split ∙ place-beyond s k (ltb-false k (length s) t) })))

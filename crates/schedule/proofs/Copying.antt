@@ -7,7 +7,7 @@ use native.Mathlib.Omega.{arith}
 use native.Mathlib.Nat.{add-zero, zero-add}
 use native.Mathlib.Numerals.{add-one}
 use lib.ListN.{length, get_or, set, drop_of_length-le}
-use lib.Seq.{paste, paste-zero, paste-suc, length-paste, drop-paste, get_or-drop, take_all}
+use lib.Seq.{paste, paste-suc, drop-paste, get_or-drop, take_all}
 use Rattle.schedule.specs.inner.Writing.{mask_table, masked, step_with}
 use Rattle.schedule.proofs.Masks.{mask_table-at}
 use Rattle.schedule.proofs.StepBytes.{length-step_with, step_with-at}
@@ -37,19 +37,6 @@ pub record Copied (step d : List ℕ) (i on at : ℕ) (next out : List ℕ) (j :
   pub out_is : out ≡ paste d at (step_with step i 255) j
 
 module _ (step d : List ℕ) (i on at : ℕ) (whole : length step ≡ 32) (room : at + 32 ≤ length d) where
-  pub copied_start : Copied step d i on at step d 0
-  copied_start =
-      record {
-        few = omega arith;
-        next_is = paste-zero step 0 (step_with step i on);
-        out_is = paste-zero d at (step_with step i 255);
-      }
-
-  pub copied_length : (next out : List ℕ) (j : ℕ) → Copied step d i on at next out j → length out ≡ length d
-  copied_length next out j v =
-      ap length v.out_is
-      ∙ length-paste d at (step_with step i 255) j (omega arith) (omega (arith, length-step_with step i 255))
-
   -- the byte that a turn stores, of the step with segment i as b tells
   turn_byte : (masks next out : List ℕ) (b j : ℕ) → masks ≡ mask_table → i ≤ 256 → Copied step d i on at next out j → j < 32
       → masked (get_or next j 0) (get_or masks (32 * i + j) 0) b ≡ get_or (step_with step i b) j 0

@@ -6,15 +6,15 @@ use mathlib.Core.Bool.{Bool, true, false, cond, ◌||◌}
 use mathlib.Core.List.{List, ◌++◌, append_assoc}
 use native.Mathlib.Omega.{arith}
 use lib.Dec.{eqb}
-use lib.ListN.{length, get_or, take, drop, length-append, length-drop, length-replicate, take-append-drop, get_or-append}
+use lib.ListN.{length, get_or, take, drop, length-append, length-drop, replicate, length-replicate, take-append-drop, get_or-append}
 use lib.Seq.{paste, ext_get_or, take_all, take-take, take-append-le, drop_at, drop-drop, length-take-le, length-paste, get_or-take}
 use lib.Seq.{get_or-drop}
 use Rattle.model.specs.Traces.{Trace, segs, steps}
 use Rattle.model.specs.Decisions.{held_byte, held_bytes, decided_held, decided_schedule, decisions_of}
 use Rattle.model.proofs.Tables.{get_or-tabulate}
 use Rattle.model.proofs.Decisions.{length-held_bytes, next as next_at, next-step, next-end}
-use Rattle.schedule.specs.inner.Segments.{segment_of}
-use Rattle.schedule.specs.inner.Writing.{no_segments, step_with}
+use Rattle.schedule.specs.inner.Segments.{mask_row}
+use Rattle.schedule.specs.inner.Writing.{step_with}
 use Rattle.schedule.proofs.Segments.{touched-ref}
 use Rattle.schedule.proofs.StepBytes.{bytes_of, bytes_of-eq, bytes_of-none, length-bytes_of}
 use Rattle.schedule.proofs.StepBytes.{bytes_of-at, change, step_with-bytes_of, length-step_with}
@@ -71,7 +71,7 @@ module _ (T : Trace) (decisions : List Bool) where
 
   -- the segment of the step at place t
   abbrev at : ℕ → ℕ
-  at t = segment_of (segs T) (get_or T.entries t 0)
+  at t = mask_row (segs T) (get_or T.entries t 0)
 
   -- a step holds the touched segment, if it has one, and each other that waits
   held-step : (t : ℕ) → t < steps T → step_with (bytes_of (waiting (suc t))) (at t) 255 ≡ bytes_of (holding t)
@@ -111,7 +111,7 @@ module _ (T : Trace) (decisions : List Bool) (old : List ℕ) (room : 32 * steps
   abbrev filled : List ℕ
   filled = decided_schedule T (decisions_of decisions) ++ drop (32 * steps T) old
 
-  pub filled_start : Filled T decisions old no_segments old (steps T)
+  pub filled_start : Filled T decisions old (replicate 32 0) old (steps T)
   filled_start =
       record {
         next_is = sym (bytes_of-none (waiting T decisions (steps T)) (λ i l. next-end T (decisions_of decisions) i));
@@ -122,7 +122,7 @@ module _ (T : Trace) (decisions : List Bool) (old : List ℕ) (room : 32 * steps
 
   -- a turn: it writes the step at place t - 1, whose segment is i, and `on` tells its decision
   pub filled_turn : (next out next' out' : List ℕ) (t i on : ℕ) → Filled T decisions old next out t → 0 < t → t ≤ steps T
-      → i ≡ segment_of (segs T) (get_or T.entries (t - 1) 0) → on ≡ cond (get_or decisions (t - 1) false) 255 0
+      → i ≡ mask_row (segs T) (get_or T.entries (t - 1) 0) → on ≡ cond (get_or decisions (t - 1) false) 255 0
       → next' ≡ step_with next i on → out' ≡ paste out (32 * (t - 1)) (step_with next i 255) 32 → Filled T decisions old next' out' (t - 1)
   filled_turn next out next' out' t i on v some le ei eo en ep =
       let k = t - 1 in
@@ -149,8 +149,7 @@ pub record Filling (segments : ℕ) (refs : List ℕ) (decisions : List Bool) (o
   pub filled_of : (T : Trace) → segs T ≡ segments → T.entries ≡ refs → Filled T decisions old next out t
 
 module _ (segments : ℕ) (refs : List ℕ) (decisions : List Bool) (old : List ℕ) (room : 32 * length refs ≤ length old) where
-  pub filling_start : Filling segments refs decisions old no_segments old (length refs)
-  unfolding no_segments
+  pub filling_start : Filling segments refs decisions old (replicate 32 0) old (length refs)
   filling_start =
       record {
         within = omega arith;
@@ -162,7 +161,7 @@ module _ (segments : ℕ) (refs : List ℕ) (decisions : List Bool) (old : List 
       }
 
   pub filling_turn : (next out next' out' : List ℕ) (t i on : ℕ) → Filling segments refs decisions old next out t → 0 < t
-      → i ≡ segment_of segments (get_or refs (t - 1) 0) → on ≡ cond (get_or decisions (t - 1) false) 255 0
+      → i ≡ mask_row segments (get_or refs (t - 1) 0) → on ≡ cond (get_or decisions (t - 1) false) 255 0
       → next' ≡ step_with next i on → out' ≡ paste out (32 * (t - 1)) (step_with next i 255) 32
       → Filling segments refs decisions old next' out' (t - 1)
   filling_turn next out next' out' t i on v some ei eo en ep =
@@ -177,13 +176,6 @@ module _ (segments : ℕ) (refs : List ℕ) (decisions : List Bool) (old : List 
         filled_of = λ T es er.
             let n : length T.entries ≡ length refs = ap length er in
             filled_turn T decisions old (omega arith) next out next' out' t i on (v.filled_of T es er) some (omega (arith, v.within))
-            (ei ∙ sym (ap (λ (m : ℕ). segment_of m (get_or T.entries (t - 1) 0)) es
-            ∙ ap (λ (l : List ℕ). segment_of segments (get_or l (t - 1) 0)) er)) eo en ep;
+            (ei ∙ sym (ap (λ (m : ℕ). mask_row m (get_or T.entries (t - 1) 0)) es
+            ∙ ap (λ (l : List ℕ). mask_row segments (get_or l (t - 1) 0)) er)) eo en ep;
       }
-
-  pub filling_end : (next out : List ℕ) (t : ℕ) → t ≡ 0 → Filling segments refs decisions old next out t
-      → (T : Trace) → segs T ≡ segments → T.entries ≡ refs → out ≡ decided_schedule T (decisions_of decisions) ++ drop (32 * length refs)
-      old
-  filling_end next out t e v T es er =
-      let n : length T.entries ≡ length refs = ap length er in
-      rw (n, e) at (v.filled_of T es er).out_is

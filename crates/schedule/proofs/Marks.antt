@@ -6,7 +6,7 @@ use mathlib.Core.List.{List}
 use mathlib.Core.Option.{none, some}
 use native.Mathlib.Omega.{arith}
 use native.Mathlib.Numerals.{add-one}
-use lib.ListN.{length, get_or, take, set, length-set, length-replicate}
+use lib.ListN.{length, get_or, take, set, length-set, replicate, length-replicate}
 use lib.Seq.{get_or-take, get_or-set_same, get_or-set_other}
 use borrow.Author.Count.{below_more}
 use lib.Dec.{leb}
@@ -20,7 +20,7 @@ use Rattle.model.specs.LastTouches.{last_table}
 use Rattle.model.proofs.Touches.{entry-ref}
 use Rattle.model.proofs.LastTouches.{last_table-step, last_table-idle, last-time}
 use Rattle.model.proofs.Optimal.{decisions-optimal}
-use Rattle.schedule.specs.inner.Writing.{no_marks, kept_by, KeptMarks}
+use Rattle.schedule.specs.inner.Writing.{kept_by, KeptMarks}
 
 -- the mark in the table tells whether a touch is kept
 pub kept-mark : (T : Trace) (row : PriceRow) (t i : ℕ) → i < 256 → t < 65535
@@ -49,8 +49,7 @@ pub record Marked (T : Trace) (row : PriceRow) (marks : List Bool) (last : List 
 
 -- from any start, and with steps that touch nothing
 module _ (T : Trace) (row : PriceRow) (few : segs T ≤ 256) (short : steps T ≤ 2048) where
-  pub marked_start : (last : List ℕ) → last ≡ last_table T 0 → Marked T row no_marks last 0
-  unfolding no_marks
+  pub marked_start : (last : List ℕ) → last ≡ last_table T 0 → Marked T row (replicate 2048 false) last 0
   marked_start last e =
       record {
         within = omega arith;

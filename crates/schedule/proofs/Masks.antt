@@ -5,12 +5,12 @@ use mathlib.Core.Bool.{Bool, true, false, cond}
 use mathlib.Core.List.{List}
 use native.Mathlib.Omega.{arith}
 use lib.Dec.{eqb, ltb}
-use lib.ListN.{length, get_or, set, length-replicate, get_or-replicate}
+use lib.ListN.{length, get_or, set, replicate, length-replicate, get_or-replicate}
 use lib.Seq.{ext_get_or}
 use borrow.Author.Tests.{eqb-true, eqb-false, eq-eqb, ne_eqb, lt-ltb, le-ltb, ltb-true, ltb-false}
 use Rattle.model.specs.Sums.{tabulate}
 use Rattle.model.proofs.Tables.{length-tabulate, get_or-tabulate, tabulate-eq, tabulate-set}
-use Rattle.schedule.specs.inner.Writing.{no_masks, mask_byte, mask_table}
+use Rattle.schedule.specs.inner.Writing.{mask_byte, mask_table}
 
 -- what the table of masks holds
 pub mask_table-at : (i j : ℕ) → i ≤ 256 → j < 32 → get_or mask_table (32 * i + j) 0 ≡ mask_byte i j
@@ -28,10 +28,10 @@ pub length-masks_below : (i : ℕ) → length (masks_below i) ≡ 8224
 unfolding masks_below
 length-masks_below i = length-tabulate 8224 (λ n. cond (ltb (n / 32) i) (mask_byte (n / 32) (n % 32)) 0)
 
-pub masks_below-start : masks_below 0 ≡ no_masks
-unfolding masks_below no_masks
+pub masks_below-start : masks_below 0 ≡ replicate 8224 0
+unfolding masks_below
 masks_below-start =
-    ext_get_or 0 (masks_below 0) no_masks (length-masks_below 0 ∙ sym (length-replicate {A = ℕ} 8224 0))
+    ext_get_or 0 (masks_below 0) (replicate 8224 0) (length-masks_below 0 ∙ sym (length-replicate {A = ℕ} 8224 0))
     (λ n lt. let inside : n < 8224 = omega (arith, length-masks_below 0) in
     get_or-tabulate 8224 (λ n. cond (ltb (n / 32) 0) (mask_byte (n / 32) (n % 32)) 0) n 0 inside
     ∙ rw (le-ltb (n / 32) 0 (omega arith)) (sym (get_or-replicate {A = ℕ} 8224 n 0 0 inside)))

@@ -4,7 +4,7 @@ use mathlib.Core.Path.{◌≡◌, refl, sym, ap, ◌∙◌}
 use mathlib.Core.Bool.{Bool, true, cond}
 use mathlib.Core.List.{List, []}
 use native.Mathlib.Omega.{arith}
-use lib.ListN.{length, get_or, set, take}
+use lib.ListN.{length, get_or, set, take, replicate}
 use lib.Dec.{eqb}
 use lib.Seq.{take-suc}
 use borrow.Author.Tests.{eq-eqb, ne_eqb}
@@ -15,16 +15,13 @@ use Rattle.model.proofs.LastTouches.{listed-none, listed_more}
 use Rattle.model.proofs.Sums.{sum-eq}
 use Rattle.model.proofs.Tables.{tabulate-set}
 use Rattle.schedule.specs.inner.Starting.{start_mask}
-use Rattle.schedule.specs.inner.Writing.{no_segments, mask_byte, masked}
-use Rattle.schedule.proofs.StepBytes.{bytes_of, bytes_of-at, bytes_of-eq, bytes_of-none, change, length-bytes_of, masked-byte}
+use Rattle.schedule.specs.inner.Writing.{mask_byte, masked}
+use Rattle.schedule.proofs.StepBytes.{bytes_of, bytes_of-at, bytes_of-eq, bytes_of-none, change, masked-byte}
 
 -- they are the bytes of a step
 mask-bytes : (warm : List ℕ) → start_mask warm ≡ bytes_of (listed warm)
 unfolding start_mask bytes_of
 mask-bytes warm = refl
-
-pub length-start_mask : (warm : List ℕ) → length (start_mask warm) ≡ 32
-length-start_mask warm = ap length (mask-bytes warm) ∙ length-bytes_of (listed warm)
 
 -- bit i tells whether segment i is warm
 pub start_mask-bit : (warm : List ℕ) (i : ℕ) → i < 256 → bit (get_or (start_mask warm) (i / 8) 0) (i % 8) ≡ listed warm i
@@ -34,7 +31,7 @@ start_mask-bit warm i lt =
     ∙ rw (bytes_of-at (listed warm) (i / 8) (omega arith))
     (bit-of_bits 8 (λ k. listed warm (8 * (i / 8) + k)) (i % 8) (omega arith) ∙ ap (listed warm) place)
 
-pub start_mask-none : no_segments ≡ start_mask []
+pub start_mask-none : replicate 32 0 ≡ start_mask []
 start_mask-none = sym (mask-bytes [] ∙ bytes_of-none (listed []) (λ i l. listed-none i))
 
 -- one segment more is held: one byte changes

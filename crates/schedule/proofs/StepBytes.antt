@@ -8,7 +8,7 @@ use native.Mathlib.Omega.{arith}
 use native.Mathlib.Nat.{pow-suc}
 use lib.Bits.{bit_and, and_mask, and_high, and_zero_l, and_zero_r}
 use lib.Dec.{eqb}
-use lib.ListN.{length, get_or}
+use lib.ListN.{length, get_or, replicate}
 use lib.Pow.{pow-lt}
 use borrow.Author.Tests.{eqb-true, eqb-false, eq-eqb, ne_eqb}
 use Rattle.model.specs.Sums.{sum, tabulate}
@@ -16,7 +16,7 @@ use Rattle.model.specs.Schedules.{bit}
 use Rattle.model.proofs.Sums.{sum-eq, term-le, last-or-below}
 use Rattle.model.proofs.Tables.{length-tabulate, get_or-tabulate, tabulate-eq}
 use Rattle.model.proofs.Bits.{of_bits, bit-of_bits}
-use Rattle.schedule.specs.inner.Writing.{no_segments, mask_byte, masked, step_with}
+use Rattle.schedule.specs.inner.Writing.{mask_byte, masked, step_with}
 
 -- sums whose terms differ at k only differ by these two terms
 sum-change : (n k : ℕ) (f g : ℕ → ℕ) → k < n → ((j : ℕ) → j < n → (j ≡ k → ⊥) → f j ≡ g j) → sum n f + g k ≡ sum n g + f k
@@ -122,8 +122,8 @@ bytes_of-eq f g same =
     (λ k l. rw (same (8 * j + k) (omega arith))))
 
 -- no segment is held
-pub bytes_of-none : (f : ℕ → Bool) → ((i : ℕ) → i < 256 → f i ≡ false) → bytes_of f ≡ no_segments
-unfolding bytes_of no_segments tabulate sum
+pub bytes_of-none : (f : ℕ → Bool) → ((i : ℕ) → i < 256 → f i ≡ false) → bytes_of f ≡ replicate 32 0
+unfolding bytes_of tabulate sum
 bytes_of-none f none = bytes_of-eq f (λ i. false) none
 
 -- a step with one segment changed has 32 bytes, each masked by that of the segment alone

@@ -1,3 +1,4 @@
+pub mod Runs
 pub mod Segments
 pub mod Starting
 pub mod Writing

@@ -2,13 +2,44 @@
 // What a schedule is and costs is written in crate `model`; nothing is assumed.
 #![tactic(auto)]
 
+pub mod reading;
 pub mod starting;
 pub mod writing;
 
 ghost use Rattle.std.specs.Prelude.{◌≡◌, cond, ◌*◌, ◌≤◌, leb};
-ghost use Rattle.model.specs.Sheets.{most_steps};
+ghost use Rattle.model.specs.Sheets.{most_steps, trace_of};
+ghost use Rattle.model.specs.Standing.{Standing};
+ghost use Rattle.model.specs.Values.{value_of};
+ghost use Rattle.schedule.specs.inner.Runs.{trace};
 
-use model::Sheet;
+use model::{Kind, Sheet};
+
+// A run: its kind, the weight of volume a, and the lent sizes, warm segments and references.
+#[derive(Clone, Copy)]
+pub struct Run<'a> {
+    pub kind: Kind,
+    pub a: u8,
+    pub sizes: &'a [u16],
+    pub warm: &'a [u16],
+    pub refs: &'a [u16],
+}
+
+impl<'a> Run<'a> {
+    // The run of an accepted sheet.
+    pub fn of_sheet(s: &'a Sheet) -> Run<'a>
+        requires { Standing s.now }
+        ensures { trace result ≡ trace_of (value_of s.now) }
+    {
+        let head = &s.head;
+        Run {
+            kind: head.kind,
+            a: head.a,
+            sizes: &head.sizes[..head.segs],
+            warm: &head.holds[..head.warm],
+            refs: &s.touches[..s.steps],
+        }
+    }
+}
 
 // The shape of a schedule of so many steps: 32 bytes a step, segment i at bit i % 8 of byte i / 8.
 #[derive(Clone, Copy)]

@@ -2,39 +2,19 @@
 // last to the first, with a running set of the segments whose next touch is kept.
 ghost use Rattle.std.specs.Prelude.{◌≡◌, cond, ◌++◌, ◌+◌, ◌*◌, ◌≤◌, ◌<◌, length, drop};
 ghost use Rattle.std.proofs.Math.Seq.{paste};
-ghost use Rattle.model.specs.Sheets.{most_segs, run_of, RunWithin};
-ghost use Rattle.model.specs.Traces.{Trace, segs};
+ghost use Rattle.model.specs.Sheets.{most_segs, RunWithin};
+ghost use Rattle.model.specs.Traces.{Trace, segs, steps};
 ghost use Rattle.model.specs.Schedules.{optimal_schedule};
 ghost use Rattle.model.specs.Decisions.{decided_schedule, decisions_of};
-ghost use Rattle.schedule.specs.inner.Segments.{segment_of};
-ghost use Rattle.schedule.specs.inner.Writing.{no_marks, no_segments, no_masks, mask_table, masked, step_with, kept_by, KeptMarks};
+ghost use Rattle.schedule.specs.inner.Runs.{trace};
+ghost use Rattle.schedule.specs.inner.Writing.{mask_table, masked, step_with, kept_by, KeptMarks};
 
-use crate::Schedule;
-use model::{Kind, PriceRow, Sheet};
+use crate::reading::segment_of;
+use crate::{Run, Schedule};
+use model::{Amount, Kind, PriceRow, Sheet};
 
 // The bytes of the table of masks: those of a step for each segment and for none.
 const MASK_BYTES: usize = Schedule::STEP_BYTES * (Sheet::MAX_SEGS + 1);
-
-// No touch is kept.
-fn no_marks() -> [bool; Sheet::MAX_STEPS]
-    ensures { result ≡ no_marks }
-{
-    [false; Sheet::MAX_STEPS]
-}
-
-// The bytes of a step that holds no segment.
-pub fn no_segments() -> [u8; Schedule::STEP_BYTES]
-    ensures { result ≡ no_segments }
-{
-    [0; Schedule::STEP_BYTES]
-}
-
-// A table of masks without a bit.
-fn no_masks() -> [u8; MASK_BYTES]
-    ensures { result ≡ no_masks }
-{
-    [0; MASK_BYTES]
-}
 
 // Whether a touch, after so many steps, of a segment of size z with that mark in the table of last touches is kept.
 fn touch_kept(kind: Kind, a: u8, row: PriceRow, z: u16, mark: u16, steps: u16) -> bool
@@ -49,28 +29,17 @@ fn touch_kept(kind: Kind, a: u8, row: PriceRow, z: u16, mark: u16, steps: u16) -
 }
 
 // For each step whether its touch is kept: one pass over the references, from the warm segments on.
-fn kept_marks(
-    kind: Kind,
-    a: u8,
-    row: PriceRow,
-    sizes: &[u16],
-    warm: &[u16],
-    refs: &[u16],
-) -> [bool; Sheet::MAX_STEPS]
-    requires { RunWithin (run_of kind a sizes.now warm.now refs.now) }
-    ensures { KeptMarks (run_of kind a sizes.now warm.now refs.now) row result }
+fn kept_marks(run: &Run, row: PriceRow) -> [bool; Sheet::MAX_STEPS]
+    requires { RunWithin (trace run.now) }
+    ensures { KeptMarks (trace run.now) row result }
 {
-    let mut marks = no_marks();
-    let mut last = model::start_table(warm);
-    let mut t: usize = 0;
-    while t < refs.len() {
-        let i = refs[t] as usize;
-        if i < sizes.len() {
-            marks[t] = touch_kept(kind, a, row, sizes[i], last[i], t as u16);
-            t += 1;
-            last[i] = t as u16;
-        } else {
-            t += 1;
+    let mut marks = [false; Sheet::MAX_STEPS];
+    let mut last = model::start_table(run.warm);
+    for (t, entry) in run.refs.iter().enumerate() {
+        let i = *entry as usize;
+        if i < run.sizes.len() {
+            marks[t] = touch_kept(run.kind, run.a, row, run.sizes[i], last[i], t as u16);
+            last[i] = t as u16 + 1;
         }
     }
     marks
@@ -80,11 +49,9 @@ fn kept_marks(
 fn mask_table() -> [u8; MASK_BYTES]
     ensures { result ≡ mask_table }
 {
-    let mut masks = no_masks();
-    let mut i = 0;
-    while i < Sheet::MAX_SEGS {
+    let mut masks = [0; MASK_BYTES];
+    for i in 0..Sheet::MAX_SEGS {
         masks[Schedule::STEP_BYTES * i + i / 8] = 1 << (i % 8);
-        i += 1;
     }
     masks
 }
@@ -94,14 +61,6 @@ pub fn masked(byte: u8, mask: u8, on: u8) -> u8
     ensures { result ≡ masked byte mask on }
 {
     byte - (byte & mask) + (mask & on)
-}
-
-// The segment of an entry of so many segments; where it is none, the number after the largest that a segment can have.
-pub fn segment_of(segs: usize, entry: u16) -> usize
-    ensures { result ≡ segment_of segs entry }
-{
-    let i = entry as usize;
-    if i < segs { i } else { Sheet::MAX_SEGS }
 }
 
 // All bits, or none.
@@ -124,13 +83,11 @@ fn put_step(
     ensures next_after { next.new ≡ step_with next.old i on }
     ensures out_after { out.new ≡ paste out.old at (step_with next.old i 255) 32 }
 {
-    let mut j = 0;
-    while j < Schedule::STEP_BYTES {
+    for j in 0..Schedule::STEP_BYTES {
         let mask = masks[Schedule::STEP_BYTES * i + j];
         let byte = next[j];
         out[at + j] = masked(byte, mask, 255);
         next[j] = masked(byte, mask, on);
-        j += 1;
     }
 }
 
@@ -143,11 +100,9 @@ pub fn write_decided(segments: usize, refs: &[u16], decisions: &[bool], out: &mu
         ++ drop (32 * length refs.now) out.old }
 {
     let masks = mask_table();
-    let mut next = no_segments();
-    let mut t = refs.len();
-    while 0 < t {
-        t -= 1;
-        let i = segment_of(segments, refs[t]);
+    let mut next = [0; Schedule::STEP_BYTES];
+    for t in (0..refs.len()).rev() {
+        let i = segment_of(segments, refs[t]).unwrap_or(Sheet::MAX_SEGS);
         put_step(
             &masks,
             i,
@@ -160,21 +115,13 @@ pub fn write_decided(segments: usize, refs: &[u16], decisions: &[bool], out: &mu
 }
 
 // The optimal schedule of a row at the head of a lent place, whatever stood there; what stands beyond it stays.
-pub fn write_optimal(
-    kind: Kind,
-    a: u8,
-    row: PriceRow,
-    sizes: &[u16],
-    warm: &[u16],
-    refs: &[u16],
-    out: &mut [u8],
-)
-    requires run_within { RunWithin (run_of kind a sizes.now warm.now refs.now) }
-    requires refs_in_bounds { 32 * length refs.now ≤ length out.old }
-    ensures { out.new ≡ optimal_schedule (run_of kind a sizes.now warm.now refs.now) row.h row.d
-        ++ drop (32 * length refs.now) out.old }
+pub fn write_optimal(run: &Run, row: PriceRow, out: &mut [u8])
+    requires run_within { RunWithin (trace run.now) }
+    requires refs_in_bounds { 32 * steps (trace run.now) ≤ length out.old }
+    ensures { out.new ≡ optimal_schedule (trace run.now) row.h row.d
+        ++ drop (32 * steps (trace run.now)) out.old }
 {
-    let marks = kept_marks(kind, a, row, sizes, warm, refs);
-    let n = refs.len();
-    write_decided(sizes.len(), refs, &marks[..n], out);
+    let marks = kept_marks(run, row);
+    let n = run.refs.len();
+    write_decided(run.sizes.len(), run.refs, &marks[..n], out);
 }

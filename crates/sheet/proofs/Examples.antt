@@ -7,7 +7,7 @@ use mathlib.Core.Bool.{Bool, true, false, ◌&&◌}
 use mathlib.Core.List.{List, [], ◌∷◌, ◌++◌}
 use lib.Dec.{eqb}
 use lib.ListN.{length, replicate}
-use Rattle.model.specs.Refusals.{number_of, verdict_number}
+use Rattle.model.specs.Refusals.{number_of, verdict_number, value_or_zero}
 use Rattle.model.specs.Sheets.{SheetValue, idle}
 use Rattle.model.specs.Values.{head_of, sheet_of, empty_head, empty_sheet}
 use Rattle.model.specs.declared.Kind.TheVariants.{Time, Space}
@@ -211,11 +211,11 @@ first-refusals-hold = refl
 -- what reading answers: the number, and the form, the segments, the rows and the steps of the sheet, all of them 0 where it is refused
 answered : List ℕ → List ℕ
 answered s =
-    verdict_number (answer_of (read_sheet s)).verdict
-    ∷ (answer_of (read_sheet s)).sheet.form
-    ∷ (answer_of (read_sheet s)).sheet.head.segs
-    ∷ (answer_of (read_sheet s)).sheet.head.rows
-    ∷ (answer_of (read_sheet s)).sheet.steps
+    verdict_number (answer_of (read_sheet s))
+    ∷ (value_or_zero empty_sheet (answer_of (read_sheet s))).form
+    ∷ (value_or_zero empty_sheet (answer_of (read_sheet s))).head.segs
+    ∷ (value_or_zero empty_sheet (answer_of (read_sheet s))).head.rows
+    ∷ (value_or_zero empty_sheet (answer_of (read_sheet s))).steps
     ∷ []
 
 reading-answers : answered listing ++ answered [] ≡ 0 ∷ 1 ∷ 2 ∷ 2 ∷ 6 ∷ 2 ∷ 0 ∷ 0 ∷ 0 ∷ 0 ∷ []

@@ -9,9 +9,10 @@ use native.Mathlib.Omega.{arith}
 use borrow.Author.Tests.{ltb-true, ltb-false, lt-ltb}
 use lib.Dec.{eqb, leb, ltb}
 use lib.ListN.{length, take}
+use Rattle.std.specs.Prelude.{Result, Ok, Err}
 use Rattle.decimal.specs.Decimal.{is_number, value, reading_of}
-use Rattle.decimal.specs.declared.Reading.{Reading}
-use Rattle.decimal.specs.declared.Reading.TheVariants.{NotNumber, OutOfRange as Beyond, Number}
+use Rattle.decimal.specs.declared.NumberError.{NumberError}
+use Rattle.decimal.specs.declared.NumberError.TheVariants.{NotNumber, OutOfRange as Beyond}
 use Rattle.text.specs.Keys.{line_feed, slash, at_sign, form_key, kind_key, a_key, segs_key, size_key, rows_key, row_key, warm_key, hold_key}
 use Rattle.text.specs.Keys.{steps_key, refs_key, ref_key, kind_word}
 use Rattle.model.specs.Refusals.{number_of}
@@ -107,10 +108,10 @@ number-refuses : (key : List ℕ) (lo hi : ℕ) (s : List ℕ) → Refuses (numb
 unfolding number_line
 number-refuses key lo hi s = stepping (value_line key s) _ (line-refuses key s) λ v rest. go (reading_of lo hi v) rest
   where
-    go : (x : Reading) (rest : List ℕ) → Refuses (in_range x rest)
-    go NotNumber rest = no_value
-    go Beyond rest = beyond
-    go (Number n) rest = reading n rest
+    go : (x : Result ℕ NumberError) (rest : List ℕ) → Refuses (in_range x rest)
+    go (Err NotNumber) rest = no_value
+    go (Err Beyond) rest = beyond
+    go (Ok n) rest = reading n rest
 
 -- the line row=
 row-refuses : (prev : Option PriceRow) (s : List ℕ) → Refuses (row_line prev s)

@@ -6,9 +6,10 @@ use mathlib.Core.List.{List, [], ◌∷◌}
 use mathlib.Core.Option.{Option}
 use borrow.Author.Tests.{eqb-true}
 use lib.Dec.{eqb}
+use Rattle.std.specs.Prelude.{Result, Ok, Err}
 use Rattle.decimal.specs.Decimal.{is_digit, is_number, value, written, reading_of}
-use Rattle.decimal.specs.declared.Reading.{Reading}
-use Rattle.decimal.specs.declared.Reading.TheVariants.{NotNumber, OutOfRange as Beyond, Number}
+use Rattle.decimal.specs.declared.NumberError.{NumberError}
+use Rattle.decimal.specs.declared.NumberError.TheVariants.{NotNumber, OutOfRange as Beyond}
 use Rattle.decimal.proofs.Digits.{both}
 use Rattle.decimal.proofs.Written.{written-digits, written-number, written-value, written_of}
 use Rattle.decimal.proofs.Readings.{reading-written, reading-number}
@@ -41,10 +42,10 @@ number-words lo hi =
           (w, m, (l, u));
     }
   where
-    number_read : (r : Reading) (rest : List ℕ) (n : ℕ) (end : List ℕ) → in_range r rest ≡ read n end → (r ≡ Number n) × (rest ≡ end)
-    number_read NotNumber rest n end e = absurd (refused-read e)
-    number_read Beyond rest n end e = absurd (refused-read e)
-    number_read (Number m) rest n end e = ((cc), (cc))
+    number_read : (r : Result ℕ NumberError) (rest : List ℕ) (n : ℕ) (end : List ℕ) → in_range r rest ≡ read n end → (r ≡ Ok n) × (rest ≡ end)
+    number_read (Err NotNumber) rest n end e = absurd (refused-read e)
+    number_read (Err Beyond) rest n end e = absurd (refused-read e)
+    number_read (Ok m) rest n end e = ((cc), (cc))
 
 -- so is the line, where the key has no line feed
 pub number-reads : (key : List ℕ) (lo hi : ℕ) → lacks line_feed key ≡ true

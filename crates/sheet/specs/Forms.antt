@@ -1,7 +1,7 @@
 -- A sheet in another form, and what the converters have for a lent place (request F-3).
-use Rattle.std.specs.Prelude.{ℕ, Bool, true, false, cond, List, [], ◌∷◌, eqb}
-use Rattle.model.specs.Places.{Result, gives, refuses}
+use Rattle.std.specs.Prelude.{ℕ, Bool, true, false, cond, List, [], ◌∷◌, eqb, Result, Ok, Err}
 use Rattle.model.specs.Sheets.{SheetValue, idle}
+use Rattle.model.specs.declared.Refusal.{Refusal}
 use Rattle.model.specs.declared.Refusal.TheVariants.{IdleStep}
 use Rattle.sheet.specs.Writing.{sheet_text}
 
@@ -18,9 +18,9 @@ abbrev pub has_idle : SheetValue → Bool
 has_idle v = some_idle v.entries
 
 -- to form 2: its text
-abbrev pub to_form_2 : SheetValue → Result
-to_form_2 v = gives (sheet_text (in_form 2 v))
+abbrev pub to_form_2 : SheetValue → Result (List ℕ) Refusal
+to_form_2 v = Ok (sheet_text (in_form 2 v))
 
 -- back to form 1: refusal 17 where an idle step exists, else its text
-abbrev pub to_form_1 : SheetValue → Result
-to_form_1 v = cond (has_idle v) (refuses IdleStep) (gives (sheet_text (in_form 1 v)))
+abbrev pub to_form_1 : SheetValue → Result (List ℕ) Refusal
+to_form_1 v = cond (has_idle v) (Err IdleStep) (Ok (sheet_text (in_form 1 v)))

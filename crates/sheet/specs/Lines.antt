@@ -1,11 +1,11 @@
 -- Reading one line after another from the head of a run of bytes. A line is what stands before a line feed; its value is what stands
 -- after its key and "=".
-use Rattle.std.specs.Prelude.{ℕ, zero, suc, Bool, true, false, cond, List, [], ◌∷◌, eqb}
+use Rattle.std.specs.Prelude.{ℕ, zero, suc, Bool, true, false, cond, List, [], ◌∷◌, eqb, Result, Ok, Err}
 use Rattle.model.specs.declared.Refusal.{Refusal}
 use Rattle.model.specs.declared.Refusal.TheVariants.{LineMalformed, ValueMalformed, OutOfRange}
 use Rattle.decimal.specs.Decimal.{reading_of}
-use Rattle.decimal.specs.declared.Reading.{Reading}
-use Rattle.decimal.specs.declared.Reading.TheVariants.{NotNumber, OutOfRange as Beyond, Number}
+use Rattle.decimal.specs.declared.NumberError.{NumberError}
+use Rattle.decimal.specs.declared.NumberError.TheVariants.{NotNumber, OutOfRange as Beyond}
 use Rattle.text.specs.Keys.{line_feed}
 
 -- what reading gives: a value and the bytes that follow it, or the refusal
@@ -56,10 +56,10 @@ unfoldable pub value_line : List ℕ → List ℕ → Parsed (List ℕ)
 value_line key s = of_line key (split_at line_feed s)
 
 -- a number within its range: refusal 3 where it is none, 4 where it lies outside
-abbrev pub in_range : Reading → List ℕ → Parsed ℕ
-in_range NotNumber rest = refused ValueMalformed
-in_range Beyond rest = refused OutOfRange
-in_range (Number n) rest = read n rest
+abbrev pub in_range : Result ℕ NumberError → List ℕ → Parsed ℕ
+in_range (Err NotNumber) rest = refused ValueMalformed
+in_range (Err Beyond) rest = refused OutOfRange
+in_range (Ok n) rest = read n rest
 
 -- the number lo to hi of the line at the head of s
 unfoldable pub number_line : List ℕ → ℕ → ℕ → List ℕ → Parsed ℕ

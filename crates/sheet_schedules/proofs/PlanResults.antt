@@ -1,4 +1,5 @@
 -- What is answered for the schedules of a row, by the tests.
+use Rattle.std.specs.Prelude.{Ok, Err}
 use Prim.Native.Nat.{ℕ, ◌*◌, ◌/◌, ◌≤◌, ◌<◌}
 use mathlib.Core.Path.{◌≡◌, sym, ◌∙◌}
 use mathlib.Core.Bool.{cond}
@@ -9,15 +10,13 @@ use lib.ListN.{length, drop}
 use borrow.Author.Tests.{le-ltb, lt-ltb, ltb-true, ltb-false, le-leb, lt-leb}
 use borrow.Table.Steps.{cases}
 use Rattle.model.specs.Demand.{row_schedule}
-use Rattle.model.specs.Places.{gives, refuses, nothing_placed, PlaceLeft}
+use Rattle.model.specs.Places.{PlaceLeft}
 use Rattle.model.specs.Schedules.{optimal_schedule, optimal_byte}
 use Rattle.model.specs.Sheets.{SheetValue, trace_of, marks_of, row_at}
 use Rattle.model.specs.declared.Refusal.TheVariants.{NoSuchRow, PlaceTooShort}
-use Rattle.model.specs.declared.Verdict.TheVariants.{Accepted}
 use Rattle.model.proofs.Decisions.{length-held_bytes}
 use Rattle.model.proofs.Places.{text-short, text-fits, refusal-left}
 use Rattle.model.proofs.Tables.{length-tabulate}
-use Rattle.model.specs.Pricing.{no_price}
 use Rattle.stores.specs.Modtotal.{mod_held, mod_schedule}
 use Rattle.stores.specs.Rows.{row_mod_schedule}
 use Rattle.stores.specs.Plans.{schedule_for, modified_for, priced_at, price_for}
@@ -53,37 +52,37 @@ plan-length v r = cases (leb 4 v.form) (λ e. rw e (modified-length v r)) (λ e.
 -- a schedule of 32 bytes a step for a row that there is, in a place that is long enough
 module _ (v : SheetValue) (r : ℕ) (p place : List ℕ) (whole : length p ≡ 32 * length v.entries) where
   put : r < length v.head.rows → 32 * length v.entries ≤ length place
-      → PlaceLeft (cond (ltb r (length v.head.rows)) (gives p) (refuses NoSuchRow)) place
+      → PlaceLeft (cond (ltb r (length v.head.rows)) (Ok p) (Err NoSuchRow)) place
       (p ++ drop (32 * length v.entries) place)
-      (record { verdict = Accepted; length = 32 * length v.entries })
+      (Ok (32 * length v.entries))
   put lt fits = rw (lt-ltb r (length v.head.rows) lt) (text-fits p place whole fits)
 
 -- what is answered for them, and what is left in the place
 module _ (v : SheetValue) (r : ℕ) (place : List ℕ) where
   pub schedule-placed : r < length v.head.rows → 32 * length v.entries ≤ length place
       → PlaceLeft (schedule_for v r) place (row_schedule v r ++ drop (32 * length v.entries) place)
-      (record { verdict = Accepted; length = 32 * length v.entries })
+      (Ok (32 * length v.entries))
   unfolding schedule_for
   schedule-placed = put v r (row_schedule v r) place (schedule-length v r)
 
   pub modified-placed : r < length v.head.rows → 32 * length v.entries ≤ length place
       → PlaceLeft (modified_for v r) place (row_mod_schedule v r ++ drop (32 * length v.entries) place)
-      (record { verdict = Accepted; length = 32 * length v.entries })
+      (Ok (32 * length v.entries))
   unfolding modified_for
   modified-placed = put v r (row_mod_schedule v r) place (modified-length v r)
 
   pub plan-placed : r < length v.head.rows → 32 * length v.entries ≤ length place
       → PlaceLeft (plan_for v r) place (row_plan v r ++ drop (32 * length v.entries) place)
-      (record { verdict = Accepted; length = 32 * length v.entries })
+      (Ok (32 * length v.entries))
   unfolding plan_for
   plan-placed = put v r (row_plan v r) place (plan-length v r)
 
-  pub plan-no-row : length v.head.rows ≤ r → PlaceLeft (plan_for v r) place place (nothing_placed NoSuchRow)
+  pub plan-no-row : length v.head.rows ≤ r → PlaceLeft (plan_for v r) place place (Err NoSuchRow)
   unfolding plan_for
   plan-no-row le = rw (le-ltb r (length v.head.rows) le) (refusal-left NoSuchRow place)
 
   pub plan-short : r < length v.head.rows → length place < 32 * length v.entries
-      → PlaceLeft (plan_for v r) place place (nothing_placed PlaceTooShort)
+      → PlaceLeft (plan_for v r) place place (Err PlaceTooShort)
   unfolding plan_for
   plan-short lt less =
       rw (lt-ltb r (length v.head.rows) lt) (text-short (row_plan v r) place (omega (arith, plan-length v r)))
@@ -99,7 +98,7 @@ plan-is-modified v r le = rw (le-leb 4 v.form le)
 
 -- the price of a schedule at a row that there is, and at one that there is not
 module _ (v : SheetValue) (r : ℕ) (p : List ℕ) where
-  pub price-no-row : length v.head.rows ≤ r → price_for v r p ≡ no_price NoSuchRow
+  pub price-no-row : length v.head.rows ≤ r → price_for v r p ≡ Err NoSuchRow
   unfolding price_for
   price-no-row le = rw (le-ltb r (length v.head.rows) le)
 

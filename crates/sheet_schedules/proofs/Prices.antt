@@ -1,5 +1,7 @@
 -- The price of a schedule with stores counted, from its price without them: the same where there are no marks or the schedule is refused,
 -- and else with the load of the stores added.
+use Rattle.std.specs.Prelude.{Result, Ok, Err}
+use Rattle.model.specs.declared.Price.{Price}
 use Prim.Native.Nat.{ℕ, ◌+◌, ◌*◌, ◌^◌, ◌≤◌, ◌<◌}
 use mathlib.Core.Path.{◌≡◌, refl, sym, ap, ◌∙◌}
 use mathlib.Core.Bool.{Bool, true, false}
@@ -7,22 +9,19 @@ use mathlib.Core.List.{List, []}
 use native.Mathlib.Omega.{arith}
 use borrow.Author.Tests.{leb-true, leb-false}
 use lib.Dec.{leb}
-use lib.ListN.{length, get_or, take}
+use lib.ListN.{length, take}
 use Rattle.model.specs.Costs.{total_cost}
 use Rattle.model.specs.Schedules.{held, Permitted, schedule_memory, schedule_load, schedule_total}
-use Rattle.model.specs.Sheets.{SheetValue, most_segs, most_steps, trace_of, marks_of, row_at}
+use Rattle.model.specs.Sheets.{SheetValue, RunWithin, most_segs, most_steps, trace_of, marks_of, row_at}
 use Rattle.model.specs.Standing.{Standing}
-use Rattle.model.specs.Traces.{Trace}
-use Rattle.model.specs.Values.{head_value_of, value_of}
+use Rattle.model.specs.Traces.{Trace, segs, steps}
+use Rattle.model.specs.Values.{value_of}
 use Rattle.model.specs.declared.PriceRow.{PriceRow}
 use Rattle.model.specs.declared.Refusal.{Refusal}
 use Rattle.model.specs.declared.Sheet.{Sheet}
-use Rattle.model.specs.declared.Verdict.{Verdict}
-use Rattle.model.specs.declared.Verdict.TheVariants.{Accepted, Refused}
-use Rattle.model.proofs.Standing.{marks-none, row_of}
-use Rattle.model.specs.Pricing.{schedule_verdict, no_price}
+use Rattle.model.proofs.Standing.{marks-none}
+use Rattle.model.specs.Pricing.{schedule_verdict}
 use Rattle.pricing.specs.inner.Prices.{price_answer}
-use Rattle.model.specs.declared.PriceAnswer.{PriceAnswer}
 use Rattle.pricing.proofs.Costing.{schedule-within}
 use Rattle.pricing.proofs.Verdicts.{priced, accepted-answer, refused-answer, accepted-permitted}
 use Rattle.store_plan.specs.inner.Passing.{SizedAs}
@@ -30,20 +29,20 @@ use Rattle.stores.specs.Rows.{sheet_load, sheet_total}
 use Rattle.stores.specs.Stays.{stores_of, marked_load, marked_total}
 use Rattle.stores.proofs.Unmarked.{unmarked-load}
 use Rattle.stores.specs.Plans.{priced_at}
-use Rattle.sheet_schedules.specs.inner.PlainPrices.{PlainOf}
+use Rattle.sheet_schedules.specs.inner.MarkedPrices.{marked_price}
 
 module _ (v : SheetValue) (r : ℕ) (p : List ℕ) where
   -- the price without stores
-  abbrev plain_price : PriceAnswer
+  abbrev plain_price : Result Price Refusal
   plain_price = price_answer (trace_of v) (row_at v r).h (row_at v r).d p
 
   -- an accepted schedule, and one that is refused
-  pub accepted-at : schedule_verdict (trace_of v) p ≡ Accepted
+  pub accepted-at : schedule_verdict (trace_of v) p ≡ (Ok tt)
       → priced_at v r p ≡ priced (schedule_memory (trace_of v) p) (sheet_load v p) (sheet_total v r p)
   unfolding priced_at
   accepted-at y = rw (y, priced_at)
 
-  refused-at : {why : Refusal} → schedule_verdict (trace_of v) p ≡ Refused why → no_price why ≡ priced_at v r p
+  refused-at : {why : Refusal} → schedule_verdict (trace_of v) p ≡ Err why → Err why ≡ priced_at v r p
   unfolding priced_at
   refused-at y = rw (y, priced_at)
 
@@ -55,85 +54,76 @@ module _ (v : SheetValue) (r : ℕ) (p : List ℕ) where
       load : sheet_load v p ≡ schedule_load (trace_of v) p
       load = unmarked-load (trace_of v) (marks_of v.marks) (λ t lt. rw none) p
 
-      go : (w : Verdict) → schedule_verdict (trace_of v) p ≡ w → plain_price ≡ priced_at v r p
-      go Accepted y = accepted-answer _ _ _ _ y ∙ sym (accepted-at y ∙ rw load)
-      go (Refused why) y = refused-answer _ _ _ _ why y ∙ refused-at y
+      go : (w : Result (Unit {0}) Refusal) → schedule_verdict (trace_of v) p ≡ w → plain_price ≡ priced_at v r p
+      go (Ok tt) y = accepted-answer _ _ _ _ y ∙ sym (accepted-at y ∙ rw load)
+      go (Err why) y = refused-answer _ _ _ _ why y ∙ refused-at y
 
-  -- a price has the verdict on its schedule
-  plain-verdict : schedule_verdict (trace_of v) p ≡ plain_price.verdict
-  plain-verdict = go (schedule_verdict (trace_of v) p) refl
+-- the price of a run's schedule without stores tells the verdict on it
+module _ (T : Trace) (h d : ℕ) (p : List ℕ) where
+  abbrev plain_of : Price
+  plain_of =
+      record { memory = record { 0 = schedule_memory T p }; load = record { 0 = schedule_load T p }; total = schedule_total T h d p }
+
+  refused-verdict : {why : Refusal} → price_answer T h d p ≡ Err why → schedule_verdict T p ≡ Err why
+  refused-verdict {why} e = go (schedule_verdict T p) refl
     where
-      go : (w : Verdict) → schedule_verdict (trace_of v) p ≡ w → schedule_verdict (trace_of v) p ≡ plain_price.verdict
-      go Accepted y = y ∙ ap (λ a. a.verdict) (sym (accepted-answer _ _ _ _ y))
-      go (Refused why) y = y ∙ ap (λ a. a.verdict) (sym (refused-answer _ _ _ _ why y))
+      go : (w : Result (Unit {0}) Refusal) → schedule_verdict T p ≡ w → w ≡ Err why
+      go (Ok tt) y = let z = accepted-answer T h d p y in cc
+      go (Err r) y = let z = refused-answer T h d p r y in cc
 
--- the price with stores, from that without them and the sheet's parts
-module _ {v : SheetValue} {n a : ℕ} {row : PriceRow} {sizes refs : List ℕ} {marks : List Bool} {p : List ℕ} {plain : PriceAnswer}
-    (o : PlainOf v n a row sizes refs marks p plain) where
-  -- the verdict on the schedule, that an accepted one is permitted, and its price
-  verdict-of : {w : Verdict} → plain.verdict ≡ w → schedule_verdict (trace_of v) p ≡ w
-  verdict-of e = plain-verdict v n p ∙ (ap (λ x. x.verdict) (sym o.plain_is) ∙ e)
+  accepted-verdict : {x : Price} → price_answer T h d p ≡ Ok x → (schedule_verdict T p ≡ Ok tt) × (x ≡ plain_of)
+  accepted-verdict {x} e = go (schedule_verdict T p) refl
+    where
+      go : (w : Result (Unit {0}) Refusal) → schedule_verdict T p ≡ w → (w ≡ Ok tt) × (x ≡ plain_of)
+      go (Ok tt) y = let z = accepted-answer T h d p y in (refl, cc)
+      go (Err r) y = let z = refused-answer T h d p r y in let n : ◌≡◌ {A = ℕ} 0 1 = cc in absurd (omega arith)
 
-  -- a refusal stays
-  pub refusal-stays : {why : Refusal} → plain.verdict ≡ Refused why → no_price why ≡ priced_at v n p
-  refusal-stays e = refused-at v n p (verdict-of e)
+-- a refusal stays
+pub refusal-stays : (v : SheetValue) (r : ℕ) (p : List ℕ) {why : Refusal} → plain_price v r p ≡ Err why → Err why ≡ priced_at v r p
+refusal-stays v r p e = refused-at v r p (refused-verdict (trace_of v) (row_at v r).h (row_at v r).d p e)
 
-  module _ (y : plain.verdict ≡ Accepted) where
-    allowed : Permitted (trace_of v) p
-    allowed = accepted-permitted (trace_of v) p (verdict-of y)
+-- and else the stores are added
+pub marked_at : (v : SheetValue) (r : ℕ) (p : List ℕ) {x : Price} → plain_price v r p ≡ Ok x
+    → Ok (marked_price (trace_of v) (marks_of v.marks) (row_at v r).h (row_at v r).d p) ≡ priced_at v r p
+marked_at v r p e = sym (accepted-at v r p (accepted-verdict (trace_of v) (row_at v r).h (row_at v r).d p e).0)
 
-    answer : plain
-        ≡ priced (schedule_memory (trace_of v) p) (schedule_load (trace_of v) p)
-        (schedule_total (trace_of v) (row_at v n).h (row_at v n).d p)
-    answer = o.plain_is ∙ accepted-answer _ _ _ _ (verdict-of y)
+-- the price with stores, from that without them
+module _ (T : Trace) (ok : RunWithin T) (marks : List Bool) (marked : length marks ≡ steps T) (row : PriceRow) (p : List ℕ) (plain : Price)
+    (y : price_answer T row.h row.d p ≡ Ok plain) where
+  -- the schedule is permitted
+  allowed : Permitted T p
+  allowed = accepted-permitted T p (accepted-verdict T row.h row.d p y).0
 
-    -- what counting the stores needs
-    pub parts_within : ((length sizes ≤ most_segs) × (length refs ≤ most_steps))
-        × ((length marks ≡ length refs) × (length p ≡ 32 * length refs))
-    parts_within =
-        rw (← o.sizes_are, ← o.refs_are)
-        ((o.run.segs_within, o.run.steps_within), (o.marked ∙ ap length (sym o.refs_are), allowed.whole))
+  answer : plain ≡ plain_of T row.h row.d p
+  answer = (accepted-verdict T row.h row.d p y).1
 
-    -- memory and load of an accepted price are within 40 bits
-    pub plain-within : (plain.memory.0 < 2 ^ 40) × (plain.load.0 < 2 ^ 40)
-    plain-within = rw answer (schedule-within (trace_of v) o.run p allowed)
+  -- what counting the stores needs
+  pub parts_within : ((segs T ≤ most_segs) × (steps T ≤ most_steps)) × ((length marks ≡ steps T) × (length p ≡ 32 * steps T))
+  parts_within = ((ok.segs_within, ok.steps_within), (marked, allowed.whole))
 
-    -- the load of the stores is added
-    pub stores_at : {stores total : ℕ}
-        → ((T : Trace) → SizedAs T a sizes refs → Permitted T p → stores ≡ stores_of T (marks_of marks) (held T p))
-        → total ≡ total_cost row.h row.d plain.memory.0 (plain.load.0 + stores)
-        → priced plain.memory.0 (plain.load.0 + stores) total ≡ priced_at v n p
-    unfolding marked_load marked_total
-    stores_at counted t =
-        let sized : SizedAs (trace_of v) a sizes refs = record { a_is = o.a_is; sizes_are = o.sizes_are; refs_are = o.refs_are } in
-        rw (t, ← o.row_is, answer, counted (trace_of v) sized allowed, ← o.marks_are) (sym (accepted-at v n p (verdict-of y)))
+  -- memory and load of an accepted price are within 40 bits
+  pub plain-within : (plain.memory.0 < 2 ^ 40) × (plain.load.0 < 2 ^ 40)
+  plain-within = rw answer (schedule-within T ok p allowed)
+
+  -- the load of the stores is added
+  pub stores_at : {stores total : ℕ}
+      → ((U : Trace) → SizedAs U T.a T.sizes T.entries → Permitted U p → stores ≡ stores_of U (marks_of marks) (held U p))
+      → total ≡ total_cost row.h row.d plain.memory.0 (plain.load.0 + stores)
+      → ◌≡◌ {A = Price} (record { memory = plain.memory; load = record { 0 = plain.load.0 + stores }; total = total })
+      (marked_price T (marks_of marks) row.h row.d p)
+  unfolding marked_load marked_total
+  stores_at counted t =
+      let sized : SizedAs T T.a T.sizes T.entries = record { a_is = refl; sizes_are = refl; refs_are = refl } in
+      rw (t, answer, counted T sized allowed)
 
 -- a sheet that counts no marks has none, and one with marks is of form 4
 pub marks-empty : (s : Sheet) → s.marked ≡ 0 → (value_of s).marks ≡ []
 unfolding value_of
 marks-empty s e = ap (λ n. take n s.marks) e
 
-marked-form : (s : Sheet) → Standing s → 0 < s.marked → 4 ≤ s.form
+pub marked-form : (s : Sheet) → Standing s → 0 < s.marked → 4 ≤ s.form
 marked-form s c some = go (leb 4 s.form) refl
   where
     go : (b : Bool) → leb 4 s.form ≡ b → 4 ≤ s.form
     go true e = leb-true 4 s.form e
     go false e = absurd (omega (arith, marks-none s c (omega (arith, leb-false 4 s.form e))))
-
--- the parts of a sheet with marks are those that the stores are counted from
-pub sheet-plain : (s : Sheet) → Standing s → 0 < s.marked → (r : ℕ) → r < s.head.rows → (p : List ℕ) {plain : PriceAnswer}
-    → plain ≡ price_answer (trace_of (value_of s)) (row_at (value_of s) r).h (row_at (value_of s) r).d p
-    → PlainOf (value_of s) r s.head.a (get_or s.head.prices r (record { h = 0; d = 0 })) (take s.head.segs s.head.sizes)
-    (take s.steps s.touches) (take s.marked s.marks) p plain
-unfolding value_of head_value_of
-sheet-plain s c some r lt p e =
-    record {
-      run = c.valid.run;
-      a_is = refl;
-      row_is = row_of s c r lt;
-      sizes_are = refl;
-      refs_are = refl;
-      marks_are = refl;
-      marked = c.valid.marked (marked-form s c some);
-      plain_is = e;
-    }

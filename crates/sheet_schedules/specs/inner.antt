@@ -1,2 +1,2 @@
 pub mod FormPlans
-pub mod PlainPrices
+pub mod MarkedPrices

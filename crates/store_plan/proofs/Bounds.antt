@@ -1,5 +1,5 @@
 -- How large the excesses of a run can be.
-use Prim.Native.Nat.{ℕ, zero, suc, ◌+◌, ◌-◌, ◌*◌, ◌^◌, ◌≤◌, ◌<◌}
+use Prim.Native.Nat.{ℕ, zero, suc, ◌-◌, ◌*◌, ◌^◌, ◌≤◌, ◌<◌}
 use mathlib.Core.Path.{◌≡◌, refl}
 use mathlib.Core.Bool.{Bool, true, false, cond}
 use mathlib.Core.Option.{Option, none, some}
@@ -11,9 +11,18 @@ use Rattle.model.specs.declared.PriceRow.{PriceRow}
 use Rattle.model.proofs.Bounds.{product-within, unit-within}
 use Rattle.model.proofs.LastTouches.{unreferenced-within}
 use Rattle.stores.specs.Modtotal.{excess, plus, since_mark}
-use Rattle.store_plan.specs.inner.Touches.{code_of}
+use Rattle.store_plan.specs.inner.Touches.{held_since, SinceBelow}
 
-plus-within : (e : Option ℕ) (x n : ℕ) → code_of e ≤ 1 + n * 2 ^ 40 → x ≤ 2 ^ 40 → code_of (plus e x) ≤ 1 + suc n * 2 ^ 40
+-- an excess, 0 where there is none
+abbrev pub amount : Option ℕ → ℕ
+amount none = 0
+amount (some e) = e
+
+pub amount-below : (e : Option ℕ) (n : ℕ) → amount e < n → SinceBelow n (held_since e)
+amount-below none n lt = tt
+amount-below (some e) n lt = lt
+
+plus-within : (e : Option ℕ) (x n : ℕ) → amount e ≤ n * 2 ^ 40 → x ≤ 2 ^ 40 → amount (plus e x) ≤ suc n * 2 ^ 40
 plus-within none x n le lx = omega arith
 plus-within (some y) x n le lx = omega arith
 
@@ -30,7 +39,7 @@ module _ (T : Trace) (ok : RunWithin T) (marks : ℕ → Bool) (row : PriceRow) 
           omega (arith, product-within row.d (k * unit_of T i) (2 ^ 16) (2048 * 4095) (omega (arith, prices.1)) held)
 
   -- the number of an excess after t steps
-  pub since-within : (t i : ℕ) → t ≤ steps T → i < segs T → code_of (since_mark T marks row.h row.d t i) ≤ 1 + t * 2 ^ 40
+  pub since-within : (t i : ℕ) → t ≤ steps T → i < segs T → amount (since_mark T marks row.h row.d t i) ≤ t * 2 ^ 40
   unfolding since_mark
   since-within zero i le lt = omega arith
   since-within (suc t) i le lt =
@@ -41,8 +50,8 @@ module _ (T : Trace) (ok : RunWithin T) (marks : ℕ → Bool) (row : PriceRow) 
       e : Option ℕ
       e = since_mark T marks row.h row.d t i
 
-      go : (m g : Bool) → code_of e ≤ 1 + t * 2 ^ 40 → code_of (plus e (excess T row.h row.d t i)) ≤ 1 + suc t * 2 ^ 40
-          → code_of (cond m (cond g (some 0) (plus e (excess T row.h row.d t i))) e) ≤ 1 + suc t * 2 ^ 40
+      go : (m g : Bool) → amount e ≤ t * 2 ^ 40 → amount (plus e (excess T row.h row.d t i)) ≤ suc t * 2 ^ 40
+          → amount (cond m (cond g (some 0) (plus e (excess T row.h row.d t i))) e) ≤ suc t * 2 ^ 40
       go true true old new = omega arith
       go true false old new = new
       go false g old new = omega arith

@@ -6,7 +6,7 @@ use mathlib.Core.Bool.{Bool, true, false, cond, ◌&&◌, ◌||◌}
 use mathlib.Core.List.{List}
 use native.Mathlib.Omega.{arith}
 use lib.Dec.{eqb}
-use lib.ListN.{length, get_or, set, take, length-set, length-replicate, get_or-replicate}
+use lib.ListN.{length, get_or, set, take, replicate, length-set, length-replicate, get_or-replicate}
 use lib.Seq.{get_or-take, get_or-set_same, get_or-set_other}
 use borrow.Author.Tests.{eqb-true, eqb-false}
 use Rattle.model.specs.Decisions.{decided_schedule, decisions_of}
@@ -18,32 +18,31 @@ use Rattle.stores.specs.inner.Decisions.{mod_kept}
 use Rattle.stores.proofs.Decisions.{decisions-mod}
 use Rattle.stores.proofs.Nexts.{next_mark, mark-step, mark-end, next_marked-eq}
 use Rattle.store_plan.specs.declared.mod_pass.Found.{Found}
-use Rattle.store_plan.specs.inner.Decisions.{no_flags, no_decisions, FoundIn, FoldedFrom, Folded, Decides}
+use Rattle.store_plan.specs.inner.Decisions.{decision_at, joined_in, FoundIn, FoldedFrom, Folded, Decides}
 
 -- before the step at place t: the flag of each segment, and the decisions of the steps from there on
 pub record Flagged (T : Trace) (marks : ℕ → Bool) (found : Found) (flags on : List Bool) (t : ℕ) : Type 0 where
-  pub flags_are : (i : ℕ) → i < 256 → get_or flags i false ≡ next_mark T marks (decisions_of found.joined) t i
+  pub flags_are : (i : ℕ) → i < 256 → get_or flags i false ≡ next_mark T marks (joined_in found.decisions) t i
   pub on_are : FoldedFrom T marks found on t
 
 module _ (T : Trace) (marks : ℕ → Bool) (found : Found) where
   abbrev next_of : ℕ → ℕ → Bool
-  next_of t i = next_mark T marks (decisions_of found.joined) t i
+  next_of t i = next_mark T marks (joined_in found.decisions) t i
 
-  flagged_start : (on : List Bool) → Flagged T marks found no_flags on (steps T)
-  unfolding no_flags
+  flagged_start : (on : List Bool) → Flagged T marks found (replicate 256 false) on (steps T)
   flagged_start on =
       record {
-        flags_are = λ i lt. get_or-replicate 256 i false false lt ∙ sym (mark-end T marks (decisions_of found.joined) i);
+        flags_are = λ i lt. get_or-replicate 256 i false false lt ∙ sym (mark-end T marks (joined_in found.decisions) i);
         on_are = λ t le lt. absurd (omega arith);
       }
 
   module _ (flags on : List Bool) (t : ℕ) (v : Flagged T marks found flags on (suc t)) (lt : t < steps T) where
-    step : (i : ℕ) → next_of t i ≡ cond (touched T t i && marks t) (get_or found.joined t false) (next_of (suc t) i)
-    step i = mark-step T marks (decisions_of found.joined) t i lt
+    step : (i : ℕ) → next_of t i ≡ cond (touched T t i && marks t) ((decision_at found.decisions t).joined) (next_of (suc t) i)
+    step i = mark-step T marks (joined_in found.decisions) t i lt
 
     -- a touch of segment i
     flagged_touch : (i : ℕ) (f x : Bool) → length flags ≡ 256 → t < length on → i < 256 → entry T t ≡ i → i < segs T
-        → f ≡ cond (marks t) (get_or found.joined t false) (get_or flags i false) → x ≡ get_or found.kept t false || f
+        → f ≡ cond (marks t) ((decision_at found.decisions t).joined) (get_or flags i false) → x ≡ (decision_at found.decisions t).kept || f
         → Flagged T marks found (set flags i f) (set on t x) t
     flagged_touch i f x whole room few e li ef ex =
         record {
@@ -66,7 +65,7 @@ module _ (T : Trace) (marks : ℕ → Bool) (found : Found) where
             ∙ sym (step k ∙ rw (touched-is T t k (omega arith), e, same))
 
         here : (k : ℕ) → t ≤ k → k < steps T → entry T k < segs T → (b : Bool) → eqb t k ≡ b
-            → get_or (set on t x) k false ≡ get_or found.kept k false || next_of k (entry T k)
+            → get_or (set on t x) k false ≡ (decision_at found.decisions k).kept || next_of k (entry T k)
         here k le l touch true same =
             rw (← eqb-true t k same) (get_or-set_same on t x false room ∙ (ex ∙ rw (flag_is, e)))
         here k le l touch false same =
@@ -82,7 +81,7 @@ module _ (T : Trace) (marks : ℕ → Bool) (found : Found) where
         }
       where
         here : (k : ℕ) → t ≤ k → k < steps T → entry T k < segs T → (b : Bool) → eqb t k ≡ b
-            → get_or on k false ≡ get_or found.kept k false || next_of k (entry T k)
+            → get_or on k false ≡ (decision_at found.decisions k).kept || next_of k (entry T k)
         here k le l touch true same = absurd (omega (arith, rw (← eqb-true t k same) at touch))
         here k le l touch false same =
             let other = eqb-false t k same in
@@ -96,9 +95,8 @@ pub record Folding (segments : ℕ) (refs : List ℕ) (marks : ℕ → Bool) (fo
   pub flagged_of : (T : Trace) → segs T ≡ segments → T.entries ≡ refs → Flagged T marks found flags on t
 
 module _ (segments : ℕ) (refs : List ℕ) (marks : ℕ → Bool) (found : Found) (few : segments ≤ 256) (short : length refs ≤ 2048) where
-  pub folding_start : (flags on : List Bool) → flags ≡ no_flags → on ≡ no_decisions
+  pub folding_start : (flags on : List Bool) → flags ≡ replicate 256 false → on ≡ replicate 2048 false
       → Folding segments refs marks found flags on (length refs)
-  unfolding no_flags no_decisions
   folding_start flags on ef eo =
       record {
         within = omega arith;
@@ -123,7 +121,8 @@ module _ (segments : ℕ) (refs : List ℕ) (marks : ℕ → Bool) (found : Foun
   module _ (flags on : List Bool) (t : ℕ) (v : Folding segments refs marks found flags on t) (some : 0 < t) where
     -- a turn at a touch of segment i
     pub folding_touch : (i : ℕ) (f x : Bool) → i ≡ get_or refs (t - 1) 0 → i < segments
-        → f ≡ cond (marks (t - 1)) (get_or found.joined (t - 1) false) (get_or flags i false) → x ≡ get_or found.kept (t - 1) false || f
+        → f ≡ cond (marks (t - 1)) ((decision_at found.decisions (t - 1)).joined) (get_or flags i false)
+        → x ≡ (decision_at found.decisions (t - 1)).kept || f
         → Folding segments refs marks found (set flags i f) (set on (t - 1) x) (t - 1)
     folding_touch i f x ei li ef ex =
         record {
@@ -148,10 +147,6 @@ module _ (segments : ℕ) (refs : List ℕ) (marks : ℕ → Bool) (found : Foun
               (omega (arith, v.within, steps_is T es er)) (omega (arith, es, entry_is T es er (t - 1) (omega (arith, v.within))));
         }
 
-  pub folding_end : (flags on : List Bool) (t : ℕ) → Folding segments refs marks found flags on t → t ≤ 0
-      → (T : Trace) → segs T ≡ segments → T.entries ≡ refs → Folded T marks found on
-  folding_end flags on t v le T es er = λ k l. (v.flagged_of T es er).on_are k (omega arith)
-
 -- the decisions of what is found are those of the schedule of the least total
 pub folded-decides : (T : Trace) (marks : ℕ → Bool) (row : PriceRow) (found : Found) (on : List Bool) → FoundIn T marks row found
     → Folded T marks found on → Decides T marks row on
@@ -160,7 +155,7 @@ folded-decides T marks row found on told folded t lt touch =
     folded t (omega arith) lt touch
     ∙ rw (
       told.touches.kept_are t lt touch,
-      next_marked-eq T marks (decisions_of found.joined) (joins_before T marks row.h row.d) told.touches.joined_are (steps T - t)
+      next_marked-eq T marks (joined_in found.decisions) (joins_before T marks row.h row.d) told.touches.joined_are (steps T - t)
           t (entry T t)
           (omega arith),
     )

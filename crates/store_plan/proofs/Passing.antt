@@ -6,7 +6,7 @@ use mathlib.Core.List.{List}
 use native.Mathlib.Omega.{arith}
 use native.Mathlib.Numerals.{add-one}
 use lib.Dec.{eqb}
-use lib.ListN.{length, get_or, set, length-set, length-replicate, get_or-replicate}
+use lib.ListN.{length, get_or, set, replicate, length-set, length-replicate, get_or-replicate}
 use lib.Seq.{get_or-set_same, get_or-set_other}
 use borrow.Author.Tests.{eqb-true, eqb-false}
 use Rattle.model.specs.Costs.{swap_cost}
@@ -22,7 +22,7 @@ use Rattle.stores.specs.inner.Flags.{modified_flag}
 use Rattle.stores.specs.inner.Marks.{dirty, stores_at_marks}
 use Rattle.stores.proofs.Flags.{dirty-flag}
 use Rattle.stores.proofs.Stays.{stays-marks}
-use Rattle.store_plan.specs.inner.Passing.{held_after, no_flags, SizedAs}
+use Rattle.store_plan.specs.inner.Passing.{held_after, SizedAs}
 
 -- what is held after some steps stands in the bytes of the last of them
 pub held-last : (p : List ℕ) (n i : ℕ) → (n ≡ 0 → ⊥) → bit (get_or p (32 * (n - 1) + i / 8) 0) (i % 8) ≡ held_after p n i
@@ -72,8 +72,8 @@ pub record Stored (T : Trace) (marks : ℕ → Bool) (p : List ℕ) (flags : Lis
   pub load_is : load ≡ stored_by T marks p t
 
 module _ (T : Trace) (marks : ℕ → Bool) (p : List ℕ) where
-  stored_start : Stored T marks p no_flags 0 0
-  unfolding no_flags modified_flag
+  stored_start : Stored T marks p (replicate 256 false) 0 0
+  unfolding modified_flag
   stored_start =
       record {
         flags_are = λ i lt. get_or-replicate 256 i false false lt;
@@ -132,8 +132,7 @@ pub record Storing (a : ℕ) (sizes refs : List ℕ) (marks : ℕ → Bool) (p :
   pub stored_of : (T : Trace) → SizedAs T a sizes refs → Stored T marks p flags load t
 
 module _ (a : ℕ) (sizes refs : List ℕ) (marks : ℕ → Bool) (p : List ℕ) (few : length sizes ≤ 256) (short : length refs ≤ 2048) where
-  pub storing_start : (flags : List Bool) → flags ≡ no_flags → Storing a sizes refs marks p flags 0 0
-  unfolding no_flags
+  pub storing_start : (flags : List Bool) → flags ≡ replicate 256 false → Storing a sizes refs marks p flags 0 0
   storing_start flags e =
       record {
         within = omega arith;

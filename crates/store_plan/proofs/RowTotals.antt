@@ -1,14 +1,14 @@
 -- The modtotals of the rows of a run, one row after another, and the search for a touch that modifies.
 use Prim.Native.Nat.{ℕ, zero, suc, ◌+◌, ◌≤◌, ◌<◌, ◌^◌}
 use mathlib.Core.Path.{◌≡◌, refl, sym, ap, ◌∙◌}
-use mathlib.Core.Bool.{Bool, true, false, cond, ◌||◌}
+use mathlib.Core.Bool.{Bool, true, false, cond}
 use mathlib.Core.List.{List, [], ◌∷◌}
-use native.Mathlib.Numerals.{add-one}
 use native.Mathlib.Omega.{arith}
 use borrow.Author.Tests.{lt-ltb, le-ltb, ltb-true, ltb-false}
 use lib.Dec.{ltb}
-use lib.ListN.{length, get_or, set, drop, drop_of_length-le}
-use lib.Seq.{drop-cons}
+use Rattle.std.specs.List.{list_any}
+use Rattle.std.specs.Bool.{beq}
+use lib.ListN.{length, get_or, set}
 use Rattle.model.specs.Figures.{opttotal}
 use Rattle.model.specs.Sheets.{marks_of, most_rows, trace_of, row_in, RunWithin, largest_price}
 use Rattle.model.specs.Traces.{Trace}
@@ -38,21 +38,12 @@ marks-false (true ∷ ms) e t = let z : ◌≡◌ {A = ℕ} 0 1 = cc in absurd (
 marks-false (false ∷ ms) e zero = refl
 marks-false (false ∷ ms) e (suc t) = marks-false ms e t
 
-module _ (ms : List Bool) (t : ℕ) where
-  -- the mark at place t, and those after it
-  some-from : t < length ms → some_mark (drop t ms) ≡ (marks_of ms t || some_mark (drop (suc t) ms))
-  unfolding some_mark
-  some-from lt = ap some_mark (drop-cons ms t false lt)
-
-  pub some-here : t < length ms → marks_of ms t ≡ true → some_mark (drop t ms) ≡ true
-  some-here lt e = some-from lt ∙ rw e
-
-  pub some_after : t < length ms → marks_of ms t ≡ false → some_mark (drop (t + 1) ms) ≡ some_mark (drop t ms)
-  some_after lt e = rw (add-one t) (sym (some-from lt ∙ rw e))
-
-  pub some_end : length ms ≤ t → some_mark (drop t ms) ≡ false
-  unfolding some_mark
-  some_end le = ap some_mark (drop_of_length-le ms {i = t} le)
+-- the search for true finds one
+pub some-searched : (ms : List Bool) → list_any (λ m. beq m true) ms ≡ some_mark ms
+unfolding some_mark
+some-searched [] = refl
+some-searched (true ∷ ms) = refl
+some-searched (false ∷ ms) = some-searched ms
 
 -- ---- one row
 

@@ -1,6 +1,6 @@
 -- One touch of a pass: its excess is small, and what the two numbers of its segment tell is what the definitions say.
-use Prim.Native.Nat.{ℕ, suc, ◌-◌, ◌*◌, ◌^◌, ◌<◌}
-use mathlib.Core.Path.{◌≡◌, refl, ap}
+use Prim.Native.Nat.{ℕ, ◌-◌, ◌*◌, ◌^◌, ◌<◌}
+use mathlib.Core.Path.{◌≡◌, refl}
 use mathlib.Core.Bool.{Bool, true, false, cond}
 use mathlib.Core.Option.{Option, none, some}
 use native.Mathlib.Omega.{arith}
@@ -12,16 +12,11 @@ use Rattle.model.specs.Figures.{of_time, is_reuse, kept}
 use Rattle.model.specs.LastTouches.{last_table}
 use Rattle.model.specs.Traces.{Trace, size_of, swap_of}
 use Rattle.model.specs.declared.Kind.{Kind}
-use Rattle.model.specs.declared.Priced.{Priced}
 use Rattle.model.specs.declared.PriceRow.{PriceRow}
 use Rattle.model.proofs.Bounds.{product-within, retention_within}
 use Rattle.model.proofs.LastTouches.{last-time}
 use Rattle.stores.specs.Modtotal.{excess, plus, or_store, joins}
-use Rattle.store_plan.specs.inner.Touches.{code_of, excess_by, kept_by, code_plus, code_after, store_by, joins_by}
-
--- a priced amount is its number
-pub priced-is : {u : Priced} {n : ℕ} → u.0 ≡ n → u ≡ record { 0 = n }
-priced-is e = ap {B = Priced} (λ n. record { 0 = n }) e
+use Rattle.store_plan.specs.inner.Touches.{held_since, excess_by, kept_by, since_plus, since_after, store_by, joins_by}
 
 -- an excess of 16-bit numbers
 pub excess_small : (kind : Kind) (a : ℕ) (row : PriceRow) (z mark t : ℕ) → z < 2 ^ 16 → t < 2 ^ 16 → row.d < 2 ^ 16
@@ -37,27 +32,23 @@ excess_small kind a row z mark t lz lt ld = go (leb mark t)
         )
     go false = omega arith
 
--- the number of an excess or none: with x more, after a touch, and what it tells of a touch: what that adds, and whether it joins
-pub code-plus : (e : Option ℕ) (x : ℕ) → code_plus (code_of e) x ≡ code_of (plus e x)
-code-plus none x = refl
-code-plus (some e) x = rw (ne_eqb (suc e) 0 (λ z. omega arith)) (omega arith)
+-- an excess or none, as it is held: with x more, after a touch, and what it tells of a touch: what that adds, and whether it joins
+pub held-plus : (e : Option ℕ) (x : ℕ) → since_plus (held_since e) x ≡ held_since (plus e x)
+held-plus none x = refl
+held-plus (some e) x = refl
 
-pub code-after : (g : Bool) (e : Option ℕ) → code_after g (code_of e) ≡ code_of (cond g (some 0) e)
-code-after true e = refl
-code-after false e = refl
+pub held-after : (g : Bool) (e : Option ℕ) → since_after g (held_since e) ≡ held_since (cond g (some 0) e)
+held-after true e = refl
+held-after false e = refl
 
-pub code-store : (g : Bool) (hw : ℕ) (e : Option ℕ) → store_by g hw (code_of e) ≡ cond g (or_store hw e) 0
-code-store true hw none = refl
-code-store true hw (some e) =
-    let less : suc e - 1 ≡ e = omega arith in
-    rw (ne_eqb (suc e) 0 (λ z. omega arith), less)
-code-store false hw e = refl
+pub held-store : (g : Bool) (hw : ℕ) (e : Option ℕ) → store_by g hw (held_since e) ≡ cond g (or_store hw e) 0
+held-store true hw none = refl
+held-store true hw (some e) = refl
+held-store false hw e = refl
 
-pub code-joins : (hw : ℕ) (e : Option ℕ) → joins_by hw (code_of e) ≡ joins hw e
-code-joins hw none = refl
-code-joins hw (some e) =
-    let less : suc e - 1 ≡ e = omega arith in
-    rw (ne_eqb (suc e) 0 (λ z. omega arith), less)
+pub held-joins : (hw : ℕ) (e : Option ℕ) → joins_by hw (held_since e) ≡ joins hw e
+held-joins hw none = refl
+held-joins hw (some e) = refl
 
 -- the mark in the table of last touches tells the excess of a touch, and whether it is a kept reuse
 module _ (T : Trace) (row : PriceRow) (t i : ℕ) (few : i < 256) (short : t < 65535) where

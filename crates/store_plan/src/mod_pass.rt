@@ -3,65 +3,49 @@
 pub mod touching;
 
 ghost use Rattle.std.specs.Prelude.{◌≡◌};
-ghost use Rattle.model.specs.Sheets.{run_of, marks_of};
-ghost use Rattle.store_plan.specs.inner.Decisions.{no_decisions, Markable, FoundIn};
+ghost use Rattle.model.specs.Sheets.{marks_of};
+ghost use Rattle.schedule.specs.inner.Runs.{trace};
+ghost use Rattle.store_plan.specs.inner.Decisions.{Markable, FoundIn};
 
-use model::{Kind, PriceRow, Priced, Sheet};
-use touching::{none_since, touch};
+use model::{PriceRow, Priced, Sheet};
+use schedule::Run;
+use touching::{Decision, touch};
 
-// For each step whether its touch is a kept reuse, and whether, modifying, it belongs to the stay of the modifying touch before; and what
-// all modifying touches add to opttotal: modtotal less opttotal.
+// For each step what is found of its touch, and what all modifying touches add to opttotal: modtotal less opttotal.
 #[derive(Clone, Copy)]
 pub struct Found {
-    pub kept: [bool; Sheet::MAX_STEPS],
-    pub joined: [bool; Sheet::MAX_STEPS],
+    pub decisions: [Decision; Sheet::MAX_STEPS],
     pub added: Priced,
 }
 
-// No touch is decided so.
-pub(crate) fn no_decisions() -> [bool; Sheet::MAX_STEPS]
-    ensures { result ≡ no_decisions }
-{
-    [false; Sheet::MAX_STEPS]
-}
-
 // The pass over the references, from the warm segments on.
-pub(crate) fn find(
-    kind: Kind,
-    a: u8,
-    row: PriceRow,
-    sizes: &[u16],
-    warm: &[u16],
-    refs: &[u16],
-    marks: &[bool],
-) -> Found
-    requires { Markable (run_of kind a sizes.now warm.now refs.now) marks.now }
-    ensures { FoundIn (run_of kind a sizes.now warm.now refs.now) (marks_of marks.now) row result }
+pub(crate) fn find(run: &Run, row: PriceRow, marks: &[bool]) -> Found
+    requires { Markable (trace run.now) marks.now }
+    ensures { FoundIn (trace run.now) (marks_of marks.now) row result }
 {
-    let mut kept = no_decisions();
-    let mut joined = no_decisions();
-    let mut last = model::start_table(warm);
-    let mut since = none_since();
+    let none = Decision {
+        kept: false,
+        joined: false,
+    };
+    let mut decisions = [none; Sheet::MAX_STEPS];
+    let mut last = model::start_table(run.warm);
+    let mut since = [None; Sheet::MAX_SEGS];
     let mut added: u64 = 0;
-    let mut t: usize = 0;
-    while t < refs.len() {
-        let i = refs[t] as usize;
-        if i < sizes.len() {
-            let z = sizes[i];
-            let x = touch(kind, a, row, z, last[i], since[i], t as u16, marks[t]);
-            kept[t] = x.kept;
-            joined[t] = x.joined;
+    for (t, entry) in run.refs.iter().enumerate() {
+        let i = *entry as usize;
+        if i < run.sizes.len() {
+            let z = run.sizes[i];
+            let x = touch(
+                run.kind, run.a, row, z, last[i], since[i], t as u16, marks[t],
+            );
+            decisions[t] = x.decision;
             added += x.added.0;
             since[i] = x.since;
-            t += 1;
-            last[i] = t as u16;
-        } else {
-            t += 1;
+            last[i] = t as u16 + 1;
         }
     }
     Found {
-        kept,
-        joined,
+        decisions,
         added: Priced(added),
     }
 }

@@ -1,4 +1,7 @@
 -- What is answered for the schedules of a row of a sheet with marks, computed from the definitions.
+use Rattle.std.specs.Prelude.{Result, Ok, Err}
+use Rattle.model.specs.declared.Refusal.{Refusal}
+use Rattle.model.specs.declared.Price.{Price}
 use Prim.Native.Nat.{ℕ}
 use mathlib.Core.Path.{◌≡◌, refl}
 use mathlib.Core.Bool.{true, false}
@@ -6,15 +9,14 @@ use mathlib.Core.List.{List, [], ◌∷◌, ◌++◌}
 use lib.ListN.{replicate}
 use Rattle.model.specs.Decisions.{held_byte, held_bytes}
 use Rattle.model.specs.Figures.{kept, ref_cost}
-use Rattle.model.specs.Places.{gives, refuses}
 use Rattle.model.specs.Pricing.{missing, enters, some_enters, step_verdict, steps_verdict, schedule_verdict}
-use Rattle.model.specs.Refusals.{verdict_number}
+use Rattle.model.specs.Refusals.{verdict_number, value_or_zero}
+use Rattle.model.specs.Pricing.{no_price}
 use Rattle.model.specs.Schedules.{held, schedule_memory, schedule_load, next_kept, optimal_held, optimal_byte, optimal_schedule}
 use Rattle.model.specs.Sheets.{SheetValue, listed}
 use Rattle.model.specs.Sums.{sum, tabulate}
 use Rattle.model.specs.Traces.{touching, later, unreferenced}
 use Rattle.model.specs.declared.Kind.TheVariants.{Time}
-use Rattle.model.specs.declared.PriceAnswer.{PriceAnswer}
 use Rattle.model.specs.declared.Refusal.TheVariants.{NoSuchRow}
 use Rattle.stores.specs.Modtotal.{since_mark, store_cost, joins_before, next_marked, mod_held, mod_schedule}
 use Rattle.stores.specs.Plans.{schedule_for, modified_for, priced_at, price_for}
@@ -37,28 +39,29 @@ bytes_of [] = []
 bytes_of (x ∷ xs) = (x ∷ replicate 31 0) ++ bytes_of xs
 
 -- the schedule of document 01, and that of request F-13
-keeps : schedule_for sheet 0 ≡ gives (bytes_of (1 ∷ 2 ∷ 2 ∷ 1 ∷ []))
+keeps : schedule_for sheet 0 ≡ Ok (bytes_of (1 ∷ 2 ∷ 2 ∷ 1 ∷ []))
 unfolding sheet bytes_of schedule_for optimal_schedule optimal_byte optimal_held next_kept kept sum tabulate touching later unreferenced
     listed
 keeps = refl
 
-stays : modified_for sheet 0 ≡ gives (bytes_of (1 ∷ 3 ∷ 3 ∷ 1 ∷ []))
+stays : modified_for sheet 0 ≡ Ok (bytes_of (1 ∷ 3 ∷ 3 ∷ 1 ∷ []))
 unfolding sheet bytes_of modified_for mod_schedule mod_held joins_before next_marked since_mark store_cost next_kept kept held_byte
     held_bytes sum tabulate touching later unreferenced listed
 stays = refl
 
 -- 7 where there is no such row
-no_row : schedule_for sheet 1 ≡ refuses NoSuchRow
+no_row : schedule_for sheet 1 ≡ Err NoSuchRow
 unfolding sheet schedule_for
 no_row = refl
 
-no-row-modified : modified_for sheet 1 ≡ refuses NoSuchRow
+no-row-modified : modified_for sheet 1 ≡ Err NoSuchRow
 unfolding sheet modified_for
 no-row-modified = refl
 
 -- the numbers of a price: its number, memory, load and total
-price_numbers : PriceAnswer → List ℕ
-price_numbers p = verdict_number p.verdict ∷ p.memory.0 ∷ p.load.0 ∷ p.total ∷ []
+price_numbers : Result Price Refusal → List ℕ
+price_numbers p = verdict_number p ∷ (value_or_zero no_price p).memory.0 ∷ (value_or_zero no_price p).load.0
+    ∷ (value_or_zero no_price p).total ∷ []
 
 -- the prices of both with stores counted; 7 before 8; 8, 9 and 10
 priced : price_numbers (price_for sheet 0 (bytes_of (1 ∷ 2 ∷ 2 ∷ 1 ∷ []))) ++ price_numbers

@@ -6,7 +6,6 @@ use Rattle.model.specs.Refusals.{verdict_number}
 use Rattle.model.specs.Sheets.{SheetValue}
 use Rattle.model.specs.declared.Kind.TheVariants.{Time}
 use Rattle.tariff.specs.Billing.{row_bill, bill_for, tariff_of}
-use Rattle.tariff.specs.Tariff.{tariff_in_range}
 
 -- a sheet of one row, 1/1, and no step
 sheet : SheetValue
@@ -20,7 +19,7 @@ sheet =
 
 -- the number at row r, by two rates and a minimum
 number : ℕ → ℕ → ℕ → ℕ → ℕ
-number r m l least = verdict_number (bill_for sheet r (tariff_of m l least)).verdict
+number r m l least = verdict_number (bill_for sheet r (tariff_of m l least))
 
 -- the largest rates and minimum, and one more of each; a row that there is not, and that with a rate out of range: 7 before 18
 numbers : number 0 9999 9999 99999
@@ -31,5 +30,5 @@ numbers : number 0 9999 9999 99999
     ∷ number 1 10000 0 0
     ∷ []
     ≡ 0 ∷ 18 ∷ 18 ∷ 18 ∷ 7 ∷ 7 ∷ []
-unfolding number sheet bill_for row_bill tariff_in_range
+unfolding number sheet bill_for row_bill
 numbers = refl

@@ -3,33 +3,13 @@
 #![tactic(auto)]
 
 ghost use Rattle.std.specs.Prelude.{true, ◌≡◌, ◌<◌, ◌^◌};
-ghost use Rattle.tariff.specs.Billing.{no_bill};
 ghost use Rattle.tariff.specs.Tariff.{tariff_in_range, started_thousands, bill_of};
 
-use model::{LoadUnits, MemoryUnits, Refusal, Verdict};
+use model::{LoadUnits, MemoryUnits};
 
 // An amount in cents.
-#[derive(Clone, Copy)]
+#[derive(Clone, Copy, Debug, PartialEq, Eq)]
 pub struct Cents(pub u64);
-
-// A bill; 0 where the call is refused.
-#[derive(Clone, Copy)]
-pub struct BillAnswer {
-    pub verdict: Verdict,
-    pub cents: Cents,
-}
-
-impl BillAnswer {
-    // No bill, and why.
-    pub fn refused(why: Refusal) -> BillAnswer
-        ensures { result ≡ no_bill why }
-    {
-        BillAnswer {
-            verdict: Verdict::Refused(why),
-            cents: Cents(0),
-        }
-    }
-}
 
 // Cents for each started 1,000 memory units and for each started 1,000 load units, and the least that a bill comes to.
 #[derive(Clone, Copy)]
@@ -57,13 +37,9 @@ impl Tariff {
     pub fn in_range(self) -> bool
         ensures { result ≡ tariff_in_range self }
     {
-        if Tariff::MAX_RATE < self.memory_rate {
-            return false;
-        }
-        if Tariff::MAX_RATE < self.load_rate {
-            return false;
-        }
-        self.minimum <= Tariff::MAX_MINIMUM
+        self.memory_rate <= Tariff::MAX_RATE
+            && self.load_rate <= Tariff::MAX_RATE
+            && self.minimum <= Tariff::MAX_MINIMUM
     }
 
     // The bill of an amount of memory and an amount of load: the one place where the two become cents.
@@ -75,10 +51,6 @@ impl Tariff {
     {
         let for_memory = started_thousands(memory.0) * self.memory_rate;
         let for_load = started_thousands(load.0) * self.load_rate;
-        let charge = for_memory + for_load;
-        if charge < self.minimum {
-            return Cents(self.minimum);
-        }
-        Cents(charge)
+        Cents(self.minimum.max(for_memory + for_load))
     }
 }

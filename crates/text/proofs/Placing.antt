@@ -1,4 +1,5 @@
 -- What a call that puts a text at the front of a lent place answers and leaves there.
+use Rattle.std.specs.Prelude.{Ok}
 use Prim.Native.Nat.{ℕ, ◌+◌}
 use mathlib.Core.Path.{◌≡◌}
 use mathlib.Core.List.{List}
@@ -7,13 +8,12 @@ use native.Mathlib.Omega.{arith}
 use borrow.Author.Tests.{le-leb}
 use lib.ListN.{length, take, drop}
 use lib.Seq.{take_at}
-use Rattle.model.specs.Places.{placed, place_answer, gives, PlaceLeft}
-use Rattle.model.specs.declared.Verdict.TheVariants.{Accepted}
+use Rattle.model.specs.Places.{placed, place_answer, PlaceLeft}
 use Rattle.text.specs.inner.Puts.{put_at, Put}
 
 -- the text that was put is what is left in the place
 pub text-put : (t p : List ℕ) (n e : ℕ) (q : List ℕ) → n ≡ length t → Put t 0 p e q
-    → PlaceLeft (gives t) p q (record { verdict = Accepted; length = n })
+    → PlaceLeft (Ok t) p q (Ok n)
 unfolding placed place_answer put_at
 text-put t p n e q l f =
     let h = le-leb (length t) (length p) (omega (arith, f.fits)) in

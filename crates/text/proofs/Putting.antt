@@ -5,8 +5,9 @@ use mathlib.Core.List.{List, [], ◌∷◌, ◌++◌, append_assoc}
 use native.Mathlib.Nat.{add-zero, add_assoc}
 use native.Mathlib.Numerals.{add-one}
 use native.Mathlib.Omega.{arith}
-use lib.ListN.{length, take, drop, set, get_or, length-append, length-take, length-drop, take-append-drop}
-use lib.Seq.{length-take-le, take_at, take-suc, drop-append-add, drop-drop, set_split}
+use borrow.Rule.Slice.PartMut.{put_mid}
+use lib.ListN.{length, take, drop, set, length-append, length-take, length-drop, take-append-drop}
+use lib.Seq.{length-take-le, take_at, drop-append-add, drop-drop, set_split}
 use Rattle.text.specs.inner.Puts.{put_at, Put}
 
 -- a place keeps its length
@@ -64,11 +65,11 @@ put_then {x} {y} {p} {q} {r} {at} {m} {e} f g =
       holds = g.holds ∙ rw (f.holds, f.ends) (put-put at x y p f.fits);
     }
 
--- one byte more of a text
-pub put_next : (text : List ℕ) (i at : ℕ) (p q : List ℕ) → i < length text → at + length text ≤ length p → length q ≡ length p
-    → Put (take i text) at p (at + i) q → Put (take (i + 1) text) at p (at + (i + 1)) (set q (at + i) (get_or text i 0))
-put_next text i at p q h room l f =
-    rw (add-one i, take-suc text i 0 h, ← add-one i, ← add_assoc) (put_then f (put_byte (get_or text i 0) (at + i) q (omega arith)))
+-- a text copied into the part of the place that it fills
+pub put_copied : (text : List ℕ) (at : ℕ) (place : List ℕ) {k end : ℕ} {part : List ℕ} → k ≡ length text → end ≡ at + length text
+    → at + length text ≤ length place → part ≡ text → Put text at place end (put_mid at k place part)
+unfolding put_at
+put_copied text at place e g f h = record { fits = f; ends = g; holds = rw (h, e, drop-drop) }
 
 -- ---- part after part
 

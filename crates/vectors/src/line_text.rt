@@ -8,27 +8,22 @@ pub fn find(s: &[u8], at: usize, end: usize, byte: u8) -> usize
     ensures before { (k : ℕ) → at ≤ k → k < result → slice_index s.now k ≢ byte }
     ensures found { result < end → slice_index s.now result ≡ byte }
 {
-    let mut i = at;
-    while i < end {
+    for i in at..end {
         if s[i] == byte {
             return i;
         }
-        i += 1;
     }
-    i
+    end
 }
 
 // The number after the last blank. One of more than 64 bits comes out wrong.
 pub fn number(head: &[u8]) -> u64 {
     let mut n: u64 = 0;
-    let mut i: usize = 0;
-    while i < head.len() {
-        let b = head[i];
+    for b in head {
         n = (n % 1844674407370955162 * 10).wrapping_add((b % 16) as u64);
-        if b == 32 {
+        if *b == 32 {
             n = 0;
         }
-        i += 1;
     }
     n
 }
@@ -59,10 +54,8 @@ pub fn put(place: &mut [u8], at: usize, text: &[u8], times: u64) -> usize {
     let each = (text.len() - 3) as u64;
     let bytes = times % 65536 * (each % 65536);
     let mut to = at;
-    let mut k: u64 = 0;
-    while k < bytes {
+    for k in 0..bytes {
         let b = value(text[2 + (k % each) as usize]);
-        k += 1;
         if to < place.len() {
             place[to] = b;
             to += 1;

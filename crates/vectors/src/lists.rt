@@ -1,19 +1,14 @@
 // Lists of numbers that a call writes, each number printed after a blank.
-use crate::show::value;
-use model::{PlaceAnswer, Sheet};
+use crate::show::{refusal, value};
+use model::{Refusal, Sheet};
+use replacement::Curve;
 use std::io::{self, Print, Stdout};
 
 // The refusal of a call, and the numbers that it wrote into a list.
-fn numbers(out: &Stdout, answer: PlaceAnswer, list: &[u64]) -> io::Result<()> {
-    let verdict = answer.verdict;
-    value(out, model::verdict_number(verdict))?;
-    let n = answer.length;
-    let mut i: usize = 0;
-    while i < list.len() {
-        if i < n {
-            value(out, list[i])?;
-        }
-        i += 1;
+fn numbers(out: &Stdout, answer: Result<usize, Refusal>, list: &[u64]) -> io::Result<()> {
+    refusal(out, &answer)?;
+    for n in list.iter().take(answer.unwrap_or(0)) {
+        value(out, *n)?;
     }
     Ok(())
 }
@@ -22,8 +17,8 @@ fn numbers(out: &Stdout, answer: PlaceAnswer, list: &[u64]) -> io::Result<()> {
 pub fn used(out: &Stdout, sheet: &[u8]) -> io::Result<()> {
     let mut list = [0u64; Sheet::MAX_SEGS];
     let answer = analyser::curves::lru(sheet, &mut list);
-    numbers(out, answer.placed, &list)?;
-    value(out, answer.looked)?;
+    numbers(out, answer.map(|curve| curve.length), &list)?;
+    value(out, answer.unwrap_or(Curve::zero()).looked)?;
     let mut plain = [0u64; Sheet::MAX_SEGS];
     let other = analyser::curves::lru_plain(sheet, &mut plain);
     numbers(out, other, &plain)

@@ -2,8 +2,6 @@
 // calls, as its first lines explain; the file stdout has the answers.
 #![tactic(auto)]
 
-ghost use Rattle.std.specs.Prelude.{◌+◌, ◌≤◌, length, IfOk};
-
 mod line_text;
 mod lists;
 mod parts;
@@ -11,34 +9,11 @@ mod show;
 mod texts;
 
 use line_text::{find, number, put};
-use std::io::{self, Print, Read, Stdin, Stdout};
-
-// One read into a buffer from `at` on: how many bytes.
-fn read_some(input: &mut Stdin, buf: &mut [u8], at: usize) -> io::Result<usize>
-    requires { at ≤ length buf.old }
-    ensures { IfOk result (λ n. at + n ≤ length buf.new) }
-{
-    input.read(&mut buf[at..])
-}
-
-// Reads until the buffer is full or the input ends: how many bytes.
-fn read_full(input: &mut Stdin, buf: &mut [u8]) -> io::Result<usize>
-    ensures { IfOk result (λ n. n ≤ length buf.new) }
-{
-    let mut done = 0;
-    while done < buf.len() {
-        let more = read_some(input, buf, done)?;
-        if more == 0 {
-            return Ok(done);
-        }
-        done += more;
-    }
-    Ok(done)
-}
+use std::io::{self, Print, Stdout};
 
 fn main(rt: HostRuntime) -> io::Result<()> {
     let mut input = [0u8; 65536];
-    let n = read_full(&mut rt.stdin(), &mut input)?;
+    let n = input::read_input(&mut rt.stdin(), &mut input)?;
     let mut sheet = [0u8; 65536];
     let mut place = [0u8; 65536];
     lines(&rt.stdout(), &input[..n], &mut sheet, &mut place)
@@ -49,6 +24,7 @@ fn main(rt: HostRuntime) -> io::Result<()> {
 fn lines(out: &Stdout, input: &[u8], sheet: &mut [u8], place: &mut [u8]) -> io::Result<()> {
     let mut held = [0usize; 2];
     let mut at: usize = 0;
+    // Each line says where the next one begins.
     while at < input.len() {
         let end = find(input, at, input.len() - 1, 10);
         let colon = find(input, at, end, 58);

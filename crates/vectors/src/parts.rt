@@ -10,12 +10,7 @@ pub fn part(out: &Stdout, sheet: &[u8], at: usize) -> io::Result<()> {
     out.write_all(reader::value_at(sheet, at))?;
     let next = reader::place_after(sheet, at);
     value(out, next as u64)?;
-    if reader::ends_at(sheet, next) {
-        value(out, 1)?;
-    } else {
-        value(out, 0)?;
-    }
-    Ok(())
+    value(out, u64::from(reader::ends_at(sheet, next)))
 }
 
 // The value of a line, counted from 0.
@@ -41,9 +36,8 @@ fn items(out: &Stdout, f: RowFigures) -> io::Result<()> {
 // The row records in a list of 64: the refusal, how many were written, and the first three of the list.
 pub fn records(out: &Stdout, sheet: &[u8]) -> io::Result<()> {
     let all = row_records::filled_list(sheet);
-    let answer = all.answer;
     let list = all.figures;
-    placed(out, answer)?;
+    placed(out, all.answer)?;
     items(out, list[0])?;
     items(out, list[1])?;
     items(out, list[2])

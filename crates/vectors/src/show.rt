@@ -1,5 +1,5 @@
 // Printing what a call answers, each number after a blank.
-use model::PlaceAnswer;
+use model::{Price, Refusal, RowFigures};
 use std::io::{self, Print, Stdout};
 
 // A blank and a number.
@@ -7,17 +7,22 @@ pub fn value(out: &Stdout, n: u64) -> io::Result<()> {
     print!(out; " {n}")
 }
 
+// The number of the refusal, 0 where a call was carried out.
+pub fn refusal<T>(out: &Stdout, answer: &Result<T, Refusal>) -> io::Result<()> {
+    match answer {
+        Ok(_) => value(out, 0),
+        Err(why) => value(out, why.number()),
+    }
+}
+
 // What reading a sheet answers: the number of the refusal, 0 where it is accepted.
 pub fn read(out: &Stdout, sheet: &[u8]) -> io::Result<()> {
-    let answer = analyser::sheets::read(sheet);
-    let verdict = answer.verdict;
-    value(out, model::verdict_number(verdict))
+    refusal(out, &analyser::sheets::read(sheet))
 }
 
 // Misses and volume of a row, then optocc and wsocc, the columns of Table II, or optmem and wsmem, those of Table III.
 pub fn figures(out: &Stdout, sheet: &[u8], row: usize, time: bool) -> io::Result<()> {
-    let answer = analyser::figuring::figures(sheet, row);
-    let f = answer.figures;
+    let f = analyser::figuring::figures(sheet, row).unwrap_or(RowFigures::zero());
     value(out, f.misses)?;
     value(out, f.volume)?;
     if time {
@@ -33,11 +38,11 @@ pub fn figures(out: &Stdout, sheet: &[u8], row: usize, time: bool) -> io::Result
 // What pricing a schedule at a row answers: the refusal, memory, load and total.
 pub fn cost(out: &Stdout, sheet: &[u8], row: usize, schedule: &[u8]) -> io::Result<()> {
     let answer = analyser::schedules::price(sheet, row, schedule);
-    let verdict = answer.verdict;
-    value(out, model::verdict_number(verdict))?;
-    value(out, answer.memory.0)?;
-    value(out, answer.load.0)?;
-    value(out, answer.total)
+    refusal(out, &answer)?;
+    let price = answer.unwrap_or(Price::zero());
+    value(out, price.memory.0)?;
+    value(out, price.load.0)?;
+    value(out, price.total)
 }
 
 // What writing the optimal schedule of a row answers.
@@ -53,27 +58,24 @@ pub fn best(out: &Stdout, sheet: &[u8], row: usize, place: &mut [u8]) -> io::Res
 }
 
 // The refusal and the length of a schedule that was written into a place; then how many bytes of the place are still 170.
-fn written(out: &Stdout, answer: PlaceAnswer, place: &[u8]) -> io::Result<()> {
+fn written(out: &Stdout, answer: Result<usize, Refusal>, place: &[u8]) -> io::Result<()> {
     placed(out, answer)?;
     value(out, unchanged(place))
 }
 
 // The refusal and the length of what was written into a place.
-pub fn placed(out: &Stdout, answer: PlaceAnswer) -> io::Result<()> {
-    let verdict = answer.verdict;
-    value(out, model::verdict_number(verdict))?;
-    value(out, answer.length as u64)
+pub fn placed(out: &Stdout, answer: Result<usize, Refusal>) -> io::Result<()> {
+    refusal(out, &answer)?;
+    value(out, answer.unwrap_or(0) as u64)
 }
 
 // How many bytes of a place are 170.
 fn unchanged(place: &[u8]) -> u64 {
     let mut n: u64 = 0;
-    let mut i: usize = 0;
-    while i < place.len() {
-        if place[i] == 170 {
+    for b in place {
+        if *b == 170 {
             n += 1;
         }
-        i += 1;
     }
     n
 }

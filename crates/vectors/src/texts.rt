@@ -1,11 +1,11 @@
 // Texts that a call writes, printed whole before the refusal and the length.
 use crate::show::placed;
-use model::PlaceAnswer;
+use model::Refusal;
 use std::io::{self, Print, Stdout};
 
 // The front of a place, as long as an answer says, and the answer.
-fn text(out: &Stdout, answer: PlaceAnswer, place: &[u8]) -> io::Result<()> {
-    let n = answer.length;
+fn text(out: &Stdout, answer: Result<usize, Refusal>, place: &[u8]) -> io::Result<()> {
+    let n = answer.unwrap_or(0);
     if n <= place.len() {
         out.write_all(&place[..n])?;
     }

@@ -6,8 +6,8 @@ use mathlib.Core.List.{List, []}
 use mathlib.Core.Option.{Option, none, some}
 use native.Mathlib.Omega.{arith}
 use native.Mathlib.Numerals.{add-one}
-use lib.Dec.{eqb, leb}
-use lib.ListN.{length, get_or, take, set, length-set, length-replicate}
+use lib.Dec.{eqb}
+use lib.ListN.{length, get_or, take, set}
 use lib.Seq.{get_or-take, length-take-le}
 use borrow.Author.Tests.{le-leb, lt-leb, eq-eqb, ne_eqb}
 use Rattle.model.specs.Figures.{of_time}
@@ -46,14 +46,6 @@ pub ends-step : (old counts new marks : List ℕ) (t i : ℕ) → counts ≡ wit
     → new ≡ with_ends old marks t (i + 1)
 unfolding with_ends
 ends-step old counts new marks t i e f = f ∙ rw (e, add-one i)
-
-pub interval-length : (counts : List ℕ) (mark t : ℕ) → length (with_interval counts mark t) ≡ length counts
-unfolding with_interval
-interval-length counts mark t = go (leb mark t)
-  where
-    go : (b : Bool) → length (cond b (set counts (t - mark + 1) (get_or counts (t - mark + 1) 0 + 1)) counts) ≡ length counts
-    go true = length-set counts (t - mark + 1) (get_or counts (t - mark + 1) 0 + 1)
-    go false = refl
 
 -- an interval adds at most 1 to a count
 one-interval : (u : ℕ) (o : Option ℕ) → of_time (of_length u) o ≤ 1
@@ -150,13 +142,6 @@ module _ (T : Trace) (few : segs T ≤ 256) (short : steps T ≤ 2048) where
         touches_are = rw (add-one t) (omega (arith, v.touches_are, sum-suc t (touching T (λ t i. 1)), touching-idle T (λ t i. 1) t idle));
         last_is = rw (add-one t) (v.last_is ∙ last_table-idle T t idle);
       }
-
-  -- the counts keep their length
-  pub passing-length : (old counts last : List ℕ) (touches t : ℕ) → old ≡ no_counts → Passing T counts touches last t
-      → length counts ≡ length old
-  unfolding no_counts reuse_counts
-  passing-length old counts last touches t e v =
-      rw (e, v.counts_are) (length-tabulate lengths (reuse_count T t) ∙ sym (length-replicate {A = ℕ} lengths 0))
 
   -- after all steps
   pub passing_done : (counts last : List ℕ) (touches t : ℕ) → Passing T counts touches last t → t ≡ steps T

@@ -1,14 +1,14 @@
 // The window recursion over a run: its reuses and end intervals are counted by length, and one addition and one subtraction give each
-// window. What the values are is written in crate `windows`.
+// window. What the values are is written in crate `windows`. Sizes and references pass as lent u16 slices, as document 01 asks.
 ghost use Rattle.std.specs.Prelude.{◌≡◌, ◌++◌, ℕ, ◌≤◌, length, drop};
-ghost use Rattle.model.specs.Places.{gives, PlaceLeft};
+ghost use Rattle.model.specs.Places.{PlaceLeft};
 ghost use Rattle.model.specs.Sheets.{RunWithin, most_steps};
 ghost use Rattle.model.specs.Traces.{steps, refs_of};
 ghost use Rattle.model.specs.LastTouches.{last_table};
 ghost use Rattle.windows.specs.Windows.{window_run, window_list};
 ghost use Rattle.window_list.specs.inner.Counts.{no_counts, Room, with_interval, with_ends, reuse_counts};
 
-use model::{PlaceAnswer, Refusal, Sheet, Verdict};
+use model::{Refusal, Sheet};
 
 // The counts by length: a place for each number of steps from 0 to one more than the most.
 const LENGTHS: usize = Sheet::MAX_STEPS + 2;
@@ -20,20 +20,13 @@ struct Passed {
     last: [u16; Sheet::MAX_SEGS],
 }
 
-// No interval is counted.
-fn no_counts() -> [u16; LENGTHS]
-    ensures { result ≡ no_counts }
-{
-    [0; LENGTHS]
-}
-
 // Counts the interval that ends after so many steps, of a segment with that mark in the table of last touches; an untouched one has none.
 fn count(counts: &mut [u16], mark: u16, steps: u16)
     requires { (steps ≤ most_steps) × Room counts.old }
     ensures { counts.new ≡ with_interval counts.old mark steps }
 {
     if mark <= steps {
-        let u = (steps - mark) as usize + 1;
+        let u = usize::from(steps - mark) + 1;
         counts[u] += 1;
     }
 }
@@ -47,21 +40,16 @@ fn count_reuses(sizes: &[u16], refs: &[u16], counts: &mut [u16]) -> Passed
     ensures counts_after { counts.new ≡ reuse_counts (window_run sizes.now refs.now) (length refs.now) }
 {
     let mut touches = 0;
-    let mut last = model::start_table(&refs[..0]);
-    let mut t = 0;
-    while t < refs.len() {
-        let i = refs[t] as usize;
+    let mut last = model::start_table(&[]);
+    for (t, &entry) in refs.iter().enumerate() {
+        let i = usize::from(entry);
         if i < sizes.len() {
             count(counts, last[i], t as u16);
             touches += 1;
             last[i] = (t + 1) as u16;
         }
-        t += 1;
     }
-    Passed {
-        touches: touches,
-        last: last,
-    }
+    Passed { touches, last }
 }
 
 // Counts the end intervals after so many steps, of the segments with these marks in the table of last touches.
@@ -69,10 +57,8 @@ fn count_ends(marks: &[u16], steps: u16, counts: &mut [u16])
     requires { (steps ≤ most_steps) × ((n : ℕ) → n ≤ length marks.now → Room (with_ends counts.old marks.now steps n)) }
     ensures { counts.new ≡ with_ends counts.old marks.now steps (length marks.now) }
 {
-    let mut i = 0;
-    while i < marks.len() {
-        count(counts, marks[i], steps);
-        i += 1;
+    for &mark in marks {
+        count(counts, mark, steps);
     }
 }
 
@@ -83,36 +69,28 @@ fn write_windows(sizes: &[u16], refs: &[u16], out: &mut [u64])
     ensures { out.new
         ≡ window_list (window_run sizes.now refs.now) ++ drop (length refs.now) out.old }
 {
-    let mut counts = no_counts();
+    let mut counts = [0; LENGTHS];
     let passed = count_reuses(sizes, refs, &mut counts);
     let last = passed.last;
     let segs = sizes.len();
     count_ends(&last[..segs], refs.len() as u16, &mut counts);
     let mut value = passed.touches;
     let mut more = passed.touches;
-    let mut t = 0;
-    while t < refs.len() {
+    for t in 0..refs.len() {
         out[t] = value;
-        t += 1;
-        more -= counts[t] as u64;
+        more -= u64::from(counts[t + 1]);
         value += more;
     }
 }
 
 // The value of each window from 1 to the number of steps, at the head of a lent place; 11 where it is too short.
-pub fn windows(sizes: &[u16], refs: &[u16], out: &mut [u64]) -> PlaceAnswer
+pub fn windows(sizes: &[u16], refs: &[u16], out: &mut [u64]) -> Result<usize, Refusal>
     requires { RunWithin (window_run sizes.now refs.now) }
-    ensures { PlaceLeft (gives (window_list (window_run sizes.now refs.now))) out.old out.new result }
+    ensures { PlaceLeft (Ok (window_list (window_run sizes.now refs.now))) out.old out.new result }
 {
     if out.len() < refs.len() {
-        return PlaceAnswer {
-            verdict: Verdict::Refused(Refusal::PlaceTooShort),
-            length: 0,
-        };
+        return Err(Refusal::PlaceTooShort);
     }
     write_windows(sizes, refs, out);
-    PlaceAnswer {
-        verdict: Verdict::Accepted,
-        length: refs.len(),
-    }
+    Ok(refs.len())
 }

@@ -1,12 +1,11 @@
 -- The text of a head in the parts in which it is written, and the lengths of the parts.
-use Prim.Native.Nat.{ℕ, ◌+◌, ◌≤◌}
+use Prim.Native.Nat.{ℕ, ◌+◌}
 use mathlib.Core.Path.{◌≡◌}
 use mathlib.Core.Bool.{true, false}
 use mathlib.Core.List.{List, [], ◌++◌, append_assoc}
 use borrow.Table.Steps.{cases}
 use lib.Dec.{leb}
-use lib.ListN.{length, take, length-append}
-use lib.Seq.{length-take-le}
+use lib.ListN.{length, length-append}
 use Rattle.model.specs.Sheets.{HeadValue}
 use Rattle.model.specs.declared.Kind.{Kind}
 use Rattle.model.specs.declared.PriceRow.{PriceRow}
@@ -23,15 +22,11 @@ pub segments-length : (kind : Kind) (a : ℕ) (sizes : List ℕ) → length (seg
 unfolding segments_text
 segments-length kind a sizes = simp length-append
 
--- the lines of the first n rows, with their count
-pub priced-text : (qs : List PriceRow) (n : ℕ) → n ≤ length qs → priced_text (take n qs) ≡ number_text rows_key n ++ rows_text (take n qs)
+-- the lines of the rows, with their count
+pub priced-length : (qs : List PriceRow)
+    → length (priced_text qs) ≡ length (number_text rows_key (length qs)) + length (rows_text qs)
 unfolding priced_text
-priced-text qs n h = rw (length-take-le n qs h)
-
--- and their length
-pub priced-length : (qs : List PriceRow) (n : ℕ) → n ≤ length qs
-    → length (priced_text (take n qs)) ≡ length (number_text rows_key n) + length (rows_text (take n qs))
-priced-length qs n h = rw (priced-text qs n h) (length-append (number_text rows_key n) (rows_text (take n qs)))
+priced-length qs = simp length-append
 
 -- a head
 pub head-length : (form : ℕ) (h : HeadValue) → length (head_text form h)

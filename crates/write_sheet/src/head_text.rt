@@ -1,6 +1,8 @@
 // Writing the head of a sheet: the lengths of its lines, and the lines part after part, each from an index of the lent place on.
-// A count beyond its array counts the whole array. What the lines are stands in specs/Heads.antt.
-ghost use Rattle.std.specs.Prelude.{◌≡◌, ◌+◌, ◌≤◌, min, leb, length, take};
+// A count beyond its array counts the whole array. What the lines are stands in specs/Heads.antt. Numbers, rows and touches have loops of
+// their own: beside its element a line takes a key, nothing, or a step and its mark, so that one loop for all would take a closure from
+// each.
+ghost use Rattle.std.specs.Prelude.{◌≡◌, ◌+◌, ◌≤◌, leb, length};
 ghost use Rattle.model.specs.Sheets.{most_rows, most_steps};
 ghost use Rattle.model.specs.Values.{head_value_of};
 ghost use Rattle.text.specs.Keys.{kind_key, kind_word};
@@ -9,15 +11,8 @@ ghost use Rattle.text.specs.Texts.{line_text};
 ghost use Rattle.sheet.specs.Values.{row_text};
 ghost use Rattle.write_sheet.specs.inner.Heads.{counted_text, numbers_text, rows_text, segments_text, priced_text, warm_text, head_text};
 
-use model::{Head, Kind, PriceRow, Sheet};
+use model::{Head, Kind, PriceRow};
 use text::{number_length, put, put_digits, put_number};
-
-// The smaller of two numbers.
-pub fn least(n: usize, most: usize) -> usize
-    ensures { result ≡ min n most }
-{
-    if n < most { n } else { most }
-}
 
 // Whether a sheet of the form has lines of warm segments.
 fn has_warm(form: u8) -> bool
@@ -44,10 +39,8 @@ fn numbers_length(key: &[u8], xs: &[u16]) -> usize
     ensures { LengthOf (numbers_text key.now xs.now) 53248 result }
 {
     let mut sum: usize = 0;
-    let mut i = 0;
-    while i < xs.len() {
-        sum += number_length(key, xs[i] as u64);
-        i += 1;
+    for x in xs {
+        sum += number_length(key, *x as u64);
     }
     sum
 }
@@ -67,17 +60,14 @@ fn row_length(q: PriceRow) -> usize
     6 + decimal::width(q.h as u64) + decimal::width(q.d as u64)
 }
 
-// The length of the lines of the first `n` rows.
-fn rows_length(prices: [PriceRow; Sheet::MAX_ROWS], n: usize) -> usize
-    requires { n ≤ most_rows }
-    ensures { LengthOf (rows_text (take n prices)) 1024 result }
+// The length of the lines of rows.
+fn rows_length(rows: &[PriceRow]) -> usize
+    requires { length rows.now ≤ most_rows }
+    ensures { LengthOf (rows_text rows.now) 1024 result }
 {
     let mut sum: usize = 0;
-    let mut i = 0;
-    while i < n {
-        let q = prices[i];
-        sum += row_length(q);
-        i += 1;
+    for q in rows {
+        sum += row_length(*q);
     }
     sum
 }
@@ -90,12 +80,12 @@ fn segments_length(kind: Kind, a: u8, sizes: &[u16]) -> usize
     kind_length(kind) + number_length(b"a=", a as u64) + counted_length(b"segs=", b"size=", sizes)
 }
 
-// The length of the line that counts the first `n` rows, and of their lines.
-fn priced_length(prices: [PriceRow; Sheet::MAX_ROWS], n: usize) -> usize
-    requires { n ≤ most_rows }
-    ensures { LengthOf (priced_text (take n prices)) 1050 result }
+// The length of the line that counts the rows, and of their lines.
+fn priced_length(rows: &[PriceRow]) -> usize
+    requires { length rows.now ≤ most_rows }
+    ensures { LengthOf (priced_text rows.now) 1050 result }
 {
-    number_length(b"rows=", n as u64) + rows_length(prices, n)
+    number_length(b"rows=", rows.len() as u64) + rows_length(rows)
 }
 
 // The length of the lines of the warm segments, which a sheet has from form 3 on.
@@ -115,13 +105,13 @@ pub fn head_length(form: u8, head: Head) -> usize
 {
     let kind = head.kind;
     let sizes = head.sizes;
-    let segs = least(head.segs, sizes.len());
+    let segs = head.segs.min(sizes.len());
     let prices = head.prices;
-    let rows = least(head.rows, prices.len());
+    let rows = head.rows.min(prices.len());
     let holds = head.holds;
-    let warm = least(head.warm, holds.len());
+    let warm = head.warm.min(holds.len());
     segments_length(kind, head.a, &sizes[..segs])
-        + priced_length(prices, rows)
+        + priced_length(&prices[..rows])
         + warm_length(form, &holds[..warm])
 }
 
@@ -144,10 +134,8 @@ fn put_numbers(key: &[u8], xs: &[u16], out: &mut [u8], at: usize) -> usize
     ensures { Put (numbers_text key.now xs.now) at out.old result out.new }
 {
     let mut next = at;
-    let mut i = 0;
-    while i < xs.len() {
-        next = put_number(key, xs[i] as u64, out, next);
-        i += 1;
+    for x in xs {
+        next = put_number(key, *x as u64, out, next);
     }
     next
 }
@@ -168,21 +156,18 @@ fn put_row(q: PriceRow, out: &mut [u8], at: usize) -> usize
     ensures { Put (row_text q) at out.old result out.new }
 {
     let h = put(b"row=", out, at);
-    let d = put_digits(q.h as u64, 47, out, h);
-    put_digits(q.d as u64, 10, out, d)
+    let d = put_digits(q.h as u64, b'/', out, h);
+    put_digits(q.d as u64, b'\n', out, d)
 }
 
-// Writes a line for each of the first `n` rows, and gives the index after them.
-fn put_rows(prices: [PriceRow; Sheet::MAX_ROWS], n: usize, out: &mut [u8], at: usize) -> usize
-    requires { (n ≤ most_rows) × (at + length (rows_text (take n prices)) ≤ length out.old) }
-    ensures { Put (rows_text (take n prices)) at out.old result out.new }
+// Writes a line for each row, and gives the index after them.
+fn put_rows(rows: &[PriceRow], out: &mut [u8], at: usize) -> usize
+    requires { at + length (rows_text rows.now) ≤ length out.old }
+    ensures { Put (rows_text rows.now) at out.old result out.new }
 {
     let mut next = at;
-    let mut i = 0;
-    while i < n {
-        let q = prices[i];
-        next = put_row(q, out, next);
-        i += 1;
+    for q in rows {
+        next = put_row(*q, out, next);
     }
     next
 }
@@ -197,13 +182,13 @@ fn put_segments(kind: Kind, a: u8, sizes: &[u16], out: &mut [u8], at: usize) -> 
     put_counted(b"segs=", b"size=", sizes, out, count)
 }
 
-// Writes the line that counts the first `n` rows and a line for each, and gives the index after them.
-fn put_priced(prices: [PriceRow; Sheet::MAX_ROWS], n: usize, out: &mut [u8], at: usize) -> usize
-    requires { (n ≤ most_rows) × (at + length (priced_text (take n prices)) ≤ length out.old) }
-    ensures { Put (priced_text (take n prices)) at out.old result out.new }
+// Writes the line that counts the rows and a line for each, and gives the index after them.
+fn put_priced(rows: &[PriceRow], out: &mut [u8], at: usize) -> usize
+    requires { at + length (priced_text rows.now) ≤ length out.old }
+    ensures { Put (priced_text rows.now) at out.old result out.new }
 {
-    let first = put_number(b"rows=", n as u64, out, at);
-    put_rows(prices, n, out, first)
+    let first = put_number(b"rows=", rows.len() as u64, out, at);
+    put_rows(rows, out, first)
 }
 
 // Writes the lines of the warm segments, which a sheet has from form 3 on, and gives the index after them.
@@ -224,12 +209,12 @@ pub fn put_head(form: u8, head: Head, out: &mut [u8], at: usize) -> usize
 {
     let kind = head.kind;
     let sizes = head.sizes;
-    let segs = least(head.segs, sizes.len());
+    let segs = head.segs.min(sizes.len());
     let prices = head.prices;
-    let rows = least(head.rows, prices.len());
+    let rows = head.rows.min(prices.len());
     let holds = head.holds;
-    let warm = least(head.warm, holds.len());
+    let warm = head.warm.min(holds.len());
     let priced = put_segments(kind, head.a, &sizes[..segs], out, at);
-    let held = put_priced(prices, rows, out, priced);
+    let held = put_priced(&prices[..rows], out, priced);
     put_warm(form, &holds[..warm], out, held)
 }

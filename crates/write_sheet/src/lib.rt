@@ -1,20 +1,21 @@
 // Writing a sheet: the length of its text first, then the text part after part, each from an index of the lent place on.
-// What the text is stands in specs/Writing.antt, and what a place becomes in the crates text and model. Nothing is assumed.
+// What the text is stands in specs/Writing.antt, and what a place becomes in the crates text and model. Nothing is assumed. A place that
+// is too short stays as it was, so the length has to be known before the first byte is written: each part has a function for either.
 #![tactic(auto)]
 
 mod head_text;
 mod touch_text;
 
-ghost use Rattle.std.specs.Prelude.{◌≡◌, ◌+◌, ◌≤◌, length};
+ghost use Rattle.std.specs.Prelude.{◌≡◌, ◌+◌, ◌≤◌, length, Ok};
 ghost use Rattle.model.specs.Sheets.{most_steps};
-ghost use Rattle.model.specs.Places.{gives, PlaceLeft};
+ghost use Rattle.model.specs.Places.{PlaceLeft};
 ghost use Rattle.model.specs.Values.{value_of};
 ghost use Rattle.text.specs.inner.Puts.{Put, LengthOf};
 ghost use Rattle.write_sheet.specs.inner.Parts.{form_text, run_text};
 ghost use Rattle.sheet.specs.Writing.{sheet_text};
 
-use head_text::{counted_length, head_length, least, put_counted, put_head};
-use model::{PlaceAnswer, Refusal, Sheet, Verdict};
+use head_text::{counted_length, head_length, put_counted, put_head};
+use model::{Refusal, Sheet};
 use text::{number_length, put_number};
 
 // ---- lengths
@@ -73,9 +74,9 @@ fn text_length(sheet: Sheet) -> usize
     let form = sheet.form;
     let head = sheet.head;
     let touches = sheet.touches;
-    let steps = least(sheet.steps, touches.len());
+    let steps = sheet.steps.min(touches.len());
     let marks = sheet.marks;
-    let marked = least(sheet.marked, marks.len());
+    let marked = sheet.marked.min(marks.len());
     form_length(form)
         + head_length(form, head)
         + run_length(form, &touches[..steps], &marks[..marked])
@@ -89,9 +90,9 @@ fn put_sheet(sheet: Sheet, out: &mut [u8]) -> usize
     let form = sheet.form;
     let head = sheet.head;
     let touches = sheet.touches;
-    let steps = least(sheet.steps, touches.len());
+    let steps = sheet.steps.min(touches.len());
     let marks = sheet.marks;
-    let marked = least(sheet.marked, marks.len());
+    let marked = sheet.marked.min(marks.len());
     let first = put_form(form, out);
     let run = put_head(form, head, out, first);
     put_run(form, &touches[..steps], &marks[..marked], out, run)
@@ -101,34 +102,22 @@ fn put_sheet(sheet: Sheet, out: &mut [u8]) -> usize
 // place is shorter.
 // It is so for every Sheet, also one put together by hand: a count beyond its array counts the whole array, the lines of form 2 are
 // written where the form is 2 or more, those of form 3 where it is 3 or more, and letters w where there are marks.
-pub fn write(sheet: Sheet, out: &mut [u8]) -> PlaceAnswer
-    ensures { PlaceLeft (gives (sheet_text (value_of sheet))) out.old out.new result }
+pub fn write(sheet: Sheet, out: &mut [u8]) -> Result<usize, Refusal>
+    ensures { PlaceLeft (Ok (sheet_text (value_of sheet))) out.old out.new result }
 {
-    let length = text_length(sheet);
-    if out.len() < length {
-        return PlaceAnswer {
-            verdict: Verdict::Refused(Refusal::PlaceTooShort),
-            length: 0,
-        };
+    if out.len() < text_length(sheet) {
+        return Err(Refusal::PlaceTooShort);
     }
-    put_sheet(sheet, out);
-    PlaceAnswer {
-        verdict: Verdict::Accepted,
-        length,
-    }
+    Ok(put_sheet(sheet, out))
 }
 
 // The same for a sheet whose text has at most `most` bytes: its length is worked out only for a place that is shorter.
-pub fn write_within(sheet: Sheet, most: usize, out: &mut [u8]) -> PlaceAnswer
+pub fn write_within(sheet: Sheet, most: usize, out: &mut [u8]) -> Result<usize, Refusal>
     requires { length (sheet_text (value_of sheet)) ≤ most }
-    ensures { PlaceLeft (gives (sheet_text (value_of sheet))) out.old out.new result }
+    ensures { PlaceLeft (Ok (sheet_text (value_of sheet))) out.old out.new result }
 {
     if out.len() < most {
         return write(sheet, out);
     }
-    let length = put_sheet(sheet, out);
-    PlaceAnswer {
-        verdict: Verdict::Accepted,
-        length,
-    }
+    Ok(put_sheet(sheet, out))
 }

@@ -4,7 +4,7 @@ ghost use Rattle.std.specs.Prelude.{◌≡◌, Bool, cond, List, [], ◌∷◌, 
 ghost use Rattle.model.specs.Sheets.{idle, most_steps, marks_of};
 ghost use Rattle.text.specs.Keys.{line_feed, mark_letter};
 ghost use Rattle.text.specs.inner.Puts.{Put, LengthOf};
-ghost use Rattle.write_sheet.specs.inner.Steps.{touches_with, steps_text, EntryCount};
+ghost use Rattle.write_sheet.specs.inner.Steps.{touches_with, steps_text};
 ghost use Rattle.sheet.specs.Touches.{touches_from, touch_text, touches_text};
 
 use model::Sheet;
@@ -21,43 +21,24 @@ fn is_idle(x: u16) -> bool
 fn modifies_at(marks: &[bool], t: usize) -> bool
     ensures { result ≡ marks_of marks.now t }
 {
-    if t < marks.len() {
-        return marks[t];
-    }
-    false
+    marks.get(t).copied().unwrap_or(false)
 }
 
 // ---- counts and lengths
-
-// How many touches the entry of a step stands for.
-fn entry_count(x: u16) -> u16
-    ensures { EntryCount x result }
-{
-    if is_idle(x) {
-        return 0;
-    }
-    1
-}
 
 // How many touches there are.
 fn count_touches(entries: &[u16]) -> usize
     requires { length entries.now ≤ most_steps }
     ensures { (marks : List Bool) → result ≡ length (touches_with entries.now marks) }
 {
-    let mut count: u16 = 0;
-    let mut i = 0;
-    while i < entries.len() {
-        count += entry_count(entries[i]);
-        i += 1;
-    }
-    count as usize
+    entries.iter().filter(|x| !is_idle(**x)).count()
 }
 
 // The length of the letter of a touch.
 fn letter_length(modifies: bool) -> usize
     ensures { result ≡ cond modifies 1 0 }
 {
-    if modifies { 1 } else { 0 }
+    usize::from(modifies)
 }
 
 // The length of the line of a touch.
@@ -84,10 +65,8 @@ fn touches_length(entries: &[u16], marks: &[bool]) -> usize
     ensures { LengthOf (touches_text (touches_with entries.now marks.now)) 65536 result }
 {
     let mut sum: usize = 0;
-    let mut i = 0;
-    while i < entries.len() {
-        sum += entry_length(entries[i], i, marks);
-        i += 1;
+    for (i, x) in entries.iter().enumerate() {
+        sum += entry_length(*x, i, marks);
     }
     sum
 }
@@ -149,10 +128,8 @@ fn put_touches(entries: &[u16], marks: &[bool], out: &mut [u8], at: usize) -> us
         at out.old result out.new }
 {
     let mut next = at;
-    let mut i = 0;
-    while i < entries.len() {
-        next = put_entry(entries[i], i, marks, out, next);
-        i += 1;
+    for (i, x) in entries.iter().enumerate() {
+        next = put_entry(*x, i, marks, out, next);
     }
     next
 }

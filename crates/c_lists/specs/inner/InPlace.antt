@@ -1,27 +1,21 @@
 -- What the functions that change a recorder's list in place give, number by number.
-use Rattle.std.specs.Prelude.{ℕ, ◌+◌, ◌*◌, ◌^◌, ◌≤◌, ◌<◌, min, ◌≡◌, List, get_or, set}
+use Rattle.std.specs.Prelude.{ℕ, ◌+◌, ◌*◌, ◌^◌, ◌≤◌, min, ◌≡◌, List, get_or, set}
 use Rattle.model.specs.Costs.{unit_cost}
 use Rattle.model.specs.Sheets.{largest_a, most_rows}
+use Rattle.model.specs.Sums.{tabulate}
 use Rattle.model.specs.declared.PriceRow.{PriceRow}
 use Rattle.buckets.specs.inner.Pass.{touch_of, with_touch, Limited, Within}
 use Rattle.buckets.specs.inner.Search.{RowsOf, time_since}
 use Rattle.buckets.specs.declared.Bucket.{Bucket}
 use Rattle.buckets.specs.declared.pass.Touch.{Touch}
-use Rattle.buckets.specs.declared.search.Reuse.{Reuse}
+use Rattle.buckets.specs.declared.search.Prices.{Prices}
 use Rattle.c_lists.specs.Recorders.{kind_in}
-use Rattle.c_lists.specs.RecorderList.{at_kind, at_a, at_rows, at_steps, at_cost, at_volume, at_sizes, at_h, at_d, at_last, at_sums}
-use Rattle.c_lists.specs.RecorderList.{short_in, shorts_in, bucket_at}
+use Rattle.c_lists.specs.RecorderList.{at_kind, at_a, at_rows, at_steps, at_cost, at_volume, at_sizes, at_last, at_sums}
+use Rattle.c_lists.specs.RecorderList.{short_in, row_of, bucket_at}
 
 -- the prices of 64 rows in a list
-abbrev pub loads_in : List ℕ → List ℕ
-loads_in l = shorts_in l at_h most_rows
-
-abbrev pub memories_in : List ℕ → List ℕ
-memories_in l = shorts_in l at_d most_rows
-
--- the costs of a reuse can be priced
-abbrev pub Priceable : Reuse → Type 0
-Priceable x = (x.retention.0 < 2 ^ 40) × (x.swap.0 < 2 ^ 40)
+abbrev pub prices_in : List ℕ → Prices
+prices_in l = record { count = get_or l at_rows 0; rows = tabulate most_rows (row_of l) }
 
 -- the touch of segment i after n steps that the numbers of a list tell, for these rows
 abbrev pub touch_in : List ℕ → List PriceRow → ℕ → ℕ → Touch
@@ -31,22 +25,25 @@ touch_in l rows i n =
 
 -- the rows with the prices of a list
 abbrev pub RowsIn : List ℕ → List PriceRow → Type 0
-RowsIn l rows = RowsOf (get_or l at_rows 0) (loads_in l) (memories_in l) rows
+RowsIn l rows = RowsOf (prices_in l) rows
 
--- a list with bucket k
-abbrev pub with_bucket : List ℕ → ℕ → Bucket → List ℕ
-with_bucket l k b =
+-- a list with the six sums of a bucket from a place on; with bucket k
+abbrev pub with_sums : List ℕ → ℕ → Bucket → List ℕ
+with_sums l at b =
     set
     (set
     (set
     (set
     (set
-    (set l (at_sums + 6 * k) b.count)
-    (at_sums + 6 * k + 1) b.volume)
-    (at_sums + 6 * k + 2) b.retention.0)
-    (at_sums + 6 * k + 3) b.swap.0)
-    (at_sums + 6 * k + 4) b.retentionz.0)
-    (at_sums + 6 * k + 5) b.swapz.0
+    (set l at b.count)
+    (at + 1) b.volume)
+    (at + 2) b.retention.0)
+    (at + 3) b.swap.0)
+    (at + 4) b.retentionz.0)
+    (at + 5) b.swapz.0
+
+abbrev pub with_bucket : List ℕ → ℕ → Bucket → List ℕ
+with_bucket l k b = with_sums l (at_sums + 6 * k) b
 
 -- there is room in a bucket, Q and V for one touch more
 pub record Room (b : Bucket) (cost volume : ℕ) : Type 0 where

@@ -2,7 +2,7 @@
 use mathlib.Core.Path.{◌≡◌, refl, sym}
 use mathlib.Core.Bool.{Bool, true, false, not, ◌&&◌}
 use mathlib.Core.List.{List, [], ◌∷◌}
-use Prim.Native.Nat.{ℕ}
+use Prim.Native.Nat.{ℕ, ◌≤◌}
 use native.Mathlib.Omega.{arith}
 use lib.Dec.{eqb}
 use lib.ListN.{length, get_or}
@@ -28,18 +28,17 @@ one (b ∷ []) e = sym (and-true (is_digit b))
 one (b ∷ c ∷ s) e = absurd (omega arith)
 
 -- more: a number where the first is not 48 and all are digits
-more : (s : List ℕ) → (length s ≡ 0 → ⊥) → (length s ≡ 1 → ⊥)
-    → is_number s ≡ (not (eqb (get_or s 0 0) 48) && all_digits s)
+more : (s : List ℕ) → 2 ≤ length s → is_number s ≡ (not (eqb (get_or s 0 0) 48) && all_digits s)
 unfolding is_number
-more [] z o = absurd (z refl)
-more (b ∷ []) z o = absurd (o refl)
-more (b ∷ c ∷ s) z o = refl
+more [] l = absurd (omega arith)
+more (b ∷ []) l = absurd (omega arith)
+more (b ∷ c ∷ s) l = refl
 
-pub returns-then-s-eq0 : goal.returns-then-s-eq0
-returns-then-s-eq0 c = none _ c.if-s-eq0.true
+pub returns-in-empty : goal.returns-in-empty
+returns-in-empty c = none _ (omega arith)
 
-pub returns-then-s-eq1 : goal.returns-then-s-eq1
-returns-then-s-eq1 c = one _ c.if-s-eq1.true
+pub returns-in-len1 : goal.returns-in-len1
+returns-in-len1 c = one _ (omega arith)
 
-pub returns : goal.returns
-returns c = more _ c.if-s-eq0.false c.if-s-eq1.false
+pub returns-in-len1-up : goal.returns-in-len1-up
+returns-in-len1-up c = more _ (omega arith)

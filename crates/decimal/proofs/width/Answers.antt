@@ -1,5 +1,5 @@
 -- `decimal::width` meets its contract. The loop's invariant: ten times the power is 10 to the power `w`, and `n` has at least `w` digits.
-use mathlib.Core.Path.{◌≡◌, refl, ap}
+use mathlib.Core.Path.{◌≡◌, refl, sym, ap, ◌∙◌}
 use Prim.Native.Nat.{ℕ, ◌+◌, ◌*◌, ◌^◌, ◌≤◌, ◌<◌}
 use native.Mathlib.Nat.{pow-suc, pow-le-pow_right}
 use native.Mathlib.Numerals.{add-one}
@@ -44,4 +44,5 @@ loop-w-preserved c =
 pub returns : goal.returns
 returns c =
     let l = c.loop-w in
-    written-exact l.w _ l.invariant.some l.invariant.no_more (rw (last-width l.w (omega arith) l.invariant.most) (omega arith))
+    let e = last-width l.w (omega arith) l.invariant.most in
+    sym e ∙ written-exact l.w _ l.invariant.some l.invariant.no_more (rw e (omega arith))

@@ -1,6 +1,6 @@
 -- `decimal::width` meets its contract. The loop's invariant: ten times the power is 10 to the power `w`, and `n` has at least `w` digits.
 use mathlib.Core.Path.{◌≡◌}
-use Prim.Native.Nat.{ℕ, ◌*◌, ◌-◌, ◌^◌, ◌≤◌}
+use Prim.Native.Nat.{ℕ, ◌*◌, ◌^◌, ◌≤◌}
 use lib.ListN.{length}
 use Rattle.decimal.specs.Decimal.{written}
 use Rattle.decimal.proofs.width.Given as goal
@@ -13,6 +13,3 @@ pub record Reached (n power w : ℕ) : Type 0 where
 
 abbrev pub invariant-loop-w : goal.invariant-loop-w
 invariant-loop-w l = Reached l.n l.power l.w
-
-abbrev pub decreases-loop-w : goal.decreases-loop-w
-decreases-loop-w l = 20 - l.w

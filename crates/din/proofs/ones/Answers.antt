@@ -1,19 +1,16 @@
--- `ones` meets its contract. The loop's invariant: the sizes of i segments stand at the front. The measure is what is left of n.
-use mathlib.Core.Path.{◌≡◌}
+-- `ones` meets its contract: the sizes of n segments were filled.
+use Prim.Native.Nat.{ℕ}
+use mathlib.Core.Path.{◌≡◌, ◌∙◌, ap}
 use native.Mathlib.Omega.{arith}
-use Rattle.din.proofs.Padding.{ones-start, ones-next}
+use lib.ListN.{replicate, length-replicate}
+use lib.Seq.{length-take-le}
+use Rattle.model.specs.Values.{zeros, padded}
 use Rattle.din.proofs.ones.Goals as goal
 
-pub loop-i-init : goal.loop-i-init
-loop-i-init c = (omega arith, ones-start _ c.no_sizes-sizes.ensures)
-
-pub bounds-sizes-i : goal.bounds-sizes-i
-bounds-sizes-i c = omega (arith, c.requires)
-
-pub loop-i-preserved : goal.loop-i-preserved
-loop-i-preserved c = (omega arith, ones-next _ _ c.loop-i.invariant.1 (omega (arith, c.requires)))
-
 pub returns : goal.returns
+unfolding zeros padded
 returns c =
-    let all : c.loop-i.i ≡ c.args.n = omega arith in
-    rw all at c.loop-i.invariant.1
+    let n = c.args.n in
+    let after : c.fill.new.self ≡ replicate n 1 =
+    c.fill.ensures.after (λ y h. h) ∙ ap (λ (k : ℕ). replicate k 1) (length-take-le n _ (omega (arith, c.requires, length-replicate {A = ℕ} 256 0))) in
+    rw (after, length-replicate {A = ℕ} n 1)

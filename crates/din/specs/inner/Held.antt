@@ -1,12 +1,27 @@
 -- What the pass over the lines of a din trace keeps and gives: the table of the pages, and the answer.
-use Rattle.std.specs.Prelude.{ℕ, ◌+◌, ◌*◌, ◌-◌, ◌/◌, ◌%◌, ◌≤◌, ◌<◌, ◌≡◌, cond, List, [], ◌∷◌, eqb, length, get_or}
+use Rattle.std.specs.Prelude.{ℕ, ◌+◌, ◌*◌, ◌-◌, ◌/◌, ◌%◌, ◌≤◌, ◌<◌, ◌≡◌, cond, List, [], ◌∷◌, eqb, length, get_or, map, Option, Some, None, Result, Ok, Err}
 use Rattle.model.specs.Sheets.{most_steps}
 use Rattle.model.specs.Values.{idles, padded}
-use Rattle.model.specs.declared.Verdict.TheVariants.{Accepted, Refused}
+use Rattle.model.specs.declared.Refusal.{Refusal}
 use Rattle.din.specs.Pages.{Touched, touches, refused, segments_of, segment_count}
 use Rattle.din.specs.declared.pages.Imported.{Imported}
+use Rattle.din.specs.declared.pages.Seen.{Seen}
 
--- ---- the table of pages: at each of its places a page and a mark, 0 where the place is empty
+-- ---- the table of pages: at each of its places a page and a mark, one more than the page's number, 0 where the place is empty
+
+abbrev pub mark_of : Option Seen → ℕ
+mark_of None = 0
+mark_of (Some s) = s.segment + 1
+
+abbrev pub page_at : Option Seen → ℕ
+page_at None = 0
+page_at (Some s) = s.page
+
+abbrev pub marks_of : List (Option Seen) → List ℕ
+marks_of table = map mark_of table
+
+abbrev pub pages_of : List (Option Seen) → List ℕ
+pages_of table = map page_at table
 
 abbrev pub table_places : ℕ
 table_places = 512
@@ -36,13 +51,13 @@ number_at mark next = cond (eqb mark 0) next (mark - 1)
 
 -- ---- the answer
 
--- the segments at the front of idle entries, or the refusal and idle entries
-unfoldable pub imported_of : Touched → Imported
+-- the segments at the front of idle entries, or the refusal
+unfoldable pub imported_of : Touched → Result Imported Refusal
 imported_of (touches ps) =
-    record {
-      verdict = Accepted;
+    Ok
+    (record {
       segs = segment_count ps;
       steps = length (segments_of ps);
       touches = padded (segments_of ps) (idles most_steps);
-    }
-imported_of (refused r) = record { verdict = Refused r; segs = 0; steps = 0; touches = idles most_steps }
+    })
+imported_of (refused r) = Err r

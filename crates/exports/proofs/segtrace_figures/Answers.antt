@@ -1,13 +1,10 @@
--- `exports::segtrace_figures` meets its contract: the verdict of the figures decides.
+-- `exports::segtrace_figures` meets its contract: the answer decides.
 use Rattle.c_lists.specs.Figures.{figure_list}
 use Rattle.exports.proofs.Told.{accepted-tells, refused-tells}
 use Rattle.exports.proofs.segtrace_figures.Goals as goal
 
-pub returns-in-Accepted : goal.returns-in-Accepted
-returns-in-Accepted c =
-    accepted-tells (λ a. a.verdict) (λ a. figure_list a.figures) c.figures-answer.result _ c.figures-answer.ensures _ (cc) c.of_row.ensures
+pub returns-in-Ok : goal.returns-in-Ok
+returns-in-Ok c = accepted-tells figure_list _ _ c.in-Ok.ensures c.of_row.ensures
 
-pub returns-in-Refused : goal.returns-in-Refused
-returns-in-Refused c =
-    refused-tells (λ a. a.verdict) (λ a. figure_list a.figures) c.figures-answer.result _ c.figures-answer.ensures _
-    c.in-Refused.is c.number.ensures
+pub returns-in-Err : goal.returns-in-Err
+returns-in-Err c = refused-tells figure_list _ _ c.in-Err.ensures c.number.ensures

@@ -1,6 +1,6 @@
--- The figures of one row from sums over the buckets, and what those sums must satisfy. `all` is the sum of all buckets of the touches
--- and of the swap costs of the warm segments, `kept` that of the buckets up to the row, `ends` that of the end intervals' buckets up to
--- the row: what the row keeps. `cost` is Q and `volume` V of the references.
+-- The figures of one row from sums over the buckets, and what those sums must satisfy. Of `Sums`, `all` is the sum of all buckets of the
+-- touches and of the swap costs of the warm segments, `kept` that of the buckets up to the row, `ends` that of the end intervals' buckets
+-- up to the row: what the row keeps. `cost` is Q and `volume` V of the references.
 use Rattle.std.specs.Prelude.{ℕ, ◌+◌, ◌-◌, ◌*◌, ◌/◌, ◌^◌, ◌≤◌, ◌<◌, cond, eqb}
 use Rattle.model.specs.Costs.{total_cost}
 use Rattle.model.specs.Sheets.{largest_a, most_segs, largest_size, most_steps}
@@ -9,6 +9,7 @@ use Rattle.model.specs.declared.Kind.TheVariants.{Time, Space}
 use Rattle.model.specs.declared.PriceRow.{PriceRow}
 use Rattle.model.specs.declared.RowFigures.{RowFigures}
 use Rattle.buckets.specs.declared.Bucket.{Bucket}
+use Rattle.figures.specs.declared.row_sums.Sums.{Sums}
 
 -- misses + a × volume of what is not kept
 abbrev pub load_from : ℕ → Bucket → Bucket → ℕ
@@ -20,38 +21,38 @@ by_kind Time x y = x
 by_kind Space x y = y
 
 -- wsmem: d × R of what is kept and h × w of the rest. The end intervals have the swap costs of the first touches and of the warm segments
-abbrev pub wsmem_from : PriceRow → ℕ → Bucket → Bucket → Bucket → ℕ
-wsmem_from row cost all kept ends =
-    total_cost row.h row.d (cost + kept.retention.0 + ends.retention.0) (all.swap.0 - kept.swap.0 - ends.swap.0)
+abbrev pub wsmem_from : PriceRow → Sums → ℕ
+wsmem_from row s =
+    total_cost row.h row.d (s.cost.0 + s.kept.retention.0 + s.ends.retention.0) (s.all.swap.0 - s.kept.swap.0 - s.ends.swap.0)
 
 -- the same with each item multiplied by z
-abbrev pub wsspace_from : PriceRow → ℕ → Bucket → Bucket → Bucket → ℕ
-wsspace_from row volume all kept ends =
-    total_cost row.h row.d (volume + kept.retentionz.0 + ends.retentionz.0) (all.swapz.0 - kept.swapz.0 - ends.swapz.0)
+abbrev pub wsspace_from : PriceRow → Sums → ℕ
+wsspace_from row s =
+    total_cost row.h row.d (s.volume + s.kept.retentionz.0 + s.ends.retentionz.0) (s.all.swapz.0 - s.kept.swapz.0 - s.ends.swapz.0)
 
 -- wsocc: as wsmem for kind space
-abbrev pub wsocc_from : Kind → PriceRow → ℕ → ℕ → Bucket → Bucket → Bucket → ℕ
-wsocc_from kind row cost volume all kept ends = by_kind kind (wsspace_from row volume all kept ends) (wsmem_from row cost all kept ends)
+abbrev pub wsocc_from : Kind → PriceRow → Sums → ℕ
+wsocc_from kind row s = by_kind kind (wsspace_from row s) (wsmem_from row s)
 
 -- mean: 1,000 × wsocc divided by d × steps, rounded down; 0 when steps is 0 (request F-3)
 abbrev pub mean_from : ℕ → ℕ → ℕ → ℕ
 mean_from refs d wsocc = cond (eqb refs 0) 0 (1000 * wsocc / (d * refs))
 
 -- the figures of a row
-unfoldable pub row_from : Kind → ℕ → PriceRow → ℕ → ℕ → ℕ → Bucket → Bucket → Bucket → RowFigures
-row_from kind a row refs cost volume all kept ends =
+unfoldable pub row_from : Kind → ℕ → PriceRow → ℕ → Sums → RowFigures
+row_from kind a row refs s =
     record {
       h = row.h;
       d = row.d;
-      misses = all.count - kept.count;
-      volume = all.volume - kept.volume;
-      load = record { 0 = load_from a all kept };
-      optmem = record { 0 = cost + kept.retention.0 };
-      opttotal = total_cost row.h row.d (cost + kept.retention.0) (load_from a all kept);
-      optocc = volume + by_kind kind kept.retentionz.0 kept.retention.0;
-      wsmem = wsmem_from row cost all kept ends;
-      wsocc = wsocc_from kind row cost volume all kept ends;
-      mean = mean_from refs row.d (wsocc_from kind row cost volume all kept ends);
+      misses = s.all.count - s.kept.count;
+      volume = s.all.volume - s.kept.volume;
+      load = record { 0 = load_from a s.all s.kept };
+      optmem = record { 0 = s.cost.0 + s.kept.retention.0 };
+      opttotal = total_cost row.h row.d (s.cost.0 + s.kept.retention.0) (load_from a s.all s.kept);
+      optocc = s.volume + by_kind kind s.kept.retentionz.0 s.kept.retention.0;
+      wsmem = wsmem_from row s;
+      wsocc = wsocc_from kind row s;
+      mean = mean_from refs row.d (wsocc_from kind row s);
     }
 
 -- the largest swap cost, and a number that no retention exceeds
@@ -82,22 +83,17 @@ abbrev pub most_items : ℕ
 most_items = most_steps + most_segs
 
 -- sums of which a working set can be made
-pub record Summable (cost volume : ℕ) (all kept ends : Bucket) : Type 0 where
-  pub cost_fits : cost ≤ most_steps * largest_size
-  pub volume_fits : volume ≤ most_steps * largest_size
-  pub all_holds : Holds most_items all
-  pub kept_holds : Holds most_steps kept
-  pub ends_holds : Holds most_segs ends
-  pub parts : KeptWithin all kept ends
+pub record Summable (s : Sums) : Type 0 where
+  pub cost_fits : s.cost.0 ≤ most_steps * largest_size
+  pub volume_fits : s.volume ≤ most_steps * largest_size
+  pub all_holds : Holds most_items s.all
+  pub kept_holds : Holds most_steps s.kept
+  pub ends_holds : Holds most_segs s.ends
+  pub parts : KeptWithin s.all s.kept s.ends
 
 -- sums from which no figure of the row exceeds 64 bits
-pub record RowFits (kind : Kind) (row : PriceRow) (refs cost volume : ℕ) (all kept ends : Bucket) : Type 0 where
-  pub all_holds : Holds most_items all
-  pub kept_holds : Holds most_steps kept
-  pub ends_holds : Holds most_segs ends
-  pub parts : KeptWithin all kept ends
-  pub cost_fits : cost ≤ most_steps * largest_size
-  pub volume_fits : volume ≤ most_steps * largest_size
-  pub wsocc_fits : wsocc_from kind row cost volume all kept ends < 2 ^ 53
+pub record RowFits (kind : Kind) (row : PriceRow) (refs : ℕ) (s : Sums) : Type 0 where
+  pub summable : Summable s
+  pub wsocc_fits : wsocc_from kind row s < 2 ^ 53
   pub some_d : 1 ≤ row.d
   pub refs_fit : refs ≤ most_steps

@@ -12,18 +12,6 @@ use Rattle.buckets.specs.declared.Bucket.{Bucket}
 use Rattle.buckets.specs.declared.Tally.{Tally}
 use Rattle.figures.specs.declared.rows.StartSwaps.{StartSwaps}
 
--- two buckets, each sum added
-abbrev pub added : Bucket → Bucket → Bucket
-added x y =
-    record {
-      count = x.count + y.count;
-      volume = x.volume + y.volume;
-      retention = record { 0 = x.retention.0 + y.retention.0 };
-      swap = record { 0 = x.swap.0 + y.swap.0 };
-      retentionz = record { 0 = x.retentionz.0 + y.retentionz.0 };
-      swapz = record { 0 = x.swapz.0 + y.swapz.0 };
-    }
-
 -- the first n buckets of a list, added
 unfoldable pub summed : List Bucket → ℕ → Bucket
 summed bs n =

@@ -1,12 +1,8 @@
--- What the code of the entries works out: both touch in a step, the entries of so many steps of two records.
-use Rattle.std.specs.Prelude.{ℕ, ◌<◌, ◌≡◌, ◌⊎◌, Bool, not, ◌&&◌, List, eqb, get_or}
+-- What the code of the entries works out: the entries of so many steps of two records.
+use Rattle.std.specs.Prelude.{ℕ, ◌<◌, ◌≡◌, ◌⊎◌, List, get_or}
 use Rattle.model.specs.Sheets.{idle, most_segs}
 use Rattle.model.specs.Sums.{tabulate}
 use Rattle.joint.specs.Joint.{joint_entry}
-
--- both entries of a step are touches
-abbrev pub both_at : ℕ → ℕ → Bool
-both_at x y = not (eqb x idle) && not (eqb y idle)
 
 -- an entry is below 256 or idle
 abbrev pub IsEntry : ℕ → Type 0

@@ -1,12 +1,7 @@
--- What the code of the heads works out or needs: rows alike, numbers that fit when moved, heads that fit.
-use Rattle.std.specs.Prelude.{ℕ, ◌+◌, ◌≤◌, ◌<◌, ◌≡◌, Bool, ◌&&◌, List, eqb, length, get_or, take}
+-- What the code of the heads works out or needs: numbers that fit when moved, heads that fit.
+use Rattle.std.specs.Prelude.{ℕ, ◌+◌, ◌≤◌, ◌<◌, ◌≡◌, List, length, get_or, take}
 use Rattle.model.specs.Sheets.{most_segs, most_rows}
 use Rattle.model.specs.declared.Head.{Head}
-use Rattle.model.specs.declared.PriceRow.{PriceRow}
-
--- two rows are written alike
-abbrev pub same_row : PriceRow → PriceRow → Bool
-same_row p q = eqb p.h q.h && eqb p.d q.d
 
 -- numbers and then others, moved by n: there are at most 256 of them, and none exceeds 16 bits
 pub record Movable (xs : List ℕ) (n : ℕ) (ys : List ℕ) : Type 0 where

@@ -1,59 +1,20 @@
--- `lru_curve::sheet_curve_plain` meets its contract: the sizes, the warm segments and the room are tested, and the list of the sheet's
--- value is written.
-use mathlib.Core.Path.{◌≡◌, sym, ◌∙◌}
-use native.Mathlib.Omega.{arith}
-use lib.Seq.{length-take-le}
+-- `lru_curve::sheet_curve_plain` meets its contract: the sheet and the place are tested, and the list of the sheet's value is written.
+use mathlib.Core.Path.{sym, ◌∙◌}
+use Rattle.std.proofs.lemmas.Result.{err_from_is_err_and}
 use Rattle.model.specs.Values.{head_value_of, value_of}
-use Rattle.model.proofs.Standing.{segs-counted, steps-counted, warm-counted}
-use Rattle.lru_curve.proofs.Answers.{ones_of, plain-refused, plain-short, plain-placed}
-use Rattle.lru_curve.proofs.sheet_curve_plain.Goals.{After-ones_verdict}
+use Rattle.model.proofs.Standing.{segs-counted}
+use Rattle.lru_curve.proofs.Answers.{asked-is, plain-refused, plain-placed}
 use Rattle.lru_curve.proofs.sheet_curve_plain.Goals as goal
 
--- what this test says
-ones-are : (a : After-ones_verdict) → a.ones_verdict.result ≡ ones_of (value_of a.args.s)
+pub returns-in_err-curve_verdict : goal.returns-in_err-curve_verdict
+returns-in_err-curve_verdict c =
+    let p = err_from_is_err_and c.from_residual.result c.from_residual.ensures.1 in
+    let asked = asked-is c.args.s c.requires c.args.out.now in
+    rw (p.1, p.2) (plain-refused (value_of c.args.s) c.args.out.now _ (sym asked ∙ (sym c.curve_verdict.ensures ∙ c.in_err-curve_verdict.was)))
+
+pub returns : goal.returns
 unfolding value_of head_value_of
-ones-are a = rw (warm-counted a.args.s a.requires) a.ones_verdict.ensures
-
-pub slice_bounds-sizes-end : goal.slice_bounds-sizes-end
-slice_bounds-sizes-end c = omega (arith, c.requires)
-
-pub slice_bounds-ones_verdict-end : goal.slice_bounds-ones_verdict-end
-slice_bounds-ones_verdict-end c = sym (length-take-le _ _ (omega (arith, c.requires)))
-
-pub returns-then-place-segs : goal.returns-then-place-segs
-returns-then-place-segs c =
+returns c =
     let n = segs-counted c.args.s c.requires in
-    rw c.refused-then-place-segs.ensures
-    (plain-short (value_of c.args.s) _ (sym (ones-are (goal.at.returns-then-place-segs c).After-ones_verdict) ∙ cc)
-    (omega (arith, c.if-place-segs.true)))
-
-pub slice_bounds-sizes-end-in-Accepted : goal.slice_bounds-sizes-end-in-Accepted
-slice_bounds-sizes-end-in-Accepted c = omega (arith, c.requires)
-
-pub slice_bounds-curve-end : goal.slice_bounds-curve-end
-slice_bounds-curve-end c = sym (length-take-le _ _ (omega (arith, c.requires)))
-
-pub slice_bounds-touches-end : goal.slice_bounds-touches-end
-slice_bounds-touches-end c = omega (arith, c.requires)
-
-pub slice_bounds-curve-end-in-Accepted : goal.slice_bounds-curve-end-in-Accepted
-slice_bounds-curve-end-in-Accepted c = sym (length-take-le _ _ (omega (arith, c.requires)))
-
-pub curve-requires : goal.curve-requires
-unfolding value_of head_value_of
-curve-requires c =
-    let n = segs-counted c.args.s c.requires in
-    let m = steps-counted c.args.s c.requires in
-    (omega (arith, c.requires), omega (arith, c.requires), omega (arith, c.if-place-segs.false))
-
-pub returns-in-Refused : goal.returns-in-Refused
-returns-in-Refused c =
-    rw c.refused.ensures (plain-refused (value_of c.args.s) _ _ (sym (ones-are (goal.at.returns-in-Refused c).After-ones_verdict) ∙ cc))
-
-pub returns-else-place-segs : goal.returns-else-place-segs
-unfolding value_of head_value_of
-returns-else-place-segs c =
-    let n = segs-counted c.args.s c.requires in
-    plain-placed (value_of c.args.s) _ (sym (ones-are (goal.at.returns-else-place-segs c).After-ones_verdict) ∙ cc) _
-    (omega (arith, c.if-place-segs.false)) _ (sym n)
-    c.curve.ensures
+    let taken = sym (asked-is c.args.s c.requires c.args.out.now) ∙ (sym c.curve_verdict.ensures ∙ c.in_ok-curve_verdict.was) in
+    plain-placed (value_of c.args.s) c.args.out.now taken _ _ (sym n) c.curve.ensures

@@ -1,19 +1,20 @@
 -- `margin::touch_margin` meets its contract: a first touch is refused, and the costs of a reuse fit.
+use Rattle.std.specs.Prelude.{Some, Ok}
 use Prim.Native.Nat.{ℕ, ◌^◌, ◌<◌}
 use mathlib.Core.Path.{◌≡◌, refl, sym, ap, ◌∙◌}
 use native.Mathlib.Omega.{arith}
-use borrow.Author.Tests.{not-true, not-false}
 use lib.ListN.{get_or}
 use mir.Syntax.{w64}
 use mir.ValLaws.{to_z-of_z}
+use Rattle.std.proofs.lemmas.Result.{err_from_is_err_and}
 use Rattle.model.specs.Sheets.{run_of}
 use Rattle.model.specs.Traces.{Trace, entry, unreferenced}
-use Rattle.model.specs.declared.Verdict.TheVariants.{Accepted}
 use Rattle.model.proofs.Bounds.{retention_within, swap_within}
 use Rattle.model.proofs.Touches.{entry-ref}
 use Rattle.margin.specs.inner.Times.{time_of}
+use Rattle.margin.proofs.MarginResults.{ok-some, err-none}
 use Rattle.margin.proofs.TouchMargins.{priced-room, first-touch, reuse-touch}
-use Rattle.margin.proofs.touch_margin.Goals.{After-retention_cost, After-shared_slice_known-5-1, After-swap_cost}
+use Rattle.margin.proofs.touch_margin.Goals.{After-retention_cost, After-swap_cost, In_ok-time}
 use Rattle.margin.proofs.touch_margin.Goals.{After-unreferenced_time-before, Start}
 use Rattle.margin.proofs.touch_margin.Goals as goal
 
@@ -36,18 +37,24 @@ time_is : (u : After-unreferenced_time-before) → u.unreferenced_time-before.re
 time_is u = u.unreferenced_time-before.ensures (run_of u.args.kind u.args.a u.args.sizes.now u.args.warm.now u.args.refs.now) refl
     u.requires.t_in_bounds.1 (sym u.is_warm.ensures)
 
--- the size is a 16-bit number, and neither cost exceeds what may be priced
-size_room : (z : After-shared_slice_known-5-1) → (get_or z.args.sizes.now (get_or z.args.refs.now z.args.t 0) 0) < 2 ^ 16
-size_room z = omega (arith, z.type_inv.sizes (get_or z.args.refs.now z.args.t 0))
+-- a reuse has a time
+reuse_is : (c : In_ok-time) → Some c.in_ok-time.time
+    ≡ time_of (unreferenced (run_of c.args.kind c.args.a c.args.sizes.now c.args.warm.now c.args.refs.now) c.args.t
+    (get_or c.args.refs.now c.args.t 0))
+reuse_is c =
+    sym (ok-some _ _ _ (sym c.ok_or.ensures.value ∙ c.in_ok-time.was))
+    ∙ c.unreferenced_time-before.ensures (run_of c.args.kind c.args.a c.args.sizes.now c.args.warm.now c.args.refs.now) refl
+    c.requires.t_in_bounds.1 (sym c.is_warm.ensures)
 
+-- the size is a 16-bit number, and neither cost exceeds what may be priced
 retention-room : (c : After-retention_cost) → c.retention_cost.result.0 < 2 ^ 32
 retention-room c =
     let size_room' : (get_or c.args.sizes.now (get_or c.args.refs.now c.args.t 0) 0) < 2 ^
     16 = omega (arith, c.type_inv.sizes (get_or c.args.refs.now c.args.t 0)) in
-    let k = c.unreferenced_time-before.result.time in
+    let k = c.in_ok-time.time in
     rw c.retention_cost.ensures
     (retention_within c.args.kind (get_or c.args.sizes.now (get_or c.args.refs.now c.args.t 0) 0) k (size_room')
-    (omega (arith, c.unreferenced_time-before.type_inv)))
+    (omega arith))
 
 swap-room : (c : After-swap_cost) → c.swap_cost.result.0 < 2 ^ 32
 swap-room c =
@@ -56,12 +63,14 @@ swap-room c =
     rw c.swap_cost.ensures (swap_within c.args.a (get_or c.args.sizes.now (get_or c.args.refs.now c.args.t 0) 0) (omega (arith, c.ranges))
     (size_room'))
 
-pub returns-then-not-reuse : goal.returns-then-not-reuse
-returns-then-not-reuse c v n run row =
-    c.refused.ensures
-    ∙ sym (first-touch (run_of c.args.kind c.args.a c.args.sizes.now c.args.warm.now c.args.refs.now) _ _
-    (here (goal.at.returns-then-not-reuse c).Start) _ (time_is (goal.at.returns-then-not-reuse c).After-unreferenced_time-before) _ v
-    n run row (not-true _ c.if-not-reuse.true-raw))
+pub returns-in_err-time : goal.returns-in_err-time
+returns-in_err-time c v n run row =
+    let was = err-none _ _ _ (sym c.ok_or.ensures.value ∙ c.in_err-time.was) in
+    let p = err_from_is_err_and c.from_residual.result c.from_residual.ensures.1 in
+    rw (p.1, p.2, was.1)
+    (sym (first-touch (run_of c.args.kind c.args.a c.args.sizes.now c.args.warm.now c.args.refs.now) _ _
+    (here (goal.at.returns-in_err-time c).Start) _ v n run row
+    (sym was.0 ∙ time_is (goal.at.returns-in_err-time c).After-unreferenced_time-before)))
 
 pub margin-requires : goal.margin-requires
 margin-requires c =
@@ -75,10 +84,10 @@ margin-requires c =
 
 pub returns : goal.returns
 returns c v n run row =
-    ap (λ m. record { verdict = Accepted; margin = m }) (to_z-of_z w64 _ (record { sfits = c.margin.type_inv }) ∙ c.margin.ensures)
+    ap (λ m. Ok m) (to_z-of_z w64 _ (record { sfits = c.margin.type_inv }) ∙ c.margin.ensures)
     ∙ sym (reuse-touch (run_of c.args.kind c.args.a c.args.sizes.now c.args.warm.now c.args.refs.now) _ _ (here (goal.at.returns c).Start)
-    _ (time_is (goal.at.returns c).After-unreferenced_time-before) _ v n run row _ _ _ _ c.retention_cost.ensures
-    c.swap_cost.ensures c.priced-retained.ensures c.priced-swapped.ensures (not-false _ c.if-not-reuse.false-raw))
+    _ v n run row _ _ _ _ _ (reuse_is (goal.at.returns c).In_ok-time) c.retention_cost.ensures
+    c.swap_cost.ensures c.priced-retained.ensures c.priced-swapped.ensures)
 
 pub priced-retained-requires : goal.priced-retained-requires
 priced-retained-requires c = omega (arith, retention-room c)

@@ -8,6 +8,5 @@ pub returns : goal.returns
 returns c =
     let a = c.args in
     let q = put_then c.put_title-names.ensures.put
-    (put_then c.put_names-rows.ensures.put (put_then c.put_rows-blanks.ensures.put c.put_blank_lines.ensures.put)) in
-    let p = page-parts a.kind a.a a.figures a.first a.end (omega (arith, c.requires)) (omega (arith, c.requires, c.well_formed)) in
-    record { put = put_same p q; wide = omega arith }
+    (put_then c.put_names-first.ensures.put (put_then c.put_rows-blanks.ensures.put c.put_blank_lines.ensures.put)) in
+    record { put = put_same (page-parts a.kind a.a a.rows.now) q; wide = omega arith }

@@ -11,6 +11,3 @@ returns c =
     (put_then c.put_field-load.ensures.put (put_then c.put_field-mean.ensures.put
     (put_then c.put_field-last.ensures.put c.put_end.ensures.put))))) in
     record { put = put_same (row-parts c.args.f fits) p; wide = omega arith }
-
-pub put_end-requires : goal.put_end-requires
-put_end-requires c = omega (arith, c.requires)

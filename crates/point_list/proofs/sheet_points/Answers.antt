@@ -1,20 +1,7 @@
 -- `point_list::sheet_points` meets its contract: the run of the sheet's value is handed on.
-use mathlib.Core.Path.{sym}
-use native.Mathlib.Omega.{arith}
-use lib.Seq.{length-take-le}
 use Rattle.model.specs.Values.{head_value_of, value_of}
 use Rattle.points.specs.Answers.{points_for}
 use Rattle.point_list.proofs.sheet_points.Goals as goal
-
-pub slice_bounds-points-end : goal.slice_bounds-points-end
-slice_bounds-points-end c = sym (length-take-le _ _ (omega (arith, c.requires)))
-
-pub slice_bounds-points-end-2 : goal.slice_bounds-points-end-2
-slice_bounds-points-end-2 c = sym (length-take-le _ _ (omega (arith, c.requires)))
-
-pub slice_bounds-points-end-3 : goal.slice_bounds-points-end-3
-slice_bounds-points-end-3 c =
-    sym (length-take-le _ _ (omega (arith, c.requires)))
 
 -- the limits of a run ask nothing of its warm segments
 pub points-requires : goal.points-requires

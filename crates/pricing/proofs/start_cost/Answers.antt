@@ -1,20 +1,14 @@
--- `pricing::start_cost` meets its contract. The loop's invariant: the segments below i are added up.
+-- `start_cost` meets its contract. The loop's invariant: the segments below i are added up.
 use native.Mathlib.Omega.{arith}
+use Rattle.std.proofs.lemmas.Bool.Decides.{nat_tests}
 use Rattle.pricing.proofs.StartCosts.{added-start, added-step, added-all, start-free}
 use Rattle.pricing.proofs.start_cost.Goals as goal
 
-pub returns-then-warm-eq0 : goal.returns-then-warm-eq0
-returns-then-warm-eq0 c = start-free _ _ _ c.if-warm-eq0.true
+pub returns-then-is_empty : goal.returns-then-is_empty
+returns-then-is_empty c = start-free _ _ _ (grind (arith, nat_tests))
 
 pub loop-i-init : goal.loop-i-init
 loop-i-init c = added-start _ _ _
-
-pub bounds-last-i : goal.bounds-last-i
-bounds-last-i c = omega (arith, c.requires)
-
-pub plus-cost-requires : goal.plus-cost-requires
-plus-cost-requires c =
-    omega (arith, c.requires, c.loop-i.invariant.small, c.unit_where.ensures.1)
 
 pub loop-i-preserved : goal.loop-i-preserved
 loop-i-preserved c =

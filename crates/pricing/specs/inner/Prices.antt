@@ -1,20 +1,19 @@
 -- The price of a schedule at a row where no stores are counted.
-use Rattle.std.specs.Prelude.{ℕ, List}
-use Rattle.model.specs.Pricing.{no_price, schedule_verdict}
+use Rattle.model.specs.declared.Refusal.{Refusal}
+use Rattle.model.specs.declared.Price.{Price}
+use Rattle.std.specs.Prelude.{ℕ, List, Result, Ok, Err}
+use Rattle.model.specs.Pricing.{schedule_verdict}
 use Rattle.model.specs.Schedules.{schedule_memory, schedule_load, schedule_total}
 use Rattle.model.specs.Traces.{Trace}
-use Rattle.model.specs.declared.PriceAnswer.{PriceAnswer}
-use Rattle.model.specs.declared.Verdict.TheVariants.{Accepted, Refused}
 
 -- what pricing a schedule at a row h/d answers: memory, load and total, or the refusal
-unfoldable pub price_answer : Trace → ℕ → ℕ → List ℕ → PriceAnswer
+unfoldable pub price_answer : Trace → ℕ → ℕ → List ℕ → Result Price Refusal
 price_answer T h d p =
     elim (schedule_verdict T p) [
-      | Accepted ↦ record {
-        verdict = Accepted;
+      | Ok _ ↦ Ok (record {
         memory = record { 0 = schedule_memory T p };
         load = record { 0 = schedule_load T p };
         total = schedule_total T h d p;
-      }
-      | Refused r ↦ no_price r
+      })
+      | Err r ↦ Err r
     ]

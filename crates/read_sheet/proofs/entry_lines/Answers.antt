@@ -5,21 +5,11 @@ use lib.ListN.{length}
 use Rattle.model.specs.Sheets.{most_steps}
 use Rattle.model.proofs.Values.{idles-length}
 use Rattle.sheet.specs.Lines.{split_at}
-use Rattle.read_sheet.proofs.EntriesRead.{entries-later, entries-first, marks-first}
+use Rattle.read_sheet.proofs.EntriesRead.{steps-read, refs-read}
 use Rattle.read_sheet.proofs.entry_lines.Goals as goal
 
 pub returns-then-form-ge2 : goal.returns-then-form-ge2
-returns-then-form-ge2 c =
-    let e = c.step_lines.ensures in
-    record {
-      reads =
-          record {
-            same = entries-later _ _ _ _ c.if-form-ge2.true e.reads.same;
-            within = e.reads.within;
-          };
-      filled = e.filled;
-      marked = e.marked;
-    }
+returns-then-form-ge2 c = steps-read _ _ _ _ _ _ _ _ c.if-form-ge2.true c.step_lines.ensures
 
 pub counted_lines-requires : goal.counted_lines-requires
 unfolding split_at
@@ -32,15 +22,5 @@ counted_lines-requires c =
 
 pub returns : goal.returns
 returns c =
-    let e = c.counted_lines.ensures in
     let m = ap length c.requires.idle_all ∙ idles-length most_steps in
-    let first = c.if-form-ge2.false in
-    record {
-      reads =
-          record {
-            same = entries-first _ _ _ _ c.counted_lines.result.lines _ _ first m e.reads.same;
-            within = e.reads.within;
-          };
-      filled = e.filled;
-      marked = marks-first _ _ _ first;
-    }
+    refs-read _ _ _ _ _ _ _ _ c.if-form-ge2.false m c.counted_lines.ensures

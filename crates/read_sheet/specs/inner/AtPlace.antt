@@ -1,44 +1,25 @@
--- The answer to what was read of a sheet: its lists stand in slices that were lent.
-use Rattle.std.specs.Prelude.{ℕ, ◌≡◌, Bool, List, leb}
-use Rattle.model.specs.Sheets.{most_segs, most_steps}
-use Rattle.model.specs.Values.{zeros, idles, blank_marks}
-use Rattle.model.specs.declared.Head.{Head}
+-- The answer to what was read of a sheet.
+use Rattle.std.specs.Prelude.{ℕ, ◌≡◌, Bool, cond, List, Result, Ok, Err}
+use Rattle.text.specs.Keys.{steps_key, refs_key}
+use Rattle.model.specs.Sheets.{most_steps}
+use Rattle.model.specs.Values.{idles, blank_marks}
+use Rattle.model.specs.declared.Refusal.{Refusal}
 use Rattle.model.specs.declared.Sheet.{Sheet}
-use Rattle.model.specs.declared.Verdict.TheVariants.{Accepted}
-use Rattle.sheet.specs.Answers.{answer_of}
-use Rattle.sheet.specs.Reading.{rejected}
-use Rattle.sheet.specs.declared.SheetAnswer.{SheetAnswer}
-use Rattle.scan.specs.declared.numbers.LinesRead.{LinesRead}
-use Rattle.scan.specs.declared.numbers.LinesRead.TheVariants.{Done, Refused as NoLines}
-use Rattle.read_sheet.specs.inner.HeadsAtPlace.{head_with}
-use Rattle.read_touches.specs.inner.TouchesAtPlace.{mark_count}
-use Rattle.read_sheet.specs.declared.SheetRead.{SheetRead}
+use Rattle.sheet.specs.Lines.{number_line}
+use Rattle.scan.specs.inner.AtPlace.{counted_in}
+use Rattle.read_sheet.specs.inner.HeadsAtPlace.{BlankHead}
 
--- a sheet of a form with a head, so many steps, and its entries and marks
-abbrev pub sheet_on : ℕ → Head → ℕ → List ℕ → List Bool → Sheet
-sheet_on form head steps touches marks =
-    record {
-      form = form;
-      head = head;
-      steps = steps;
-      touches = touches;
-      marked = mark_count (leb 4 form) steps;
-      marks = marks;
-    }
+-- the sheet, where it was read to the end of the bytes, or the refusal
+abbrev pub answer_at : Result (Unit {0}) Refusal → Sheet → Result Sheet Refusal
+answer_at (Ok done) sheet = Ok sheet
+answer_at (Err why) sheet = Err why
 
--- the answer where the lines were read to the end of the bytes, and where they were refused
-abbrev pub answer_at : LinesRead → Sheet → SheetAnswer
-answer_at (Done next) sheet = record { verdict = Accepted; sheet = sheet }
-answer_at (NoLines why) sheet = answer_of (rejected why)
+-- how many entries the first line counts, from form 2 on as steps, in form 1 as references; 0 where it is refused
+abbrev pub steps_counted : Bool → List ℕ → ℕ
+steps_counted later s = counted_in (number_line (cond later steps_key refs_key) 0 most_steps s)
 
--- the answer to what was read of a sheet, with its lists
-abbrev pub answer_with : SheetRead → List ℕ → List ℕ → List ℕ → List Bool → SheetAnswer
-answer_with r sizes holds touches marks =
-    answer_at r.lines (sheet_on r.form (head_with r.head sizes holds) r.steps touches marks)
-
--- the lists of a sheet before they are read
-pub record BlankLists (sizes holds touches : List ℕ) (marks : List Bool) : Type 0 where
-  pub sizes_zero : sizes ≡ zeros most_segs
-  pub holds_zero : holds ≡ zeros most_segs
-  pub idle_all : touches ≡ idles most_steps
-  pub unmarked : marks ≡ blank_marks most_steps
+-- a sheet of which only the form is read
+pub record BlankSheet (x : Sheet) : Type 0 where
+  pub head_blank : BlankHead x.head
+  pub idle_all : x.touches ≡ idles most_steps
+  pub unmarked : x.marks ≡ blank_marks most_steps

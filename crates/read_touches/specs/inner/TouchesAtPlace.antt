@@ -1,9 +1,9 @@
 -- What the results of reading the lines of touches stand for: entries and, in a form that has the letter w, marks.
-use Rattle.std.specs.Prelude.{ℕ, ◌≤◌, ◌≡◌, Bool, false, cond, List, [], length, take, replicate}
+use Rattle.std.specs.Prelude.{ℕ, ◌≤◌, ◌≡◌, Bool, false, cond, List, [], length, take, replicate, Result}
 use Rattle.model.specs.Sheets.{idle, most_segs, most_steps}
 use Rattle.model.specs.Values.{idles, blank_marks}
-use Rattle.scan.specs.declared.numbers.LinesRead.{LinesRead}
-use Rattle.scan.specs.inner.AtPlace.{LinesReads, Filled}
+use Rattle.model.specs.declared.Refusal.{Refusal}
+use Rattle.scan.specs.inner.AtPlace.{list_end, list_count, LinesReads, Filled}
 use Rattle.sheet.specs.Lines.{Parsed}
 use Rattle.sheet.specs.Touches.{Entries}
 
@@ -31,14 +31,15 @@ pub record BlankSteps (segs : ℕ) (es : List ℕ) (ms : List Bool) : Type 0 whe
   pub unmarked : ms ≡ blank_marks most_steps
 
 -- entries and marks that were read from the head of s; in a form without the letter w the marks are as they were
-pub record EntriesReads (letters : Bool) (s : List ℕ) (r : LinesRead) (es : List ℕ) (ms blank : List Bool) (p : Parsed Entries) :
+pub record EntriesReads (letters : Bool) (s : List ℕ) (r : Result ℕ Refusal) (es : List ℕ) (ms blank : List Bool) (p : Parsed Entries) :
     Type 0 where
   pub reads : LinesReads s r (entries_with letters es ms) p
   pub unmarked : letters ≡ false → ms ≡ blank
 
--- n entries that were read from the head of s stand at the front of es, and their marks at the front of ms; both were blank
-pub record StepsReads (letters : Bool) (s : List ℕ) (r : LinesRead) (n : ℕ) (es idles₀ : List ℕ) (ms marks₀ : List Bool)
+-- entries that were read from the head of s stand at the front of es, and their marks at the front of ms; both were blank. Where they are
+-- refused, what stands behind the first m is still blank
+pub record StepsReads (letters : Bool) (s : List ℕ) (r : Result (ℕ × ℕ) Refusal) (m : ℕ) (es idles₀ : List ℕ) (ms marks₀ : List Bool)
     (p : Parsed Entries) : Type 0 where
-  pub reads : LinesReads s r (entries_with letters (take n es) (take n ms)) p
-  pub filled : Filled n es idles₀
-  pub marked : Filled (mark_count letters n) ms marks₀
+  pub reads : LinesReads s (list_end r) (entries_with letters (take (list_count r m) es) (take (list_count r m) ms)) p
+  pub filled : Filled (list_count r m) es idles₀
+  pub marked : Filled (mark_count letters (list_count r m)) ms marks₀

@@ -1,5 +1,4 @@
 -- `place_after` meets its contract: what follows a line is the end of the sheet.
-use Prim.Native.Nat.{◌-◌}
 use mathlib.Core.Path.{ap, ◌∙◌}
 use native.Mathlib.Omega.{arith}
 use lib.ListN.{length, drop, length-drop}
@@ -13,7 +12,3 @@ overflow_sub-result c =
     let e = ap length (c.after-left.ensures ∙ ap after_line c.rest.ensures) in
     let a = c.args in
     omega (arith, e, after-length line_feed (drop a.at a.s.now), length-drop a.at a.s.now)
-
-pub returns : goal.returns
-returns c = ap (λ l. length c.args.s.now - length l) (c.after-left.ensures ∙ ap after_line
-    c.rest.ensures)

@@ -5,16 +5,19 @@ use lib.Seq.{length-take-le}
 use Rattle.model.specs.Values.{value_of}
 use Rattle.rows.proofs.all_figures.Goals as goal
 
-pub slice_bounds-touches-end : goal.slice_bounds-touches-end
-slice_bounds-touches-end c = omega (arith, c.requires)
-
 pub slice_bounds-figures-end : goal.slice_bounds-figures-end
 slice_bounds-figures-end c = sym (length-take-le _ _ (omega (arith, c.requires)))
 
 pub figures-requires : goal.figures-requires
 unfolding value_of
 figures-requires c = let p = c.requires in
-    record { segs_le_most_segs = (p.segs_within, p.rows_within, p.warm_within); rows_within = (p.valid.rows, p.valid.run) }
+    record {
+      few_segs = p.segs_within;
+      few_rows = p.rows_within;
+      few_warm = p.warm_within;
+      rows_ok = p.valid.rows;
+      run_ok = p.valid.run;
+    }
 
 pub returns : goal.returns
 unfolding value_of

@@ -17,12 +17,12 @@ pub figures-only-requires : goal.figures-only-requires
 unfolding value_of head_value_of
 figures-only-requires c =
     let n = rows-counted c.args.s c.requires.0 in record {
-      segs_le_most_segs = (c.requires.0.segs_within, omega arith, c.requires.0.warm_within);
-      rows_within = (
-        rw (row_of c.args.s c.requires.0 c.args.row c.requires.1)
-            at (row-alone-within (value_of c.args.s).head.rows c.requires.0.valid.rows c.args.row (omega (arith, c.requires.1))),
-        c.requires.0.valid.run,
-      );
+      few_segs = c.requires.0.segs_within;
+      few_rows = omega arith;
+      few_warm = c.requires.0.warm_within;
+      rows_ok = rw (row_of c.args.s c.requires.0 c.args.row c.requires.1)
+          at (row-alone-within (value_of c.args.s).head.rows c.requires.0.valid.rows c.args.row (omega (arith, c.requires.1)));
+      run_ok = c.requires.0.valid.run;
     }
 
 pub returns : goal.returns

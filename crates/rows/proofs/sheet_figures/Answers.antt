@@ -11,7 +11,7 @@ pub returns-then-row-s : goal.returns-then-row-s
 unfolding figures_of
 returns-then-row-s c =
     let n = rows-counted c.args.s c.requires in
-    rw (le-ltb c.args.row (length (value_of c.args.s).head.rows) (omega (arith, c.if-row-s.true))) c.refused.ensures
+    rw (le-ltb c.args.row (length (value_of c.args.s).head.rows) (omega (arith, c.if-row-s.true)))
 
 pub returns : goal.returns
 unfolding figures_of

@@ -1,17 +1,12 @@
 -- What the functions that write the optimal schedule give: the marks of kept touches, and the bytes of a step with one segment changed.
-use Rattle.std.specs.Prelude.{ℕ, ◌+◌, ◌-◌, ◌*◌, ◌/◌, ◌%◌, ◌^◌, ◌<◌, ◌≡◌, Bool, false, cond, List, eqb, leb, get_or, replicate}
+use Rattle.std.specs.Prelude.{ℕ, ◌+◌, ◌-◌, ◌*◌, ◌/◌, ◌%◌, ◌^◌, ◌<◌, ◌≡◌, Bool, false, cond, List, eqb, leb, get_or}
 use Rattle.std.specs.Int.Bits.{bit_and}
 use Rattle.model.specs.Costs.{swap_cost, retention, keeps}
 use Rattle.model.specs.Sums.{tabulate}
 use Rattle.model.specs.Traces.{Trace, segs, steps, entry}
 use Rattle.model.specs.Figures.{kept}
-use Rattle.model.specs.Sheets.{most_steps}
 use Rattle.model.specs.declared.Kind.{Kind}
 use Rattle.model.specs.declared.PriceRow.{PriceRow}
-
--- no touch is marked as kept
-unfoldable pub no_marks : List Bool
-no_marks = replicate most_steps false
 
 -- whether a touch of a segment of size z after t steps is kept, by the segment's mark in the table of last touches
 abbrev pub kept_by : Kind → ℕ → PriceRow → ℕ → ℕ → ℕ → Bool
@@ -20,14 +15,6 @@ kept_by kind a row z mark t = cond (leb mark t) (keeps (row.d * retention kind z
 -- mark t says whether the touch in the step at place t is kept, where it has one
 abbrev pub KeptMarks : Trace → PriceRow → List Bool → Type 0
 KeptMarks T row marks = (t : ℕ) → t < steps T → entry T t < segs T → get_or marks t false ≡ kept T row.h row.d t (entry T t)
-
--- the bytes of a step that holds no segment
-unfoldable pub no_segments : List ℕ
-no_segments = replicate 32 0
-
--- a table of masks without a bit, for 256 segments and for none
-unfoldable pub no_masks : List ℕ
-no_masks = replicate 8224 0
 
 -- byte j of a step that holds segment i alone
 unfoldable pub mask_byte : ℕ → ℕ → ℕ

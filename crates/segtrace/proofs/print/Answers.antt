@@ -5,7 +5,7 @@ use Rattle.model.proofs.Places.{left-length}
 use Rattle.segtrace.proofs.print.Goals as goal
 
 pub slice_bounds-write_all-end : goal.slice_bounds-write_all-end
-slice_bounds-write_all-end c = omega (arith, left-length c.printed-answer.ensures)
+slice_bounds-write_all-end c = omega (arith, left-length c.in-Ok.ensures)
 
-pub slice_bounds-write_all-end-2 : goal.slice_bounds-write_all-end-2
-slice_bounds-write_all-end-2 c = sym (length-take-le _ _ (omega (arith, left-length c.printed-answer.ensures)))
+pub slice_bounds-write_all-end-in-Ok : goal.slice_bounds-write_all-end-in-Ok
+slice_bounds-write_all-end-in-Ok c = sym (length-take-le _ _ (omega (arith, left-length c.in-Ok.ensures)))

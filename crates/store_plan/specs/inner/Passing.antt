@@ -1,12 +1,7 @@
 -- What the pass over a schedule's touches looks at, and of which runs it speaks.
-use Rattle.std.specs.Prelude.{ℕ, zero, suc, ◌+◌, ◌*◌, ◌/◌, ◌%◌, ◌≡◌, Bool, false, List, get_or, replicate}
+use Rattle.std.specs.Prelude.{ℕ, zero, suc, ◌+◌, ◌*◌, ◌/◌, ◌%◌, ◌≡◌, Bool, false, List, get_or}
 use Rattle.model.specs.Schedules.{bit}
-use Rattle.model.specs.Sheets.{most_segs}
 use Rattle.model.specs.Traces.{Trace}
-
--- no segment is modified
-unfoldable pub no_flags : List Bool
-no_flags = replicate most_segs false
 
 -- segment i is held in step t, counted from 1, of a schedule; before step 1 none is
 unfoldable pub held_after : List ℕ → ℕ → ℕ → Bool

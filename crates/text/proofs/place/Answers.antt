@@ -5,7 +5,7 @@ use Rattle.text.proofs.Placing.{text-put}
 use Rattle.text.proofs.place.Goals as goal
 
 pub returns-then-out-text : goal.returns-then-out-text
-returns-then-out-text c = rw c.refused.ensures (text-short _ _ (omega (arith, c.if-out-text.true)))
+returns-then-out-text c = text-short _ _ (omega (arith, c.if-out-text.true))
 
 pub returns : goal.returns
 returns c = let p = c.put.ensures in text-put _ _ _ _ _ (omega (arith, p.ends)) p

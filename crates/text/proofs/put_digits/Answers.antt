@@ -19,12 +19,3 @@ returns c =
     let l = whole (goal.at.returns c).Start in
     put_then (put_of (written c.args.n) c.args.at c.args.out.now (omega arith) w.ensures.0 w.ensures.1)
     (put_byte c.args.end w.result _ (omega arith))
-
-pub write-last-requires : goal.write-last-requires
-write-last-requires c = omega (arith, whole (goal.at.write-last-requires c).Start)
-
-pub bounds-out-last : goal.bounds-out-last
-bounds-out-last c = omega (arith, whole (goal.at.bounds-out-last c).Start)
-
-pub overflow_add-result : goal.overflow_add-result
-overflow_add-result c = omega (arith, whole (goal.at.overflow_add-result c).Start)

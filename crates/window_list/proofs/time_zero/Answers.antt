@@ -3,11 +3,11 @@ use mathlib.Core.Path.{sym}
 use Rattle.window_list.proofs.Answers.{time-space, time-weight, time-none}
 use Rattle.window_list.proofs.time_zero.Goals as goal
 
-pub returns-then-a-ne0 : goal.returns-then-a-ne0
-returns-then-a-ne0 c = sym (time-weight _ _ (cc) c.if-a-ne0.true)
+pub returns-in-Time-eq0 : goal.returns-in-Time-eq0
+returns-in-Time-eq0 c = sym (time-none _ _ c.in-Time-eq0.is-0 c.in-Time-eq0.is-1)
 
-pub returns-in-Space : goal.returns-in-Space
-returns-in-Space c = sym (time-space _ _ cc)
+pub returns-in_default : goal.returns-in_default
+returns-in_default c = sym (time-weight _ _ c.in_default.is-0 c.in_default.is-1.1)
 
-pub returns-else-a-ne0 : goal.returns-else-a-ne0
-returns-else-a-ne0 c = sym (time-none _ _ (cc) c.if-a-ne0.false)
+pub returns-in_default-2 : goal.returns-in_default-2
+returns-in_default-2 c = sym (time-space _ _ c.in_default.is-0)

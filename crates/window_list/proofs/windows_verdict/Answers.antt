@@ -1,15 +1,16 @@
--- `window_list::windows_verdict` meets its contract: the kind and a come first, then the sizes and the warm segments.
-use mathlib.Core.Path.{sym}
-use native.Mathlib.Omega.{arith}
-use lib.Seq.{length-take-le}
+-- `window_list::windows_verdict` meets its contract: the kind and a are tested, then the sizes and the warm segments.
+use mathlib.Core.Path.{◌∙◌}
+use lib.ListN.{take}
 use Rattle.model.specs.Values.{head_value_of, value_of}
 use Rattle.model.proofs.Standing.{warm-counted}
+use Rattle.replacement.specs.Answers.{ones_verdict}
+use Rattle.windows.specs.Answers.{time_zero}
+use Rattle.window_list.proofs.Answers.{and-first}
 use Rattle.window_list.proofs.windows_verdict.Goals as goal
-
-pub slice_bounds-ones_verdict-end : goal.slice_bounds-ones_verdict-end
-slice_bounds-ones_verdict-end c = sym (length-take-le _ _ (omega (arith, c.requires)))
 
 pub returns : goal.returns
 unfolding value_of head_value_of
 returns c =
-    rw (c.first_of.ensures, c.time_zero-time.ensures, c.ones_verdict-ones.ensures, warm-counted c.args.s c.requires)
+    rw (warm-counted c.args.s c.requires)
+    (c.and.ensures ∙ rw (c.time_zero-time.ensures, c.ones_verdict-ones.ensures) (and-first (time_zero c.args.s.head.kind c.args.s.head.a)
+    (ones_verdict (take c.args.s.head.segs c.args.s.head.sizes) c.args.s.head.warm)))

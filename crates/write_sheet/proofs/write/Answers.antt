@@ -4,13 +4,8 @@ use Rattle.model.proofs.Places.{text-short}
 use Rattle.text.proofs.Placing.{text-put}
 use Rattle.write_sheet.proofs.write.Goals as goal
 
-pub returns-then-out-length : goal.returns-then-out-length
-returns-then-out-length c = text-short _ _ (omega (arith, c.text_length-length.ensures, c.if-out-length.true))
-
-pub put_sheet-requires : goal.put_sheet-requires
-put_sheet-requires c =
-    omega (arith, c.text_length-length.ensures, c.if-out-length.false)
+pub returns-then-out-text_length : goal.returns-then-out-text_length
+returns-then-out-text_length c = text-short _ _ (omega (arith, c.text_length.ensures, c.if-out-text_length.true))
 
 pub returns : goal.returns
-returns c =
-    text-put _ _ _ _ _ c.text_length-length.ensures c.put_sheet.ensures
+returns c = let p = c.put_sheet.ensures in text-put _ _ _ _ _ (omega (arith, p.ends)) p

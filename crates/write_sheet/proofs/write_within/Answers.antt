@@ -4,5 +4,4 @@ use Rattle.text.proofs.Placing.{text-put}
 use Rattle.write_sheet.proofs.write_within.Goals as goal
 
 pub returns : goal.returns
-returns c =
-    text-put _ _ _ _ _ (omega (arith, c.put_sheet-length.ensures.ends)) c.put_sheet-length.ensures
+returns c = let p = c.put_sheet.ensures in text-put _ _ _ _ _ (omega (arith, p.ends)) p

@@ -1,26 +1,17 @@
--- `figures::bill` meets its contract: what the sheet reads as decides.
-use mathlib.Core.Path.{sym, ◌∙◌}
-use Rattle.tariff.specs.Billing.{no_bill, bill_for, tariff_of}
+-- `figuring::bill` meets its contract: what the sheet reads as decides.
+use Rattle.analyser.proofs.Asked.{asked-refused, asked-accepted}
 use Rattle.analyser.specs.Figures.{bill_answer}
-use Rattle.sheet.proofs.Accepting.{on-refused, on-accepted, stands}
+use Rattle.sheet.proofs.Accepting.{stands}
+use Rattle.tariff.specs.Billing.{bill_for, tariff_of}
 use Rattle.analyser.proofs.figuring.bill.Goals as goal
 
 pub sheet_bill-requires : goal.sheet_bill-requires
-sheet_bill-requires c =
-    stands _ c.read_forms-answer.result c.read_forms-answer.ensures (cc)
+sheet_bill-requires c = stands _ _ c.in_ok-sheet.ensures
 
-pub returns-in-Refused : goal.returns-in-Refused
+pub returns-in_err-sheet : goal.returns-in_err-sheet
 unfolding bill_answer
-returns-in-Refused c =
-    let a = c.args in
-    let t = tariff_of a.memory_rate a.load_rate a.minimum in
-    c.refused.ensures
-    ∙ sym (on-refused _ c.read_forms-answer.result c.read_forms-answer.ensures _ (cc) no_bill (λ v. bill_for v a.row t))
+returns-in_err-sheet c = asked-refused _ (λ v. bill_for v c.args.row (tariff_of c.args.memory_rate c.args.load_rate c.args.minimum)) _ _ c.from_residual.ensures.1 c.in_err-sheet.ensures
 
-pub returns-in-Accepted : goal.returns-in-Accepted
+pub returns : goal.returns
 unfolding bill_answer
-returns-in-Accepted c =
-    let a = c.args in
-    let t = tariff_of a.memory_rate a.load_rate a.minimum in
-    c.sheet_bill.ensures
-    ∙ sym (on-accepted _ c.read_forms-answer.result c.read_forms-answer.ensures (cc) no_bill (λ v. bill_for v a.row t))
+returns c = asked-accepted _ (λ v. bill_for v c.args.row (tariff_of c.args.memory_rate c.args.load_rate c.args.minimum)) _ _ c.sheet_bill.ensures c.in_ok-sheet.ensures

@@ -1,24 +1,17 @@
--- `figures::figures` meets its contract: what the sheet reads as decides.
-use mathlib.Core.Path.{sym, ◌∙◌}
-use Rattle.model.specs.RowAnswers.{no_figures, figures_of}
+-- `figuring::figures` meets its contract: what the sheet reads as decides.
+use Rattle.analyser.proofs.Asked.{asked-refused, asked-accepted}
 use Rattle.analyser.specs.Figures.{figures_answer}
-use Rattle.sheet.proofs.Accepting.{on-refused, on-accepted, stands}
+use Rattle.model.specs.RowAnswers.{figures_of}
+use Rattle.sheet.proofs.Accepting.{stands}
 use Rattle.analyser.proofs.figuring.figures.Goals as goal
 
 pub sheet_figures-requires : goal.sheet_figures-requires
-sheet_figures-requires c =
-    stands _ c.read_forms-answer.result c.read_forms-answer.ensures (cc)
+sheet_figures-requires c = stands _ _ c.in_ok-sheet.ensures
 
-pub returns-in-Refused : goal.returns-in-Refused
+pub returns-in_err-sheet : goal.returns-in_err-sheet
 unfolding figures_answer
-returns-in-Refused c =
-    let a = c.args in
-    c.refused.ensures
-    ∙ sym (on-refused _ c.read_forms-answer.result c.read_forms-answer.ensures _ (cc) no_figures (λ v. figures_of v a.row))
+returns-in_err-sheet c = asked-refused _ (λ v. figures_of v c.args.row) _ _ c.from_residual.ensures.1 c.in_err-sheet.ensures
 
-pub returns-in-Accepted : goal.returns-in-Accepted
+pub returns : goal.returns
 unfolding figures_answer
-returns-in-Accepted c =
-    let a = c.args in
-    c.sheet_figures.ensures
-    ∙ sym (on-accepted _ c.read_forms-answer.result c.read_forms-answer.ensures (cc) no_figures (λ v. figures_of v a.row))
+returns c = asked-accepted _ (λ v. figures_of v c.args.row) _ _ c.sheet_figures.ensures c.in_ok-sheet.ensures

@@ -1,24 +1,17 @@
--- `figures::margin` meets its contract: what the sheet reads as decides.
-use mathlib.Core.Path.{sym, ◌∙◌}
-use Rattle.model.specs.Margins.{no_margin, margin_for}
+-- `figuring::margin` meets its contract: what the sheet reads as decides.
+use Rattle.analyser.proofs.Asked.{asked-refused, asked-accepted}
 use Rattle.analyser.specs.Figures.{margin_answer}
-use Rattle.sheet.proofs.Accepting.{on-refused, on-accepted, stands}
+use Rattle.model.specs.Margins.{margin_for}
+use Rattle.sheet.proofs.Accepting.{stands}
 use Rattle.analyser.proofs.figuring.margin.Goals as goal
 
 pub sheet_margin-requires : goal.sheet_margin-requires
-sheet_margin-requires c =
-    stands _ c.read_forms-answer.result c.read_forms-answer.ensures (cc)
+sheet_margin-requires c = stands _ _ c.in_ok-sheet.ensures
 
-pub returns-in-Refused : goal.returns-in-Refused
+pub returns-in_err-sheet : goal.returns-in_err-sheet
 unfolding margin_answer
-returns-in-Refused c =
-    let a = c.args in
-    c.refused.ensures
-    ∙ sym (on-refused _ c.read_forms-answer.result c.read_forms-answer.ensures _ (cc) no_margin (λ v. margin_for v a.row a.reference))
+returns-in_err-sheet c = asked-refused _ (λ v. margin_for v c.args.row c.args.reference) _ _ c.from_residual.ensures.1 c.in_err-sheet.ensures
 
-pub returns-in-Accepted : goal.returns-in-Accepted
+pub returns : goal.returns
 unfolding margin_answer
-returns-in-Accepted c =
-    let a = c.args in
-    c.sheet_margin.ensures
-    ∙ sym (on-accepted _ c.read_forms-answer.result c.read_forms-answer.ensures (cc) no_margin (λ v. margin_for v a.row a.reference))
+returns c = asked-accepted _ (λ v. margin_for v c.args.row c.args.reference) _ _ c.sheet_margin.ensures c.in_ok-sheet.ensures

@@ -1,25 +1,17 @@
--- `figures::size` meets its contract: what the sheet reads as decides.
-use mathlib.Core.Path.{sym, ◌∙◌}
-use Rattle.model.specs.Sizing.{sized_row}
-use Rattle.model.specs.Sizing.{no_size, sizing}
+-- `figuring::size` meets its contract: what the sheet reads as decides.
+use Rattle.analyser.proofs.Asked.{asked-refused, asked-accepted}
 use Rattle.analyser.specs.Figures.{size_answer}
-use Rattle.sheet.proofs.Accepting.{on-refused, on-accepted, stands}
+use Rattle.model.specs.Sizing.{sizing, sized_row}
+use Rattle.sheet.proofs.Accepting.{stands}
 use Rattle.analyser.proofs.figuring.size.Goals as goal
 
 pub sheet_size-requires : goal.sheet_size-requires
-sheet_size-requires c =
-    stands _ c.read_forms-answer.result c.read_forms-answer.ensures (cc)
+sheet_size-requires c = stands _ _ c.in_ok-sheet.ensures
 
-pub returns-in-Refused : goal.returns-in-Refused
+pub returns-in_err-sheet : goal.returns-in_err-sheet
 unfolding size_answer
-returns-in-Refused c =
-    let a = c.args in
-    c.refused.ensures
-    ∙ sym (on-refused _ c.read_forms-answer.result c.read_forms-answer.ensures _ (cc) no_size (λ v. sizing (sized_row v a.ceiling)))
+returns-in_err-sheet c = asked-refused _ (λ v. sizing (sized_row v c.args.ceiling)) _ _ c.from_residual.ensures.1 c.in_err-sheet.ensures
 
-pub returns-in-Accepted : goal.returns-in-Accepted
+pub returns : goal.returns
 unfolding size_answer
-returns-in-Accepted c =
-    let a = c.args in
-    c.sheet_size.ensures
-    ∙ sym (on-accepted _ c.read_forms-answer.result c.read_forms-answer.ensures (cc) no_size (λ v. sizing (sized_row v a.ceiling)))
+returns c = asked-accepted _ (λ v. sizing (sized_row v c.args.ceiling)) _ _ c.sheet_size.ensures c.in_ok-sheet.ensures

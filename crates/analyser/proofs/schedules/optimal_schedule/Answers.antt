@@ -1,29 +1,22 @@
 -- `schedules::optimal_schedule` meets its contract: what the sheet reads as decides.
-use native.Mathlib.Omega.{arith}
-use Rattle.stores.specs.Plans.{schedule_for}
+use Rattle.analyser.proofs.Asked.{left-refused, left-accepted}
 use Rattle.analyser.specs.Schedules.{schedule_result}
 use Rattle.model.specs.Values.{value_of}
-use Rattle.sheet.specs.Reading.{read_forms}
+use Rattle.sheet.proofs.Accepting.{forms-stand, forms-taken}
 use Rattle.sheet_schedules.proofs.PlanResults.{plan-is-schedule}
-use Rattle.sheet.proofs.Accepting.{result-refused, result-accepted, forms-stand, forms-taken}
+use Rattle.stores.specs.Plans.{schedule_for}
+use native.Mathlib.Omega.{arith}
 use Rattle.analyser.proofs.schedules.optimal_schedule.Goals as goal
 
 pub sheet_plan-requires : goal.sheet_plan-requires
-sheet_plan-requires c =
-    forms-stand 1 3 _ c.read_forms-answer.result c.read_forms-answer.ensures (omega arith) (cc)
+sheet_plan-requires c = forms-stand 1 3 _ _ c.in_ok-sheet.ensures (omega arith)
 
-pub returns-in-Refused : goal.returns-in-Refused
+pub returns-in_err-sheet : goal.returns-in_err-sheet
 unfolding schedule_result
-returns-in-Refused c =
-    let a = c.args in
-    result-refused (read_forms 1 3 a.bytes.now) c.read_forms-answer.result c.read_forms-answer.ensures a.out.now
-    (λ v. schedule_for v a.row)
-    c.refused.ensures (cc)
+returns-in_err-sheet c = left-refused _ (λ v. schedule_for v c.args.row) _ _ _ c.from_residual.ensures.1 c.in_err-sheet.ensures
 
-pub returns-in-Accepted : goal.returns-in-Accepted
+pub returns : goal.returns
 unfolding schedule_result value_of
-returns-in-Accepted c =
-    let a = c.args in
-    let taken = forms-taken 1 3 a.bytes.now c.read_forms-answer.result c.read_forms-answer.ensures (omega arith) (cc) in
-    result-accepted (read_forms 1 3 a.bytes.now) c.read_forms-answer.result c.read_forms-answer.ensures (λ v. schedule_for v a.row)
-    (rw (plan-is-schedule (value_of c.read_forms-answer.result.sheet) a.row taken.1) at c.sheet_plan.ensures) (cc)
+returns c =
+    let taken = forms-taken 1 3 _ _ c.in_ok-sheet.ensures (omega arith) in
+    left-accepted _ (λ v. schedule_for v c.args.row) (rw (plan-is-schedule (value_of c.in_ok-sheet.sheet) c.args.row taken.1) at c.sheet_plan.ensures) c.in_ok-sheet.ensures

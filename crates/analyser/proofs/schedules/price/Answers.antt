@@ -1,25 +1,17 @@
 -- `schedules::price` meets its contract: what the sheet reads as decides.
-use mathlib.Core.Path.{sym, ◌∙◌}
-use Rattle.model.specs.Pricing.{no_price}
-use Rattle.stores.specs.Plans.{price_for}
+use Rattle.analyser.proofs.Asked.{asked-refused, asked-accepted}
 use Rattle.analyser.specs.Schedules.{pricing}
-use Rattle.sheet.proofs.Accepting.{on-refused, on-accepted, stands}
+use Rattle.sheet.proofs.Accepting.{stands}
+use Rattle.stores.specs.Plans.{price_for}
 use Rattle.analyser.proofs.schedules.price.Goals as goal
 
 pub sheet_price-requires : goal.sheet_price-requires
-sheet_price-requires c =
-    stands _ c.read_forms-answer.result c.read_forms-answer.ensures (cc)
+sheet_price-requires c = stands _ _ c.in_ok-sheet.ensures
 
-pub returns-in-Refused : goal.returns-in-Refused
+pub returns-in_err-sheet : goal.returns-in_err-sheet
 unfolding pricing
-returns-in-Refused c =
-    let a = c.args in
-    c.refused.ensures ∙ sym
-    (on-refused _ c.read_forms-answer.result c.read_forms-answer.ensures _ (cc) no_price (λ v. price_for v a.row a.schedule.now))
+returns-in_err-sheet c = asked-refused _ (λ v. price_for v c.args.row c.args.schedule.now) _ _ c.from_residual.ensures.1 c.in_err-sheet.ensures
 
-pub returns-in-Accepted : goal.returns-in-Accepted
+pub returns : goal.returns
 unfolding pricing
-returns-in-Accepted c =
-    let a = c.args in
-    c.sheet_price.ensures
-    ∙ sym (on-accepted _ c.read_forms-answer.result c.read_forms-answer.ensures (cc) no_price (λ v. price_for v a.row a.schedule.now))
+returns c = asked-accepted _ (λ v. price_for v c.args.row c.args.schedule.now) _ _ c.sheet_price.ensures c.in_ok-sheet.ensures

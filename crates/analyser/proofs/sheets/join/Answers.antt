@@ -1,24 +1,18 @@
--- `sheets::join` meets its contract: what the first sheet reads as decides.
+-- `sheets::join` meets its contract: what the sheet reads as decides.
+use Rattle.analyser.proofs.Asked.{left-refused, left-accepted}
+use Rattle.analyser.specs.Sheets.{join_result}
+use Rattle.analyser.specs.Sheets.{joined_to}
+use Rattle.sheet.proofs.Accepting.{forms-stand}
 use native.Mathlib.Omega.{arith}
-use Rattle.sheet.specs.Reading.{read_forms}
-use Rattle.sheet.proofs.Accepting.{result-refused, result-accepted, forms-stand}
-use Rattle.analyser.specs.Sheets.{joined_to, join_result}
 use Rattle.analyser.proofs.sheets.join.Goals as goal
 
 pub join_to-requires : goal.join_to-requires
-join_to-requires c =
-    forms-stand _ _ _ c.read_forms-answer.result c.read_forms-answer.ensures (omega arith) (cc)
+join_to-requires c = forms-stand 2 3 _ _ c.in_ok-sheet.ensures (omega arith)
 
-pub returns-in-Refused : goal.returns-in-Refused
+pub returns-in_err-sheet : goal.returns-in_err-sheet
 unfolding join_result
-returns-in-Refused c =
-    let a = c.args in
-    result-refused (read_forms 2 3 a.first.now) c.read_forms-answer.result c.read_forms-answer.ensures
-    a.out.now (λ v. joined_to v a.second.now) c.refused.ensures (cc)
+returns-in_err-sheet c = left-refused _ (λ v. joined_to v c.args.second.now) _ _ _ c.from_residual.ensures.1 c.in_err-sheet.ensures
 
-pub returns-in-Accepted : goal.returns-in-Accepted
+pub returns : goal.returns
 unfolding join_result
-returns-in-Accepted c =
-    let a = c.args in
-    result-accepted (read_forms 2 3 a.first.now) c.read_forms-answer.result c.read_forms-answer.ensures
-    (λ v. joined_to v a.second.now) c.join_to.ensures (cc)
+returns c = left-accepted _ (λ v. joined_to v c.args.second.now) c.join_to.ensures c.in_ok-sheet.ensures

@@ -1,25 +1,18 @@
 -- `sheets::to_form_1` meets its contract: what the sheet reads as decides.
-use native.Mathlib.Omega.{arith}
-use Rattle.sheet.specs.Forms.{to_form_1}
+use Rattle.analyser.proofs.Asked.{left-refused, left-accepted}
 use Rattle.analyser.specs.Sheets.{to_form_1_result}
-use Rattle.sheet.specs.Reading.{read_forms}
-use Rattle.sheet.proofs.Accepting.{result-refused, result-accepted, forms-stand}
+use Rattle.sheet.proofs.Accepting.{forms-stand}
+use Rattle.sheet.specs.Forms.{to_form_1}
+use native.Mathlib.Omega.{arith}
 use Rattle.analyser.proofs.sheets.to_form_1.Goals as goal
 
 pub to_form_1-requires : goal.to_form_1-requires
-to_form_1-requires c =
-    forms-stand 2 2 _ c.read_forms-answer.result c.read_forms-answer.ensures (omega arith) (cc)
+to_form_1-requires c = forms-stand 2 2 _ _ c.in_ok-sheet.ensures (omega arith)
 
-pub returns-in-Refused : goal.returns-in-Refused
+pub returns-in_err-sheet : goal.returns-in_err-sheet
 unfolding to_form_1_result
-returns-in-Refused c =
-    let a = c.args in
-    result-refused (read_forms 2 2 a.bytes.now) c.read_forms-answer.result c.read_forms-answer.ensures a.out.now to_form_1
-    c.refused.ensures (cc)
+returns-in_err-sheet c = left-refused _ (to_form_1) _ _ _ c.from_residual.ensures.1 c.in_err-sheet.ensures
 
-pub returns-in-Accepted : goal.returns-in-Accepted
+pub returns : goal.returns
 unfolding to_form_1_result
-returns-in-Accepted c =
-    let a = c.args in
-    result-accepted (read_forms 2 2 a.bytes.now) c.read_forms-answer.result c.read_forms-answer.ensures to_form_1
-    c.to_form_1.ensures (cc)
+returns c = left-accepted _ (to_form_1) c.to_form_1.ensures c.in_ok-sheet.ensures

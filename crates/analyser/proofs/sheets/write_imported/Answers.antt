@@ -1,19 +1,11 @@
--- `sheets::write_imported` meets its contract: what importing comes to decides.
-use Rattle.model.specs.Places.{gives}
-use Rattle.model.specs.Values.{head_value_of}
+-- `sheets::write_imported` meets its contract: what the trace comes to decides.
+use Rattle.analyser.proofs.Asked.{left-refused, left-accepted}
 use Rattle.sheet.specs.Writing.{sheet_text}
-use Rattle.sheet.proofs.Accepting.{result-refused, result-accepted}
-use Rattle.din.specs.Import.{imported}
+use Rattle.std.specs.Prelude.{Ok}
 use Rattle.analyser.proofs.sheets.write_imported.Goals as goal
 
-pub returns-in-Refused : goal.returns-in-Refused
-returns-in-Refused c =
-    let a = c.args in
-    result-refused (imported a.k a.trace.now (head_value_of a.rows).rows) c.import-answer.result c.import-answer.ensures
-    a.out.now (λ u. gives (sheet_text u)) c.refused.ensures (cc)
+pub returns-in_err-sheet : goal.returns-in_err-sheet
+returns-in_err-sheet c = left-refused _ (λ u. Ok (sheet_text u)) _ _ _ c.from_residual.ensures.1 c.in_err-sheet.ensures
 
-pub returns-in-Accepted : goal.returns-in-Accepted
-returns-in-Accepted c =
-    let a = c.args in
-    result-accepted (imported a.k a.trace.now (head_value_of a.rows).rows) c.import-answer.result c.import-answer.ensures
-    (λ u. gives (sheet_text u)) c.write.ensures (cc)
+pub returns : goal.returns
+returns c = left-accepted _ (λ u. Ok (sheet_text u)) c.write.ensures c.in_ok-sheet.ensures

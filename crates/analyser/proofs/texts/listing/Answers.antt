@@ -1,25 +1,18 @@
 -- `texts::listing` meets its contract: what the sheet reads as decides.
-use Rattle.listing.specs.Listing.{listing_of}
-use Rattle.model.specs.Places.{gives}
+use Rattle.analyser.proofs.Asked.{left-refused, left-accepted}
 use Rattle.analyser.specs.Texts.{listing_result}
-use Rattle.sheet.specs.Reading.{read_sheet}
-use Rattle.sheet.proofs.Accepting.{result-refused, result-accepted, stands}
+use Rattle.listing.specs.Listing.{listing_of}
+use Rattle.sheet.proofs.Accepting.{stands}
+use Rattle.std.specs.Prelude.{Ok}
 use Rattle.analyser.proofs.texts.listing.Goals as goal
 
 pub sheet_listing-requires : goal.sheet_listing-requires
-sheet_listing-requires c =
-    stands _ c.read_forms-answer.result c.read_forms-answer.ensures (cc)
+sheet_listing-requires c = stands _ _ c.in_ok-sheet.ensures
 
-pub returns-in-Refused : goal.returns-in-Refused
+pub returns-in_err-sheet : goal.returns-in_err-sheet
 unfolding listing_result
-returns-in-Refused c =
-    let a = c.args in
-    result-refused (read_sheet a.bytes.now) c.read_forms-answer.result c.read_forms-answer.ensures a.out.now (λ v. gives (listing_of v))
-    c.refused.ensures (cc)
+returns-in_err-sheet c = left-refused _ (λ v. Ok (listing_of v)) _ _ _ c.from_residual.ensures.1 c.in_err-sheet.ensures
 
-pub returns-in-Accepted : goal.returns-in-Accepted
+pub returns : goal.returns
 unfolding listing_result
-returns-in-Accepted c =
-    let a = c.args in
-    result-accepted (read_sheet a.bytes.now) c.read_forms-answer.result c.read_forms-answer.ensures (λ v. gives (listing_of v))
-    c.sheet_listing.ensures (cc)
+returns c = left-accepted _ (λ v. Ok (listing_of v)) c.sheet_listing.ensures c.in_ok-sheet.ensures

@@ -1,25 +1,18 @@
 -- `texts::page` meets its contract: what the sheet reads as decides.
-use Rattle.page.specs.Page.{pages_of}
-use Rattle.model.specs.Places.{gives}
+use Rattle.analyser.proofs.Asked.{left-refused, left-accepted}
 use Rattle.analyser.specs.Texts.{page_result}
-use Rattle.sheet.specs.Reading.{read_sheet}
-use Rattle.sheet.proofs.Accepting.{result-refused, result-accepted, stands}
+use Rattle.page.specs.Page.{pages_of}
+use Rattle.sheet.proofs.Accepting.{stands}
+use Rattle.std.specs.Prelude.{Ok}
 use Rattle.analyser.proofs.texts.page.Goals as goal
 
 pub sheet_page-requires : goal.sheet_page-requires
-sheet_page-requires c =
-    stands _ c.read_forms-answer.result c.read_forms-answer.ensures (cc)
+sheet_page-requires c = stands _ _ c.in_ok-sheet.ensures
 
-pub returns-in-Refused : goal.returns-in-Refused
+pub returns-in_err-sheet : goal.returns-in_err-sheet
 unfolding page_result
-returns-in-Refused c =
-    let a = c.args in
-    result-refused (read_sheet a.bytes.now) c.read_forms-answer.result c.read_forms-answer.ensures a.out.now (λ v. gives (pages_of v))
-    c.refused.ensures (cc)
+returns-in_err-sheet c = left-refused _ (λ v. Ok (pages_of v)) _ _ _ c.from_residual.ensures.1 c.in_err-sheet.ensures
 
-pub returns-in-Accepted : goal.returns-in-Accepted
+pub returns : goal.returns
 unfolding page_result
-returns-in-Accepted c =
-    let a = c.args in
-    result-accepted (read_sheet a.bytes.now) c.read_forms-answer.result c.read_forms-answer.ensures (λ v. gives (pages_of v))
-    c.sheet_page.ensures (cc)
+returns c = left-accepted _ (λ v. Ok (pages_of v)) c.sheet_page.ensures c.in_ok-sheet.ensures

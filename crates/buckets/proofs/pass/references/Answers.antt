@@ -9,17 +9,17 @@ use Rattle.model.specs.Traces.{entry}
 use Rattle.buckets.specs.inner.Pass.{Limited}
 use Rattle.buckets.proofs.Filling.{roomy-touch, roomy-more}
 use Rattle.buckets.proofs.Passing.{pass_step, pass-idle, entry-on}
-use Rattle.buckets.proofs.Touches.{placed, placed-limited, placed-is, touch-searchable}
-use Rattle.buckets.proofs.pass.references.Goals.{After-bucket_of-k, In-loop-t, Then-i-sizes}
+use Rattle.buckets.proofs.Touches.{placed, placed-limited, placed-is, touch-priceable}
+use Rattle.buckets.proofs.pass.references.Goals.{After-bucket_of-k, In-loop-t, Then-i-sizes, then-i-sizes, else-i-sizes}
 use Rattle.buckets.proofs.pass.references.Goals as goal
 
 -- the steps are within the limits
 few : (c : In-loop-t) → c.args.steps + c.loop-t.t < 2048
-few c = omega (arith, c.loop-t-test.true, c.requires.passable.few_steps)
+few c = omega (arith, c.loop-t-test.true, c.requires.few_steps)
 
 -- the touched segment is among those of the table
 in_table : (c : Then-i-sizes) → get_or c.args.refs.now c.loop-t.t 0 < 256
-in_table c = omega (arith, c.if-i-sizes.true, c.requires.passable.few_segs)
+in_table c = omega (arith, c.if-i-sizes.true, c.requires.few_segs)
 
 -- the touch with its bucket
 touch-limited : (c : After-bucket_of-k) → Limited (placed c.touch_of-x.result c.bucket_of-k.result)
@@ -43,7 +43,7 @@ loop-t-init c =
     let same : c.args.steps + 0 ≡ c.args.steps = omega arith in
     record {
       within = omega arith;
-      roomy = roomy-more _ (2 ^ 60) (2 ^ 60 + 0 * 2 ^ 48) (omega arith) c.requires.passable.roomy;
+      roomy = roomy-more _ (2 ^ 60) (2 ^ 60 + 0 * 2 ^ 48) (omega arith) c.requires.roomy;
       passed = λ list of warm before at run is. rw same is;
     }
 
@@ -52,9 +52,6 @@ overflow_cast-i c = omega (arith, c.type_inv.refs c.loop-t.t)
 
 pub overflow_add-step : goal.overflow_add-step
 overflow_add-step c = omega (arith, few (goal.at.overflow_add-step c).In-loop-t)
-
-pub overflow_add-t : goal.overflow_add-t
-overflow_add-t c = omega (arith, few (goal.at.overflow_add-t c).In-loop-t)
 
 pub offset_bounds-sizes-i : goal.offset_bounds-sizes-i
 offset_bounds-sizes-i c = omega (arith, in_table c)
@@ -73,7 +70,7 @@ overflow_cast-step c = omega (arith, few (goal.at.overflow_cast-step c).In-loop-
 
 pub bucket_of-k-requires : goal.bucket_of-k-requires
 bucket_of-k-requires c =
-    touch-searchable _ _ _ c.requires.hs_len.0 c.requires.hs_len.1 c.touch_of-x.ensures.within
+    touch-priceable _ c.touch_of-x.ensures.within
 
 pub add_touch-requires : goal.add_touch-requires
 add_touch-requires c =
@@ -98,36 +95,37 @@ offset_bounds-last-i-then-i-sizes c = omega (arith, in_table (goal.at.offset_bou
 pub bounds-last-i-then-i-sizes : goal.bounds-last-i-then-i-sizes
 bounds-last-i-then-i-sizes c = in_table (goal.at.bounds-last-i-then-i-sizes c).Then-i-sizes
 
-pub loop-t-preserved-then-i-sizes : goal.loop-t-preserved-then-i-sizes
-loop-t-preserved-then-i-sizes c =
-    let lim = touch-limited (goal.at.loop-t-preserved-then-i-sizes c).After-bucket_of-k in
-    let t = c.loop-t.t in
-    let same : c.args.steps + (t + 1) ≡ c.args.steps + t + 1 = omega arith in
-    record {
-      within = omega (arith, c.loop-t-test.true);
-      roomy = roomy-touch _ (2 ^ 60 + t * 2 ^ 48) (2 ^ 60 + (t + 1) * 2 ^ 48) (omega arith) c.loop-t.invariant.roomy _ lim _
-          c.add_touch.ensures;
-      passed = λ list of warm before at run is.
-          rw same
-          (pass_step list _ _ _ _ (c.loop-t.invariant.passed list of warm before at run is) run
-          (in-run (goal.at.loop-t-preserved-then-i-sizes c).In-loop-t before at) _
-          (here (goal.at.loop-t-preserved-then-i-sizes c).In-loop-t warm before at) c.if-i-sizes.true _ lim
-          (placed-is _ _ list _ _ _ _ c.touch_of-x.ensures.exact (c.bucket_of-k.ensures.exact list of))
-          _ c.add_touch.ensures);
-    }
-
--- a step in which nothing is touched
 pub loop-t-preserved : goal.loop-t-preserved
 loop-t-preserved c =
     let t = c.loop-t.t in
     let same : c.args.steps + (t + 1) ≡ c.args.steps + t + 1 = omega arith in
-    record {
-      within = omega (arith, c.loop-t-test.true);
-      roomy = roomy-more _ (2 ^ 60 + t * 2 ^ 48) (2 ^ 60 + (t + 1) * 2 ^ 48) (omega arith) c.loop-t.invariant.roomy;
-      passed = λ list of warm before at run is.
-          rw same (pass-idle list _ _ _ _ (c.loop-t.invariant.passed list of warm before at run is)
-          (rw (here (goal.at.loop-t-preserved c).In-loop-t warm before at) c.if-i-sizes.false));
-    }
+    let turn = (goal.at.loop-t-preserved c).In-loop-t in
+    elim c.if-i-sizes.branch [
+      | then-i-sizes w ↦
+          let lim = placed-limited _ _ w.touch_of-x.ensures.within w.bucket_of-k.ensures.within in
+          rw (w.buckets-is, w.last-is)
+          (record {
+            within = omega (arith, c.loop-t-test.true);
+            roomy = roomy-touch _ (2 ^ 60 + t * 2 ^ 48) (2 ^ 60 + (t + 1) * 2 ^ 48) (omega arith) c.loop-t.invariant.roomy _ lim _
+                w.add_touch.ensures;
+            passed = λ list of warm before at run is.
+                rw same
+                (pass_step list _ _ _ _ (c.loop-t.invariant.passed list of warm before at run is) run (in-run turn before at) _
+                (here turn warm before at) w.if-i-sizes.true _ lim
+                (placed-is _ _ list _ _ _ _ w.touch_of-x.ensures.exact (w.bucket_of-k.ensures.exact list of))
+                _ w.add_touch.ensures);
+          })
+      -- a step in which nothing is touched
+      | else-i-sizes w ↦
+          rw (w.buckets-is, w.last-is)
+          (record {
+            within = omega (arith, c.loop-t-test.true);
+            roomy = roomy-more _ (2 ^ 60 + t * 2 ^ 48) (2 ^ 60 + (t + 1) * 2 ^ 48) (omega arith) c.loop-t.invariant.roomy;
+            passed = λ list of warm before at run is.
+                rw same (pass-idle list _ _ _ _ (c.loop-t.invariant.passed list of warm before at run is)
+                (rw (here turn warm before at) w.if-i-sizes.false));
+          })
+    ]
 
 pub returns : goal.returns
 returns c =

@@ -1,5 +1,5 @@
--- `pass::references` meets its contract. The invariant of its loop is `Passing`, the measure the references that are left.
-use Prim.Native.Nat.{ℕ, ◌+◌, ◌-◌, ◌*◌, ◌^◌, ◌≤◌}
+-- `pass::references` meets its contract. The invariant of its loop is `Passing`.
+use Prim.Native.Nat.{ℕ, ◌+◌, ◌*◌, ◌^◌, ◌≤◌}
 use mathlib.Core.List.{List, ◌++◌}
 use mathlib.Core.Path.{◌≡◌}
 use lib.ListN.{length}
@@ -9,20 +9,19 @@ use Rattle.model.specs.declared.PriceRow.{PriceRow}
 use Rattle.buckets.specs.declared.pass.Passed.{Passed}
 use Rattle.buckets.specs.inner.Pass.{Roomy, passed_after}
 use Rattle.buckets.specs.inner.Search.{RowsOf}
+use Rattle.buckets.specs.declared.search.Prices.{Prices}
 use Rattle.buckets.proofs.pass.references.Given as goal
 
 -- after t of the references: what was passed from `from` on is what is passed after `steps` + t steps, and there is room for the others
-pub record Passing (kind : Kind) (a rows : ℕ) (hs ds sizes : List ℕ) (steps : ℕ) (refs : List ℕ) (from to : Passed) (t : ℕ) : Type 0 where
+pub record Passing (kind : Kind) (a : ℕ) (prices : Prices) (sizes : List ℕ) (steps : ℕ) (refs : List ℕ)
+    (from to : Passed) (t : ℕ) : Type 0 where
   pub within : t ≤ length refs
   pub roomy : Roomy to.buckets (2 ^ 60 + t * 2 ^ 48)
-  pub passed : (list : List PriceRow) → RowsOf rows hs ds list → (warm before : List ℕ) → length before ≡ steps
+  pub passed : (list : List PriceRow) → RowsOf prices list → (warm before : List ℕ) → length before ≡ steps
       → RunWithin (run_of kind a sizes warm (before ++ refs)) → from ≡ passed_after list (run_of kind a sizes warm (before ++ refs)) steps
       → to ≡ passed_after list (run_of kind a sizes warm (before ++ refs)) (steps + t)
 
 abbrev pub invariant-loop-t : goal.invariant-loop-t
 invariant-loop-t l =
-    Passing l.kind l.a l.rows l.hs l.ds l.sizes l.steps l.refs (record { buckets = l.initial.buckets; last = l.initial.last })
+    Passing l.kind l.a l.prices l.sizes l.steps l.refs (record { buckets = l.initial.buckets; last = l.initial.last })
     (record { buckets = l.buckets; last = l.last }) l.t
-
-abbrev pub decreases-loop-t : goal.decreases-loop-t
-decreases-loop-t l = length l.refs - l.t

@@ -1,41 +1,29 @@
 -- `pass::touch_of` meets its contract.
-use Prim.Native.Nat.{◌-◌, ◌^◌, ◌<◌}
+use mathlib.Core.Path.{◌≡◌, refl}
 use native.Mathlib.Omega.{arith}
-use Rattle.buckets.proofs.Touches.{reuse-is, first_is}
-use Rattle.model.proofs.Bounds.{retention_within, swap_within}
-use Rattle.buckets.proofs.pass.touch_of.Goals.{After-retention_cost-r, After-swap_cost-w}
+use borrow.Author.Rules.{rules}
+use Rattle.model.proofs.Units.{load_is}
+use Rattle.buckets.specs.inner.Pass.{retention_if, unplaced}
+use Rattle.buckets.specs.inner.Search.{time_since}
+use Rattle.buckets.proofs.Touches.{retention-is, unplaced-limited}
+use Rattle.buckets.proofs.pass.touch_of.Goals.{After-swap_cost}
 use Rattle.buckets.proofs.pass.touch_of.Goals as goal
 
-swapped : (c : After-swap_cost-w) → c.swap_cost-w.result.0 < 2 ^ 32
-swapped c =
+-- the retention is that of the steps since the mark
+retained_as : (c : After-swap_cost) → c.map.result ≡ retention_if c.args.kind c.args.z (time_since c.args.steps c.args.mark)
+retained_as c =
+    retention-is c.args.kind c.args.z c.args.steps c.args.mark _ _ c.checked_sub.ensures _ c.map.ensures.cases
+    (λ k R q. search rules)
+
+is : (c : After-swap_cost) → record { size = c.args.z; retention = c.map.result; swap = c.swap_cost.result; bucket = 64 }
+    ≡ unplaced c.args.kind c.args.a c.args.z (time_since c.args.steps c.args.mark)
+unfolding unplaced
+is c = rw (retained_as c, load_is c.swap_cost.ensures) refl
+
+pub returns-clause-within : goal.returns-clause-within
+returns-clause-within c =
     let a = c.args in
-    rw c.swap_cost-w.ensures (swap_within a.a a.z (omega arith) (omega arith))
+    rw (is c) (unplaced-limited a.kind a.a a.z a.steps a.mark (omega arith) (omega arith) (omega arith))
 
-retained : (c : After-retention_cost-r) → c.retention_cost-r.result.0 < 2 ^ 32
-retained c =
-    let a = c.args in
-    rw c.retention_cost-r.ensures (retention_within a.kind a.z (a.steps - a.mark) (omega arith) (omega arith))
-
-pub returns-then-mark-steps : goal.returns-then-mark-steps
-returns-then-mark-steps c =
-    record {
-      within = record {
-        is_bucket = omega arith;
-        size_within = omega arith;
-        retention_within = retained c;
-        swap_within = swapped (goal.at.returns-then-mark-steps c).After-swap_cost-w;
-      };
-      exact = reuse-is _ _ _ _ _ _ c.swap_cost-w.ensures c.if-mark-steps.true _ c.retention_cost-r.ensures;
-    }
-
-pub returns-else-mark-steps : goal.returns-else-mark-steps
-returns-else-mark-steps c =
-    record {
-      within = record {
-        is_bucket = omega arith;
-        size_within = omega arith;
-        retention_within = omega arith;
-        swap_within = swapped (goal.at.returns-else-mark-steps c).After-swap_cost-w;
-      };
-      exact = first_is _ _ _ _ _ _ c.swap_cost-w.ensures c.if-mark-steps.false;
-    }
+pub returns-clause-exact : goal.returns-clause-exact
+returns-clause-exact c = is c

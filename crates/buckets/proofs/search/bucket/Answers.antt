@@ -9,6 +9,5 @@ returns c =
       within = c.bucket_of.ensures.within;
       exact = λ up.
           c.bucket_of.ensures.exact _
-          (prices-of _ _ _ _ (omega (arith, c.well_formed, c.requires.rows_le_most_rows)) up c.load_prices-hs.ensures
-          c.memory_prices-ds.ensures);
+          (prices-of _ _ _ (omega (arith, c.well_formed, c.requires.rows_le_most_rows)) up c.of.ensures);
     }

@@ -6,4 +6,4 @@ use Rattle.c_lists.proofs.record_numbers.recorder_of.Goals as goal
 pub returns : goal.returns
 unfolding recorder_in
 returns c =
-    rw (c.kind_of-kind.ensures, c.cut.ensures, c.rows_of-prices.ensures, c.buckets_of-buckets.ensures) refl
+    rw (c.kind_of.ensures, c.min.ensures, c.rows_of.ensures, c.buckets_of.ensures) refl

@@ -7,9 +7,9 @@ use Rattle.c_lists.proofs.record_numbers.store_head.Goals as goal
 pub returns : goal.returns
 unfolding lists_of
 returns c =
-    let prices = c.split-apart.ensures in
+    let prices = c.split.ensures in
     record {
-      head_is = rw c.kind_number.ensures refl;
+      head_is = rw (c.kind_number.ensures, c.from.ensures) refl;
       sizes_are = refl;
       holds_are = refl;
       h_are = ap (λ (p : Prices). p.h) prices;

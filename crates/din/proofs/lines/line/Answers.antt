@@ -1,56 +1,34 @@
 -- `line` meets its contract: the label and the blank, and then the address behind them.
-use Prim.Native.Nat.{◌+◌, ◌≤◌}
-use mathlib.Core.Path.{sym, ap, ◌∙◌, subst}
+use mathlib.Core.Path.{◌≡◌, ◌∙◌}
 use native.Mathlib.Omega.{arith}
-use lib.ListN.{length}
-use Rattle.scan.proofs.Tails.{tail, tail-place}
-use Rattle.din.specs.inner.FirstLine.{first_at, NextWithin}
+use lib.ListN.{get_or}
+use borrow.Author.Rules.{rules}
+use Rattle.std.specs.Prelude.{None}
 use Rattle.din.proofs.Digits.{within, below, above}
 use Rattle.din.proofs.FirstLines.{line-short, line-unlabelled, line-unparted, line-address, line-next}
-use Rattle.din.proofs.lines.line.Goals.{In-Address}
 use Rattle.din.proofs.lines.line.Goals as goal
 
--- the place after the line
-next-within : (c : In-Address) → 2 + c.in-Address.next ≤ length c.args.s.now
-next-within c =
-    tail-place c.args.s.now 2 c.in-Address.next (omega arith)
-    (subst (NextWithin (tail c.args.s.now 2)) c.in-Address.is c.address.ensures.next_within).1
+pub returns-in_default-clause-result_value : goal.returns-in_default-clause-result_value
+returns-in_default-clause-result_value c = line-short c.args.s.now (omega arith) (omega arith)
 
-pub returns-then-s-lt2 : goal.returns-then-s-lt2
-returns-then-s-lt2 c = record { result_value = line-short _ c.requires.0 c.if-s-lt2.true; next_within = tt }
+pub returns-in_default-2-clause-result_value : goal.returns-in_default-2-clause-result_value
+returns-in_default-2-clause-result_value c = line-unlabelled c.args.s.now (omega arith) (below 48 50 (get_or c.args.s.now 0 0) (omega arith))
 
-pub returns-then-s-lt48 : goal.returns-then-s-lt48
-returns-then-s-lt48 c = record { result_value = line-unlabelled _ c.if-s-lt2.false (below 48 50 _ c.if-s-lt48.true); next_within = tt }
+pub returns-in_default-3-clause-result_value : goal.returns-in_default-3-clause-result_value
+returns-in_default-3-clause-result_value c =
+    line-unparted c.args.s.now (omega arith) (within 48 50 (get_or c.args.s.now 0 0) (omega arith) (omega arith)) (λ e. absurd (omega arith))
 
-pub returns-then-s-gt50 : goal.returns-then-s-gt50
-returns-then-s-gt50 c =
-    record { result_value = line-unlabelled _ c.if-s-lt2.false (above 48 50 _ c.if-s-lt48.false c.if-s-gt50.true); next_within = tt }
+pub returns-in_default-4-clause-result_value : goal.returns-in_default-4-clause-result_value
+returns-in_default-4-clause-result_value c = line-unlabelled c.args.s.now (omega arith) (above 48 50 (get_or c.args.s.now 0 0) (omega arith) (omega arith))
 
-pub returns-then-s-ne32 : goal.returns-then-s-ne32
-returns-then-s-ne32 c =
-    record {
-      result_value = line-unparted _ c.if-s-lt2.false (within 48 50 _ c.if-s-lt48.false c.if-s-gt50.false) c.if-s-ne32.true;
-      next_within = tt;
-    }
+pub returns-in_err-found-clause-result_value : goal.returns-in_err-found-clause-result_value
+returns-in_err-found-clause-result_value c =
+    let none : c.from_residual.result ≡ None = search rules in
+    rw none
+    (c.in_err-found.ensures.result_value
+    ∙ line-address c.args.s.now (omega arith) (within 48 50 (get_or c.args.s.now 0 0) (omega arith) (omega arith)) (omega arith))
 
-pub address-requires : goal.address-requires
-address-requires c = c.requires.1
-
-pub overflow_add-result : goal.overflow_add-result
-overflow_add-result c = omega (arith, next-within c)
-
-pub returns-in-Malformed : goal.returns-in-Malformed
-returns-in-Malformed c =
-    record {
-      result_value = ap (first_at _) (sym c.in-Malformed.is) ∙ c.address.ensures.result_value
-          ∙ line-address _ c.if-s-lt2.false (within 48 50 _ c.if-s-lt48.false c.if-s-gt50.false) c.if-s-ne32.false;
-      next_within = tt;
-    }
-
-pub returns-in-Address : goal.returns-in-Address
-returns-in-Address c =
-    record {
-      result_value = line-next _ c.if-s-lt2.false (within 48 50 _ c.if-s-lt48.false c.if-s-gt50.false) c.if-s-ne32.false _ c.in-Address.next
-          (ap (first_at _) (sym c.in-Address.is) ∙ c.address.ensures.result_value);
-      next_within = (omega arith, omega (arith, next-within c));
-    }
+pub returns-clause-result_value : goal.returns-clause-result_value
+returns-clause-result_value c =
+    line-next c.args.s.now (omega arith) (within 48 50 (get_or c.args.s.now 0 0) (omega arith) (omega arith)) (omega arith) _ c.in_ok-found.found.next
+    c.in_ok-found.ensures.result_value

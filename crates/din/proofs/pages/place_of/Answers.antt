@@ -1,34 +1,23 @@
--- `place_of` meets its contract. The loop's invariant: the places passed are not empty and have other pages. The measure is what is
--- left of the places.
+-- `place_of` meets its contract. The loop's invariant: the places passed are not empty and have other pages.
+use mathlib.Core.Path.{sym, ap, ◌∙◌}
 use native.Mathlib.Omega.{arith}
-use Rattle.din.proofs.Probing.{home_below, passed_start, passed_next, passed_found, passed_all}
+use lib.ListN.{get_or-map, length-map}
+use Rattle.std.specs.Prelude.{None}
+use Rattle.din.specs.inner.Held.{page_at, mark_of}
+use Rattle.din.proofs.Probing.{home_below, passed_next, passed_all}
 use Rattle.din.proofs.pages.place_of.Goals as goal
 
-pub loop-j-init : goal.loop-j-init
-loop-j-init c = passed_start _ _ _ _
-
 pub overflow_add-place : goal.overflow_add-place
-overflow_add-place c =
-    omega (arith, c.home-start.ensures, home_below c.args.page)
-
-pub bounds-marks-place : goal.bounds-marks-place
-bounds-marks-place c = omega (arith, c.requires)
-
-pub returns-then-marks-place-eq0 : goal.returns-then-marks-place-eq0
-returns-then-marks-place-eq0 c =
-    passed_found _ _ _ _ _ c.loop-j.invariant c.home-start.ensures (λ some. absurd (omega (arith, c.if-marks-place-eq0.true)))
-
-pub bounds-pages-place : goal.bounds-pages-place
-bounds-pages-place c = omega (arith, c.requires)
-
-pub returns-then-pages-place : goal.returns-then-pages-place
-returns-then-pages-place c =
-    passed_found _ _ _ _ _ c.loop-j.invariant c.home-start.ensures (λ some. c.if-pages-place.true)
+overflow_add-place c = omega (arith, c.home-start.ensures, home_below c.args.page)
 
 pub loop-j-preserved : goal.loop-j-preserved
 loop-j-preserved c =
-    passed_next _ _ _ _ _ c.loop-j.invariant c.loop-j-test.true c.if-marks-place-eq0.false c.if-pages-place.false
+    let table = c.args.table.now in
+    passed_next _ _ _ _ _ c.loop-j.invariant c.loop-j-test.true
+    (λ e. absurd (omega (arith, sym e ∙ get_or-map mark_of table _ None ∙ ap mark_of c.in-Some.is)))
+    (λ e. c.if-seen-page.true (sym (get_or-map page_at table _ None ∙ ap page_at c.in-Some.is) ∙ e))
 
-pub returns : goal.returns
-returns c =
-    absurd (passed_all _ _ _ _ _ c.loop-j.invariant c.home-start.ensures c.loop-j-test.false c.requires.1 c.requires.2)
+pub unreachable-requires : goal.unreachable-requires
+unreachable-requires c =
+    passed_all _ _ _ _ _ c.loop-j.invariant c.home-start.ensures c.loop-j-test.false (length-map c.args.table.now mark_of ∙ c.requires.0)
+    c.requires.1

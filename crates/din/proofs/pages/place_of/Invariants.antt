@@ -1,12 +1,7 @@
--- `place_of` meets its contract. The loop's invariant: the places passed are not empty and have other pages. The measure is what is
--- left of the places.
-use Prim.Native.Nat.{◌-◌}
-use Rattle.din.specs.inner.Held.{table_places}
+-- `place_of` meets its contract. The loop's invariant: the places passed are not empty and have other pages.
+use Rattle.din.specs.inner.Held.{pages_of, marks_of}
 use Rattle.din.proofs.Probing.{Passed}
 use Rattle.din.proofs.pages.place_of.Given as goal
 
 abbrev pub invariant-loop-j : goal.invariant-loop-j
-invariant-loop-j l = Passed l.pages l.marks l.page l.start l.j
-
-abbrev pub decreases-loop-j : goal.decreases-loop-j
-decreases-loop-j l = table_places - l.j
+invariant-loop-j l = Passed (pages_of l.table) (marks_of l.table) l.page l.start l.j

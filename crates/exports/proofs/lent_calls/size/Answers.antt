@@ -1,13 +1,11 @@
--- `exports::lent_calls::size` meets its contract: the verdict of the sizing decides.
-use mathlib.Core.Path.{refl}
+-- `exports::lent_calls::size` meets its contract: the answer decides.
 use Rattle.exports.proofs.Told.{accepted-tells, refused-tells}
+use Rattle.exports.specs.Exported.{itself}
+use mathlib.Core.Path.{refl}
 use Rattle.exports.proofs.lent_calls.size.Goals as goal
 
-pub returns-in-Accepted : goal.returns-in-Accepted
-returns-in-Accepted c =
-    accepted-tells (λ a. a.verdict) (λ a. a.row) c.size-answer.result _ c.size-answer.ensures _ (cc) refl
+pub returns-in-Ok : goal.returns-in-Ok
+returns-in-Ok c = accepted-tells itself _ _ c.in-Ok.ensures refl
 
-pub returns-in-Refused : goal.returns-in-Refused
-returns-in-Refused c =
-    refused-tells (λ a. a.verdict) (λ a. a.row) c.size-answer.result _ c.size-answer.ensures _
-    c.in-Refused.is c.number.ensures
+pub returns-in-Err : goal.returns-in-Err
+returns-in-Err c = refused-tells itself _ _ c.in-Err.ensures c.number.ensures

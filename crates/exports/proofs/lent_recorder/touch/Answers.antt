@@ -1,15 +1,15 @@
--- `exports::lent_recorder::touch` meets its contract.
+-- `exports::lent_recorder::touch` meets its contract: the recorder's answer decides.
 use Rattle.exports.proofs.RecorderCalls.{touch-accepted, touch-refused}
 use Rattle.exports.proofs.lent_recorder.touch.Goals as goal
 
-pub returns-in-Accepted : goal.returns-in-Accepted
-returns-in-Accepted c =
+pub returns-in-Ok : goal.returns-in-Ok
+returns-in-Ok c =
     touch-accepted _ _ _ _ _ _ _ _ _ _ c.touch-answer.result c.recorder_of-r.ensures c.touch-answer.ensures _ _ _
-    c.in-Accepted.is
+    c.in-Ok.is
     c.store_taken.ensures
 
-pub returns-in-Refused : goal.returns-in-Refused
-returns-in-Refused c =
+pub returns-in-Err : goal.returns-in-Err
+returns-in-Err c =
     touch-refused _ _ _ _ _ _ _ _ _ _ c.touch-answer.result c.recorder_of-r.ensures c.touch-answer.ensures _ _
-    c.in-Refused.is
+    c.in-Err.is
     c.number.ensures

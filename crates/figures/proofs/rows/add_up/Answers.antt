@@ -3,22 +3,21 @@ use Prim.Native.Nat.{suc}
 use mathlib.Core.Path.{◌≡◌, ◌∙◌, sym}
 use native.Mathlib.Numerals.{add-one}
 use native.Mathlib.Omega.{arith}
-use Rattle.figures.proofs.Sweeps.{summed-none, summed-suc, summed-more}
+use Rattle.figures.proofs.Sweeps.{holds-within, summed-none, summed-suc, summed-more}
 use Rattle.figures.proofs.rows.add_up.Goals as goal
 
-pub loop-k-init : goal.loop-k-init
-loop-k-init c = (omega arith, c.none-all.ensures ∙ sym (summed-none c.args.buckets))
+pub loop-b-init : goal.loop-b-init
+loop-b-init c = sym (summed-none c.args.buckets.now)
 
-pub add-all-requires : goal.add-all-requires
-add-all-requires c =
-    let k = c.loop-k.k in
-    rw (c.loop-k.invariant.1, ← summed-suc c.args.buckets k) (c.requires (suc k) (omega arith))
+pub plus-all-requires : goal.plus-all-requires
+plus-all-requires c =
+    let k = c.loop-b.b-index in
+    holds-within _ (rw (c.loop-b.invariant, ← summed-suc c.args.buckets.now k) (c.requires (suc k) (omega arith)))
 
-pub loop-k-preserved : goal.loop-k-preserved
-loop-k-preserved c =
-    let buckets = c.args.buckets in
-    let k = c.loop-k.k in
-    (omega arith, rw (add-one k) (summed-more buckets k c.loop-k.invariant.1 c.add-all.ensures))
+pub loop-b-preserved : goal.loop-b-preserved
+loop-b-preserved c =
+    let k = c.loop-b.b-index in
+    rw (add-one k) (summed-more c.args.buckets.now k c.loop-b.invariant c.plus-all.ensures)
 
 pub returns : goal.returns
-returns c = let whole : c.loop-k.k ≡ 65 = omega arith in c.loop-k.invariant.1 ∙ rw whole
+returns c = let whole : c.loop-b.b-index ≡ 65 = omega arith in c.loop-b.invariant ∙ rw whole

@@ -6,4 +6,4 @@ use Rattle.figures.proofs.rows.no_figures.Goals as goal
 
 pub returns : goal.returns
 unfolding no_row_figures tabulate
-returns c = rw c.zero-zero.ensures refl
+returns c = rw c.zero.ensures refl

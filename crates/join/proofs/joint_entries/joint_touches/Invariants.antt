@@ -1,5 +1,4 @@
--- `joint_touches` meets its contract: the entries of the steps passed so far stand at the front, at first those of the steps of both.
-use Prim.Native.Nat.{◌-◌, ◌≤◌}
+-- `joint_touches` meets its contract: the entries of the steps passed so far stand at the front.
 use mathlib.Core.Path.{◌≡◌}
 use lib.ListN.{take}
 use Rattle.model.specs.Sheets.{most_steps}
@@ -8,7 +7,4 @@ use Rattle.join.specs.inner.Entries.{entries_of}
 use Rattle.join.proofs.joint_entries.joint_touches.Given as goal
 
 abbrev pub invariant-loop-t : goal.invariant-loop-t
-invariant-loop-t l = (l.t ≤ l.steps) × (l.touches ≡ padded (take l.t (entries_of l.n l.xs l.ys l.steps)) (idles most_steps))
-
-abbrev pub decreases-loop-t : goal.decreases-loop-t
-decreases-loop-t l = l.steps - l.t
+invariant-loop-t l = l.touches ≡ padded (take l.t (entries_of l.n l.xs l.ys l.steps)) (idles most_steps)

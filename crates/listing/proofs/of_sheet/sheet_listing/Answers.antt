@@ -1,11 +1,11 @@
 -- `listing::of_sheet::sheet_listing` meets its contract: the listing is that of the sheet's value.
 use Prim.Native.Nat.{ℕ, ◌<◌}
-use mathlib.Core.Path.{◌≡◌, sym, ◌∙◌}
+use mathlib.Core.Path.{◌≡◌, ◌∙◌}
 use mathlib.Core.Logic.{inl, inr}
 use mathlib.Core.Bool.{true}
-use borrow.Author.Tests.{leb-true}
+use native.Mathlib.Omega.{arith}
 use lib.Dec.{leb}
-use lib.ListN.{get_or}
+use lib.ListN.{get_or, length-take}
 use Rattle.model.specs.Values.{value_of}
 use Rattle.stores.specs.Rows.{row_modtotal}
 use Rattle.listing.proofs.SheetListing.{totals-of, listing-of, listing-fits}
@@ -22,14 +22,9 @@ totals j =
       | else-has_modtotal w ↦ inr w.if-has_modtotal.false
     ])
 
-pub all_modtotals-totals-requires : goal.all_modtotals-totals-requires
-all_modtotals-totals-requires c =
-    let form = leb-true 4 c.args.s.form (sym c.has_modtotal.ensures ∙ c.if-has_modtotal.true) in
-    (c.requires, form, c.all_figures-all.ensures)
-
 pub write-requires : goal.write-requires
 write-requires c = (
-  c.requires.rows_within,
+  simp length-take (omega (arith, c.requires.rows_within)),
   rw (
     c.all_figures-all.ensures,
     c.sheet_refs-refs.ensures,

@@ -1,24 +1,21 @@
--- `listing::of_sheet::sheet_refs` meets its contract. The loop's invariant: `refs` counts the segments among the entries passed.
-use mathlib.Core.Path.{◌≡◌, ap, ◌∙◌}
-use mathlib.Core.Logic.{inl, inr}
+-- `listing::of_sheet::sheet_refs` meets its contract: the entries that are counted are the segments among those of the steps.
+use mathlib.Core.Path.{◌≡◌, ◌∙◌}
 use native.Mathlib.Omega.{arith}
-use Rattle.listing.proofs.Counting.{touches_by, counted_none, counted_next, counted-all}
-use Rattle.listing.proofs.of_sheet.sheet_refs.Goals.{then-touches-t, else-touches-t}
+use borrow.Author.Rules.{rules}
+use borrow.Author.Tests.{tests}
+use lib.Dec.{ltb}
+use lib.ListN.{length, take}
+use Rattle.std.proofs.lemmas.Iterator.{YieldsList-from_slice}
+use Rattle.std.proofs.lemmas.Iterator.Consumers.{count_from_yields_List, YieldsList-from_filter}
+use Rattle.listing.proofs.Counting.{filtered-count, counted-all}
 use Rattle.listing.proofs.of_sheet.sheet_refs.Goals as goal
-
-pub loop-t-init : goal.loop-t-init
-loop-t-init c = counted_none _ _ _
-
-pub loop-t-preserved : goal.loop-t-preserved
-loop-t-preserved c =
-    counted_next _ _ _ c.loop-t.t c.loop-t.refs _ c.loop-t.invariant c.loop-t-test.true
-    (elim c.if-touches-t.branch [
-      | then-touches-t w ↦ inl (w.if-touches-t.true, w.refs-is)
-      | else-touches-t w ↦ inr (w.if-touches-t.false, w.refs-is)
-    ])
 
 pub returns : goal.returns
 returns c =
-    let l = c.loop-t in
-    let e : l.t ≡ c.args.s.steps = omega (arith, l.invariant, c.loop-t-test.false) in
-    l.invariant.is ∙ ap (touches_by c.args.s.head.segs c.args.s.touches) e ∙ counted-all c.args.s c.requires
+    let s = c.args.s in
+    let n : length s.touches ≡ 2048 = search rules in
+    count_from_yields_List c.filter.result _ c.count.ensures.ran
+    (YieldsList-from_filter _ (λ x. ltb x s.head.segs) (YieldsList-from_slice (take s.steps s.touches) (cc)) c.filter.ensures.closure
+    (λ x b q k. search (rules, tests)))
+    ∙ filtered-count s.head.segs s.touches s.steps (omega arith)
+    ∙ counted-all s c.requires

@@ -4,6 +4,3 @@ use Rattle.lru_curve.proofs.distance_pass.curve.Given as goal
 
 abbrev pub invariant-loop-k : goal.invariant-loop-k
 invariant-loop-k l = Summed l.sizes l.refs l.initial.place l.place l.misses l.k
-
-abbrev pub decreases-loop-k : goal.decreases-loop-k
-decreases-loop-k l = l.k

@@ -1,19 +1,14 @@
--- `lru_curve::frames::all_ones` meets its contract: the sizes passed are 1.
-use mathlib.Core.Path.{refl, sym, ◌∙◌}
-use native.Mathlib.Omega.{arith}
-use Rattle.lru_curve.proofs.Ones.{ones-next, ones-other, ones-end}
+-- `lru_curve::frames::all_ones` meets its contract: what the library's `all` says of the test is the definition.
+use mathlib.Core.Path.{◌∙◌}
+use borrow.Author.Rules.{rules}
+use borrow.Author.Tests.{tests}
+use lib.Dec.{eqb}
+use Rattle.std.proofs.lemmas.Iterator.{YieldsList-from_slice}
+use Rattle.std.proofs.lemmas.Iterator.Search.{all_from_yields_List}
+use Rattle.lru_curve.proofs.Ones.{ones-listed}
 use Rattle.lru_curve.proofs.frames.all_ones.Goals as goal
 
-pub loop-i-init : goal.loop-i-init
-loop-i-init c = (omega arith, refl)
-
-pub returns-then-sizes-i-ne1 : goal.returns-then-sizes-i-ne1
-returns-then-sizes-i-ne1 c =
-    sym (ones-other _ _ c.loop-i-test.true c.if-sizes-i-ne1.true) ∙ c.loop-i.invariant.1
-
-pub loop-i-preserved : goal.loop-i-preserved
-loop-i-preserved c =
-    (omega arith, ones-next _ _ c.loop-i-test.true c.if-sizes-i-ne1.false ∙ c.loop-i.invariant.1)
-
 pub returns : goal.returns
-returns c = sym (ones-end _ _ c.loop-i-test.false) ∙ c.loop-i.invariant.1
+returns c =
+    all_from_yields_List (λ z. eqb z 1) _ _ _ c.all.ensures.ran (YieldsList-from_slice c.args.sizes.now cc)
+    (λ x b q k. search (rules, tests)) ∙ ones-listed c.args.sizes.now

@@ -1,23 +1,37 @@
 -- `point_list::point_sums::points` meets its contract: a place too short for the numbers is refused and stays, else they stand at its head.
-use Prim.Native.Nat.{◌*◌, ◌^◌, ◌≤◌, ◌<◌}
+use Prim.Native.Nat.{suc, ◌≤◌}
+use mathlib.Core.Path.{◌≡◌, sym}
 use native.Mathlib.Omega.{arith}
+use lib.ListN.{length, take}
+use lib.Seq.{length-take-le}
+use Rattle.model.specs.Sheets.{run_of}
+use Rattle.point_list.specs.inner.Walk.{places, ended}
 use Rattle.point_list.proofs.Fine.{held-few, held-quotable}
-use Rattle.point_list.specs.inner.Walk.{places}
-use Rattle.point_list.proofs.Ordered.{sorted-run}
+use Rattle.point_list.proofs.Keys.{sorted-taken}
+use Rattle.point_list.proofs.Ordered.{SortedRun, sorted-run}
 use Rattle.point_list.proofs.Running.{points-short, points-placed, all-summable}
 use Rattle.point_list.proofs.Writing.{ended-most}
-use Rattle.point_list.proofs.point_sums.points.Goals.{After-count_points-count, After-reuses-whole}
+use Rattle.point_list.proofs.point_sums.points.Goals.{After-count_points-length, After-reuses-whole}
 use Rattle.point_list.proofs.point_sums.points.Goals as goal
 
--- the reuses are few, and so are the points
+-- the reuses are few
 few-reuses : (c : After-reuses-whole) → c.reuses-whole.result.count ≤ places
 few-reuses c = held-few c.requires c.reuses-whole.ensures.held
 
-few-points : (c : After-count_points-count) → 4 * c.count_points-count.result < 2 ^ 64
-few-points c =
-    let few-reuses' : c.reuses-whole.result.count ≤ places = held-few c.requires c.reuses-whole.ensures.held in
-    let most = ended-most c.sorted_keys.new.keys c.reuses-whole.result.count in
-    omega (arith, c.count_points-count.ensures, few-reuses')
+-- there is a key for each reuse, sorted
+size : (c : After-count_points-length) → length (take c.reuses-whole.result.count c.sorted_keys.new.keys) ≡ c.reuses-whole.result.count
+size c =
+    let few : c.reuses-whole.result.count ≤ places = held-few c.requires c.reuses-whole.ensures.held in
+    length-take-le c.reuses-whole.result.count c.sorted_keys.new.keys (omega arith)
+
+sorted : (c : After-count_points-length)
+    → SortedRun (run_of c.args.kind c.args.a c.args.sizes.now c.args.warm.now c.args.refs.now) c.reuses-whole.new.rs c.reuses-whole.new.ws
+    (take c.reuses-whole.result.count c.sorted_keys.new.keys) c.reuses-whole.result.count
+sorted c = sorted-run c.requires c.reuses-whole.ensures.held (sorted-taken c.sorted_keys.ensures)
+
+counted : (c : After-count_points-length) → c.count_points-length.result
+    ≡ suc (ended (take c.reuses-whole.result.count c.sorted_keys.new.keys) c.reuses-whole.result.count)
+counted c = rw (size c) at c.count_points-length.ensures
 
 pub sorted_keys-requires : goal.sorted_keys-requires
 sorted_keys-requires c =
@@ -28,34 +42,43 @@ sorted_keys-requires c =
       other_long = omega arith;
     }
 
-pub count_points-count-requires : goal.count_points-count-requires
-count_points-count-requires c = let few = few-reuses (goal.at.count_points-count-requires c).After-reuses-whole in (omega arith, few)
+pub slice_bounds-keys-end : goal.slice_bounds-keys-end
+slice_bounds-keys-end c = let few = few-reuses (goal.at.slice_bounds-keys-end c).After-reuses-whole in omega arith
 
-pub returns-then-out-count : goal.returns-then-out-count
-returns-then-out-count c =
-    let whole = c.reuses-whole.ensures in
-    points-short (sorted-run c.requires whole.held c.sorted_keys.ensures) whole.memory_is whole.load_is
-    c.count_points-count.ensures (omega (arith, c.if-out-count.true))
+pub slice_bounds-sorted-end : goal.slice_bounds-sorted-end
+slice_bounds-sorted-end c =
+    let few = few-reuses (goal.at.slice_bounds-sorted-end c).After-reuses-whole in
+    sym (length-take-le _ _ (omega arith))
+
+pub count_points-length-requires : goal.count_points-length-requires
+count_points-length-requires c =
+    let few = few-reuses (goal.at.count_points-length-requires c).After-reuses-whole in
+    rw (length-take-le c.reuses-whole.result.count c.sorted_keys.new.keys (omega arith)) few
+
+pub overflow_mul-length : goal.overflow_mul-length
+overflow_mul-length c =
+    let few : c.reuses-whole.result.count ≤ places = held-few c.requires c.reuses-whole.ensures.held in
+    omega (arith, counted c, ended-most (take c.reuses-whole.result.count c.sorted_keys.new.keys) c.reuses-whole.result.count)
+
+pub returns-then-out-length : goal.returns-then-out-length
+returns-then-out-length c =
+    let p = (goal.at.returns-then-out-length c).After-count_points-length in
+    points-short (sorted p) c.reuses-whole.ensures.memory_is c.reuses-whole.ensures.load_is (counted p) c.if-out-length.true
 
 pub write_points-requires : goal.write_points-requires
 write_points-requires c =
-    let whole = c.reuses-whole.ensures in
+    let p = (goal.at.write_points-requires c).After-count_points-length in
     let few = few-reuses (goal.at.write_points-requires c).After-reuses-whole in
+    let size' = size p in
+    rw size'
     record {
       sums =
-          all-summable (sorted-run c.requires whole.held c.sorted_keys.ensures) whole.memory_is whole.load_is
-          (omega arith) (omega arith) (omega arith);
-      room = omega (arith, c.count_points-count.ensures, c.if-out-count.false);
+          all-summable (sorted p) c.reuses-whole.ensures.memory_is c.reuses-whole.ensures.load_is (omega arith) (omega arith) (omega arith);
+      room = omega (arith, counted p, c.if-out-length.false);
     }
 
 pub returns : goal.returns
 returns c =
-    let whole = c.reuses-whole.ensures in
-    points-placed (sorted-run c.requires whole.held c.sorted_keys.ensures) whole.memory_is whole.load_is
-    c.count_points-count.ensures c.write_points.ensures c.if-out-count.false
-
-pub overflow_mul-count : goal.overflow_mul-count
-overflow_mul-count c = omega (arith, few-points c)
-
-pub overflow_mul-result : goal.overflow_mul-result
-overflow_mul-result c = omega (arith, few-points (goal.at.overflow_mul-result c).After-count_points-count)
+    let p = (goal.at.returns c).After-count_points-length in
+    points-placed (sorted p) c.reuses-whole.ensures.memory_is c.reuses-whole.ensures.load_is (counted p)
+    (rw (size p) at c.write_points.ensures) c.if-out-length.false

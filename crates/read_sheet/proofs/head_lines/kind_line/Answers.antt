@@ -1,46 +1,27 @@
 -- `read_sheet::head_lines::kind_line` meets its contract: the line's value is read as a kind.
-use Prim.Native.Nat.{◌≤◌, ◌<◌}
-use mathlib.Core.Path.{refl, sym, ◌∙◌}
-use native.Mathlib.Omega.{arith}
-use lib.ListN.{length}
+use mathlib.Core.Path.{refl}
 use Rattle.sheet.specs.Lines.{split_at}
 use Rattle.sheet.specs.Values.{kind_line}
-use Rattle.scan.proofs.KeyedLines.{line-missing, line-value, value-within}
-use Rattle.read_sheet.proofs.head_lines.kind_line.Goals.{In-Value}
+use Rattle.scan.proofs.LinesRead.{exits}
+use Rattle.read_sheet.proofs.ValueLines.{value-missing, value-refused, value-read}
 use Rattle.read_sheet.proofs.head_lines.kind_line.Goals as goal
-
--- where the value stands
-within : (c : In-Value) → (c.in-Value.start ≤ c.in-Value.end)
-    × (c.in-Value.end < length c.args.s.now)
-within c = value-within _ _ _ _ c.value_line.ensures.within c.in-Value.is
 
 pub value_line-requires : goal.value_line-requires
 unfolding split_at
 value_line-requires c = refl
 
-pub slice_bounds-kind_value-count : goal.slice_bounds-kind_value-count
-slice_bounds-kind_value-count c = (within c).0
-
-pub slice_bounds-kind_value-end : goal.slice_bounds-kind_value-end
-slice_bounds-kind_value-end c = omega (arith, within c)
-
-pub overflow_add-end : goal.overflow_add-end
-overflow_add-end c = omega (arith, within (goal.at.overflow_add-end c).In-Value)
-
-pub returns-in-Missing : goal.returns-in-Missing
+pub returns-in_err-start : goal.returns-in_err-start
 unfolding kind_line
-returns-in-Missing c =
-    let e = line-missing _ _ _ c.value_line.ensures.same _ c.in-Missing.is in
-    record { same = sym e; within = omega arith }
+returns-in_err-start c =
+    let e = exits _ c.in_err-start.field-0.0 c.from_residual.ensures.1 in
+    rw e (value-missing _ _ _ _ c.value_line.ensures _ c.in_err-start.was)
 
-pub returns-in-Value : goal.returns-in-Value
+pub returns-in_err-kind : goal.returns-in_err-kind
 unfolding kind_line
-returns-in-Value c =
-    let e = line-value _ _ _ c.value_line.ensures.same _ _ _ c.in-Value.is in
-    record {
-      same = c.kind_value.ensures.same _ ∙ sym e;
-      within = omega (arith, c.kind_value.ensures.within, within (goal.at.returns-in-Value c).In-Value);
-    }
+returns-in_err-kind c =
+    let e = exits _ c.in_err-kind.field-0.0 c.from_residual-in_err-kind.ensures.1 in
+    rw e (value-refused _ _ _ _ c.value_line.ensures _ _ c.in_ok-start.was _ c.kind_value.ensures _ c.in_err-kind.was)
 
-pub slice_bounds-kind_value-start : goal.slice_bounds-kind_value-start
-slice_bounds-kind_value-start c = slice_bounds-kind_value-count c
+pub returns : goal.returns
+unfolding kind_line
+returns c = value-read _ _ _ _ c.value_line.ensures _ _ c.in_ok-start.was _ c.kind_value.ensures _ c.in_ok-kind.was

@@ -1,50 +1,52 @@
 -- `read_sheet::head_lines::table_lines` meets its contract: the sizes and the rows, and then the warm segments of a later form.
-use mathlib.Core.Path.{ap, subst}
-use Prim.Native.Nat.{◌≤◌}
+use mathlib.Core.Path.{sym, subst, ◌∙◌}
 use native.Mathlib.Omega.{arith}
-use borrow.Author.Tests.{not-true, not-false}
-use lib.ListN.{length}
 use Rattle.model.specs.Sheets.{most_segs}
-use Rattle.scan.specs.inner.AtPlace.{Filled}
 use Rattle.model.proofs.Values.{zeros-length}
-use Rattle.read_sheet.proofs.HeadParts.{table-segs}
-use Rattle.read_sheet.proofs.HeadStages.{head-parsed, head-place, cold-later, cold-refused, warm-after}
-use Rattle.read_sheet.proofs.head_lines.table_lines.Goals.{In-Done}
+use Rattle.scan.specs.inner.AtPlace.{Filled}
+use Rattle.scan.proofs.LinesRead.{exits}
+use Rattle.scan.proofs.Tails.{tail-place}
+use Rattle.read_sheet.proofs.HeadParts.{head-refused, sizes-counted, table-segs}
+use Rattle.read_sheet.proofs.WarmTables.{tables-refused, warm-refused, warm-read}
 use Rattle.read_sheet.proofs.head_lines.table_lines.Goals as goal
 
--- the lines of the sizes and the rows end within the bytes
-place : (c : In-Done) → c.in-Done.at ≤ length c.args.s.now
-place c = head-place _ _ _ _ _ _ c.cold_head-found.ensures c.in-Done.is
+pub returns-in_err-at : goal.returns-in_err-at
+returns-in_err-at c =
+    let e = exits _ c.in_err-at.field-0.0 c.from_residual.ensures.1 in
+    rw e (head-refused _ _ _ _ (tables-refused _ _ _ _ _ (sym c.in_err-at.ensures.tables.reads.same)))
 
-pub returns-then-not-later : goal.returns-then-not-later
-returns-then-not-later c = cold-later _ _ _ _ _ _ _ (not-true _ c.if-not-later.true-raw)
-    c.requires.holds_zero c.cold_head-found.ensures
-
-pub slice_bounds-warm_lines-count : goal.slice_bounds-warm_lines-count
-slice_bounds-warm_lines-count c = place c
-
-pub warm_lines-warmed-requires : goal.warm_lines-warmed-requires
-warm_lines-warmed-requires c =
-    let f = c.cold_head-found.ensures in
+pub warm_lines-requires : goal.warm_lines-requires
+warm_lines-requires c =
+    let h = c.in_ok-at.ensures.tables in
     let z = zeros-length most_segs in
-    let g = f.filled.sizes.within in (
-      table-segs _ _ _ _ c.args.s.now _ f.filled
-          (head-parsed _ _ _ _ _ _ f c.in-Done.is),
-      omega (arith, z, g),
-      omega (arith, z, g, ap length c.requires.holds_zero),
-    )
+    let n = h.filled.sizes.within in
+    let m = h.filled.holds.whole in
+    (table-segs _ _ _ _ _ _ h.filled (sym h.reads.same), omega (arith, z, n), omega (arith, z, n, m))
 
-pub returns-in-Refused : goal.returns-in-Refused
-returns-in-Refused c =
-    cold-refused _ _ _ _ _ _ _ (not-false _ c.if-not-later.false-raw) c.cold_head-found.ensures _ c.in-Refused.is
-    c.requires.holds_zero
+pub returns-in_err-warm : goal.returns-in_err-warm
+returns-in_err-warm c =
+    let e = exits _ c.in_err-warm.field-0.0 c.from_residual-in_err-warm.ensures.1 in
+    let h = c.in_ok-at.ensures.tables in
+    rw e
+    (head-refused _ _ _ _
+    (warm-refused _ _ _ _ c.if-not-later.false _ _ _ h.reads.same (sizes-counted _ h.filled) _ (sym c.in_err-warm.ensures.reads.same)))
 
-pub returns-in-Done : goal.returns-in-Done
-returns-in-Done c =
-    warm-after _ _ _ _ _ _ _ (not-false _ c.if-not-later.false-raw) c.cold_head-found.ensures _ _ c.warm_lines-warmed.result.lines
-    c.after.result
-    c.in-Done.is c.warm_lines-warmed.ensures.reads.same c.warm_lines-warmed.ensures.reads.within
-    (subst (Filled _ _) c.requires.holds_zero c.warm_lines-warmed.ensures.filled) c.after.ensures
-
-pub slice_bounds-warm_lines-start : goal.slice_bounds-warm_lines-start
-slice_bounds-warm_lines-start c = slice_bounds-warm_lines-count c
+pub returns : goal.returns
+returns c =
+    let h = c.in_ok-at.ensures.tables in
+    let w = c.in_ok-warm.ensures in
+    record {
+      reads =
+          record {
+            same =
+                warm-read _ _ _ _ c.if-not-later.false c.cold_lines.new.head _ _ h.reads.same (sizes-counted _ h.filled) _ _ _
+                (sym w.reads.same);
+            within = tail-place _ _ _ h.reads.within w.reads.within;
+          };
+      filled =
+          record {
+            sizes = h.filled.sizes;
+            prices = h.filled.prices;
+            holds = subst (Filled _ _) (c.in_ok-at.ensures.holds_kept ∙ c.requires.holds_zero) w.filled;
+          };
+    }

@@ -1,54 +1,53 @@
--- `read_sheet::row_lines::price_lines` meets its contract: the line rows=, and then so many rows.
-use mathlib.Core.Path.{refl}
+-- `read_sheet::row_lines::price_lines` meets its contract: the line rows=, and then so many rows into the front of `out`.
+use mathlib.Core.Path.{refl, sym, ap}
+use mathlib.Core.Option.{none}
+use Prim.Native.Nat.{◌≤◌}
 use native.Mathlib.Omega.{arith}
+use lib.ListN.{length}
+use lib.Seq.{length-take-le}
 use Rattle.sheet.specs.Lines.{split_at}
 use Rattle.sheet.specs.Order.{prices_part}
-use Rattle.scan.specs.inner.AtPlace.{lines_next}
-use Rattle.scan.proofs.Blanks.{filled_start}
-use Rattle.scan.proofs.Stages.{then-reads, stage-refused}
+use Rattle.sheet.specs.Values.{row_lines}
+use Rattle.scan.specs.inner.AtPlace.{moved_on}
+use Rattle.scan.proofs.Stages.{count-refused, counted-reads}
 use Rattle.scan.proofs.NumberLines.{number-bounds}
-use Rattle.scan.proofs.NumbersRead.{number_read, number-place, number-refused}
-use Rattle.scan.proofs.Tails.{tail-place}
+use Rattle.scan.proofs.LinesRead.{exits, line_read, line-place, line-refused}
+use Rattle.read_sheet.proofs.row_lines.price_lines.Goals.{In_ok-n}
 use Rattle.read_sheet.proofs.row_lines.price_lines.Goals as goal
+
+-- the count is within the length of `out`
+counted-within : (c : In_ok-n) → c.in_ok-n.n ≤ length c.args.out.now
+counted-within c = omega (arith, number-bounds _ _ _ _ _ _ (line_read c.number_line.ensures c.in_ok-n.was), c.requires)
 
 pub number_line-requires : goal.number_line-requires
 unfolding split_at
 number_line-requires c = refl
 
--- the line of the count ends within the bytes
-pub slice_bounds-row_lines-count : goal.slice_bounds-row_lines-count
-slice_bounds-row_lines-count c = number-place c.number_line.ensures c.in-Number.is
+pub slice_bounds-row_lines-end-2 : goal.slice_bounds-row_lines-end-2
+slice_bounds-row_lines-end-2 c = counted-within (goal.at.slice_bounds-row_lines-end-2 c).In_ok-n
 
-pub row_lines-found-requires : goal.row_lines-found-requires
-row_lines-found-requires c =
-    (number-bounds _ _ _ _ _ _ (number_read c.number_line.ensures c.in-Number.is)).1
+pub slice_bounds-row_lines-end-3 : goal.slice_bounds-row_lines-end-3
+slice_bounds-row_lines-end-3 c = sym (length-take-le _ _ (counted-within (goal.at.slice_bounds-row_lines-end-3 c).In_ok-n))
 
-pub after-requires : goal.after-requires
-after-requires c =
-    let s = c.args.s.now in
-    let p = number-place c.number_line.ensures c.in-Number.is in
-    omega (arith, tail-place s c.in-Number.at (lines_next c.row_lines-found.result.lines) p c.row_lines-found.ensures.reads.within)
-
-pub returns-in-Refused : goal.returns-in-Refused
+pub returns-in_err-n : goal.returns-in_err-n
 unfolding prices_part
-returns-in-Refused c =
-    let e = number-refused c.number_line.ensures c.in-Refused.is in
-    record {
-      reads = record { same = stage-refused (λ q. q) _ _ _ _ refl e; within = omega arith };
-      filled = filled_start 0 _ _ (omega arith) c.blank_rows.ensures;
-    }
+returns-in_err-n c =
+    let e = exits _ c.in_err-n.field-0.0 c.from_residual.ensures.1 in
+    rw e (count-refused _ _ _ _ _ (line-refused c.number_line.ensures c.in_err-n.was))
 
-pub returns-in-Number : goal.returns-in-Number
+pub returns-in_err-next : goal.returns-in_err-next
 unfolding prices_part
-returns-in-Number c =
-    let s = c.args.s.now in
-    let n = c.number_line.ensures in
-    record {
-      reads =
-          then-reads _ _ c.in-Number.n s c.in-Number.at c.row_lines-found.result.lines c.after.result _
-          (number_read n c.in-Number.is) (number-place n c.in-Number.is) c.row_lines-found.ensures.reads c.after.ensures;
-      filled = c.row_lines-found.ensures.filled;
-    }
+returns-in_err-next c =
+    let e = exits _ c.in_err-next.field-0.0 c.from_residual-in_err-next.ensures.1 in
+    let r = c.number_line.ensures in
+    rw e (counted-reads (λ k. row_lines k none) _ _ _ _ c.row_lines.result _ _ _ (line_read r c.in_ok-n.was) (line-place r c.in_ok-n.was)
+    (counted-within (goal.at.returns-in_err-next c).In_ok-n) c.row_lines.auto.out c.row_lines.ensures refl
+    (sym (ap (moved_on _) c.in_err-next.was)))
 
-pub slice_bounds-row_lines-start : goal.slice_bounds-row_lines-start
-slice_bounds-row_lines-start c = slice_bounds-row_lines-count c
+pub returns : goal.returns
+unfolding prices_part
+returns c =
+    let r = c.number_line.ensures in
+    counted-reads (λ k. row_lines k none) _ _ _ _ c.row_lines.result _ _ _ (line_read r c.in_ok-n.was) (line-place r c.in_ok-n.was)
+    (counted-within (goal.at.returns c).In_ok-n) c.row_lines.auto.out c.row_lines.ensures refl
+    (sym (ap (moved_on _) c.in_ok-next.was))

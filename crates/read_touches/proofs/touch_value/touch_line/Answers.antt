@@ -1,46 +1,38 @@
 -- `read_touches::touch_value::touch_line` meets its contract: the line's value is read as a touch.
-use Prim.Native.Nat.{◌≤◌, ◌<◌}
-use mathlib.Core.Path.{refl, sym, ◌∙◌}
+use Prim.Native.Nat.{◌+◌}
+use mathlib.Core.Path.{refl, sym, ap, ◌∙◌}
 use native.Mathlib.Omega.{arith}
-use lib.ListN.{length}
+use lib.ListN.{drop}
 use Rattle.sheet.specs.Lines.{split_at}
 use Rattle.sheet.specs.Touches.{touch_line}
 use Rattle.scan.proofs.KeyedLines.{line-missing, line-value, value-within}
-use Rattle.read_touches.proofs.touch_value.touch_line.Goals.{In-Value}
+use Rattle.scan.proofs.LinesRead.{exits}
+use Rattle.read_touches.specs.inner.TouchAtPlace.{touch_before}
 use Rattle.read_touches.proofs.touch_value.touch_line.Goals as goal
-
--- where the value stands
-within : (c : In-Value) → (c.in-Value.start ≤ c.in-Value.end)
-    × (c.in-Value.end < length c.args.s.now)
-within c = value-within _ _ _ _ c.value_line.ensures.within c.in-Value.is
 
 pub value_line-requires : goal.value_line-requires
 unfolding split_at
 value_line-requires c = refl
 
-pub slice_bounds-touch_value-count : goal.slice_bounds-touch_value-count
-slice_bounds-touch_value-count c = (within c).0
-
-pub slice_bounds-touch_value-end : goal.slice_bounds-touch_value-end
-slice_bounds-touch_value-end c = omega (arith, within c)
-
-pub overflow_add-end : goal.overflow_add-end
-overflow_add-end c = omega (arith, within (goal.at.overflow_add-end c).In-Value)
-
-pub returns-in-Missing : goal.returns-in-Missing
+pub returns-in_err-start : goal.returns-in_err-start
 unfolding touch_line
-returns-in-Missing c =
-    let e = line-missing _ _ _ c.value_line.ensures.same _ c.in-Missing.is in
-    record { same = sym e; within = omega arith }
+returns-in_err-start c =
+    let e = exits _ c.in_err-start.field-0.0 c.from_residual.ensures.1 in
+    let r = line-missing _ _ _ c.value_line.ensures.same _ _ c.in_err-start.was in
+    rw e (record { same = sym r; within = omega arith })
 
-pub returns-in-Value : goal.returns-in-Value
+pub returns-in_err-touch : goal.returns-in_err-touch
 unfolding touch_line
-returns-in-Value c =
-    let e = line-value _ _ _ c.value_line.ensures.same _ _ _ c.in-Value.is in
-    record {
-      same = c.touch_value.ensures.same _ ∙ sym e;
-      within = omega (arith, c.touch_value.ensures.within, within (goal.at.returns-in-Value c).In-Value);
-    }
+returns-in_err-touch c =
+    let e = exits _ c.in_err-touch.field-0.0 c.from_residual-in_err-touch.ensures.1 in
+    let r = line-value _ _ _ c.value_line.ensures.same _ _ _ c.in_ok-start.was in
+    let t = c.touch_value.ensures (drop (c.in_ok-start.end + 1) c.args.s.now) in
+    rw e (record { same = sym (r ∙ (sym t ∙ ap (λ x. touch_before x (drop (c.in_ok-start.end + 1) c.args.s.now)) c.in_err-touch.was)); within = omega arith })
 
-pub slice_bounds-touch_value-start : goal.slice_bounds-touch_value-start
-slice_bounds-touch_value-start c = slice_bounds-touch_value-count c
+pub returns : goal.returns
+unfolding touch_line
+returns c =
+    let w = value-within _ _ _ _ c.value_line.ensures.within c.in_ok-start.was in
+    let r = line-value _ _ _ c.value_line.ensures.same _ _ _ c.in_ok-start.was in
+    let t = c.touch_value.ensures (drop (c.in_ok-start.end + 1) c.args.s.now) in
+    record { same = sym (r ∙ (sym t ∙ ap (λ x. touch_before x (drop (c.in_ok-start.end + 1) c.args.s.now)) c.in_ok-touch.was)); within = omega (arith, w) }

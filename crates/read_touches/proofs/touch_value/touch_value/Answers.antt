@@ -1,30 +1,18 @@
--- `read_touches::touch_value::touch_value` meets its contract, one answer for each case of the pair.
-use mathlib.Core.Path.{sym, ◌∙◌}
+-- `read_touches::touch_value::touch_value` meets its contract: the two sides of the first "@" are read as segment and step.
+use mathlib.Core.Path.{refl, ◌∙◌}
 use native.Mathlib.Omega.{arith}
-use Rattle.read_touches.proofs.TouchValues.{pair-first, touch-value}
+use Rattle.read_touches.proofs.TouchValues.{pair_within, pair-none, reading-bound, touch-value}
 use Rattle.read_touches.proofs.touch_value.touch_value.Goals as goal
 
-pub overflow_cast-result : goal.overflow_cast-result
-overflow_cast-result c =
-    let b = pair-first _ _ _ _ _ _ _ _ (sym c.pair_around.ensures ∙ c.in-Numbers.is) in
-    omega (arith, b, c.requires)
+pub touch_of_two-requires : goal.touch_of_two-requires
+touch_of_two-requires c = reading-bound _ _ _ _ _ c.read-segment.ensures (omega (arith, c.requires))
 
-pub returns-in-Malformed : goal.returns-in-Malformed
-returns-in-Malformed c =
-    let v = touch-value _ _ _ _ c.requires.some _ in
-    record { same = λ s. v _ _ _ c.pair_around.ensures c.in-Malformed.is; within = omega arith }
+pub returns-in-None : goal.returns-in-None
+returns-in-None c = λ rest. touch-value _ _ _ _ c.requires.some _ rest _ (pair-none _ _ _ _ _ c.in-None.ensures.split)
 
-pub returns-in-FirstBeyond : goal.returns-in-FirstBeyond
-returns-in-FirstBeyond c =
-    let v = touch-value _ _ _ _ c.requires.some _ in
-    record { same = λ s. v _ _ _ c.pair_around.ensures c.in-FirstBeyond.is; within = omega arith }
-
-pub returns-in-SecondBeyond : goal.returns-in-SecondBeyond
-returns-in-SecondBeyond c =
-    let v = touch-value _ _ _ _ c.requires.some _ in
-    record { same = λ s. v _ _ _ c.pair_around.ensures c.in-SecondBeyond.is; within = omega arith }
-
-pub returns-in-Numbers : goal.returns-in-Numbers
-returns-in-Numbers c =
-    let v = touch-value _ _ _ _ c.requires.some _ in
-    record { same = λ s. v _ _ _ c.pair_around.ensures c.in-Numbers.is; within = omega arith }
+pub returns-in-Some : goal.returns-in-Some
+returns-in-Some c = λ rest.
+    touch-value _ _ _ _ c.requires.some _ rest _
+    (c.touch_of_two.ensures
+    ∙ pair_within _ _ _ _ _ _ c.in-Some.ensures.split _ _ _ _ c.in-Some.ensures.within c.step_bytes.ensures.split refl
+    c.read-segment.ensures c.read-step.ensures)

@@ -6,4 +6,4 @@ use Rattle.recorder.proofs.Recorder.empty.Goals as goal
 
 pub returns : goal.returns
 unfolding empty_recorder empty_head
-returns c = c.begin.ensures ∙ rw c.empty-head.ensures refl
+returns c = c.begin.ensures ∙ rw c.empty.ensures refl

@@ -1,17 +1,16 @@
--- `Recorder::touch` meets its contract, by its three answers.
-use native.Mathlib.Omega.{arith}
-use Rattle.recorder.proofs.Answers.{out_of_range, full, accepted}
+-- `Recorder::touch` meets its contract, by the verdict on the reference.
+use mathlib.Core.Path.{sym, ◌∙◌}
+use Rattle.recorder.proofs.Answers.{ref-room, one-refused, one-taken}
 use Rattle.recorder.proofs.Recorder.touch.Goals as goal
 
-pub returns-then-segs-segment : goal.returns-then-segs-segment
-returns-then-segs-segment c = out_of_range _ _ (omega (arith, c.if-segs-segment.true, c.least-segs.ensures))
-
-pub returns-then-self-ge-MAX_STEPS : goal.returns-then-self-ge-MAX_STEPS
-returns-then-self-ge-MAX_STEPS c = full _ _ (omega (arith, c.if-segs-segment.false, c.least-segs.ensures)) c.if-self-ge-MAX_STEPS.true
-
 pub take_one-requires : goal.take_one-requires
-take_one-requires c = (omega (arith, c.if-segs-segment.false, c.least-segs.ensures), c.if-self-ge-MAX_STEPS.false)
+take_one-requires c = ref-room _ _ _ (rw c.min-segs.ensures at (sym c.touch_verdict-verdict.ensures ∙ c.in-Ok.is))
 
-pub returns : goal.returns
-returns c = accepted _ _ _ (omega (arith, c.if-segs-segment.false, c.least-segs.ensures)) c.if-self-ge-MAX_STEPS.false
-    c.take_one.ensures
+pub returns-in-Ok : goal.returns-in-Ok
+returns-in-Ok c =
+    rw c.in-Ok.is
+    (one-taken _ _ _ (rw c.min-segs.ensures at (sym c.touch_verdict-verdict.ensures ∙ c.in-Ok.is)) c.take_one.ensures)
+
+pub returns-in-Err : goal.returns-in-Err
+returns-in-Err c =
+    rw c.in-Err.is (one-refused _ _ _ (rw c.min-segs.ensures at (sym c.touch_verdict-verdict.ensures ∙ c.in-Err.is)))

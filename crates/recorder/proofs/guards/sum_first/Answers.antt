@@ -1,19 +1,28 @@
--- `recorder::guards::sum_first` meets its contract. The loop's invariant: where the sums hold at most 2,048 items, `all` is that of the
--- buckets passed. The measure is what is left of the buckets.
-use mathlib.Core.Path.{◌≡◌, refl, sym, ◌∙◌}
+-- `recorder::guards::sum_first` meets its contract.
+use mathlib.Core.Path.{◌≡◌, sym}
 use native.Mathlib.Numerals.{add-one}
 use native.Mathlib.Omega.{arith}
+use Prim.Native.Nat.{◌<◌}
+use borrow.Author.Rules.{rules}
+use lib.ListN.{length}
+use Rattle.std.proofs.lemmas.List.{get_or-take, length-take}
+use Rattle.buckets.specs.Buckets.{no_bucket}
 use Rattle.figures.proofs.Sweeps.{summed-none}
 use Rattle.recorder.proofs.Guarding.{sum_more}
 use Rattle.recorder.proofs.guards.sum_first.Goals as goal
 
-pub loop-k-init : goal.loop-k-init
-loop-k-init c = (omega arith, λ h. sym (summed-none _))
+pub loop-b-init : goal.loop-b-init
+loop-b-init c = λ h. sym (summed-none _)
 
-pub loop-k-preserved : goal.loop-k-preserved
-loop-k-preserved c = rw (add-one c.loop-k.k)
-    (omega arith, λ h. sum_more _ _ (h _ c.loop-k-test.true) (c.loop-k.invariant.1 h) c.join-all.ensures)
+pub loop-b-preserved : goal.loop-b-preserved
+loop-b-preserved c =
+    let i = c.loop-b.b-index in
+    let lt : i < c.args.n = omega (arith, length-take c.args.n c.args.buckets) in
+    rw (add-one i)
+    (λ h. sum_more _ _ (h _ lt) (c.loop-b.invariant h) (rw (get_or-take c.args.n c.args.buckets i no_bucket lt) at c.join-all.ensures))
 
 pub returns : goal.returns
-returns c = let all : c.loop-k.k ≡ c.args.n = omega arith in
-    λ h. c.loop-k.invariant.1 h ∙ rw all refl
+returns c =
+    let whole : length c.args.buckets ≡ 65 = search rules in
+    let all : c.loop-b.b-index ≡ c.args.n = omega (arith, length-take c.args.n c.args.buckets) in
+    λ h. rw (← all) (c.loop-b.invariant h)

@@ -10,14 +10,12 @@ use Rattle.rows.proofs.billing.sheet_bill.Goals as goal
 pub returns-then-row-s : goal.returns-then-row-s
 returns-then-row-s c =
     let n = rows-counted c.args.s c.requires in
-    c.refused.ensures
-    ∙ sym (bill-no-row (value_of c.args.s) c.args.row c.args.tariff (omega (arith, n, c.if-row-s.true)))
+    sym (bill-no-row (value_of c.args.s) c.args.row c.args.tariff (omega (arith, n, c.if-row-s.true)))
 
 pub returns-then-not-in_range : goal.returns-then-not-in_range
 returns-then-not-in_range c =
     let n = rows-counted c.args.s c.requires in
-    c.refused-then-not-in_range.ensures
-    ∙ sym
+    sym
     (bill-out-of-range (value_of c.args.s) c.args.row c.args.tariff (omega (arith, n, c.if-row-s.false))
     (sym c.in_range.ensures ∙ not-true _ c.if-not-in_range.true-raw))
 

@@ -1,64 +1,88 @@
--- `sizing::sheet_size` meets its contract. The loop's invariant: the first i rows are within the ceiling, and `row` is the lowest of them
--- with the least load. The measure is the rows that are left.
-use Prim.Native.Nat.{◌<◌}
-use mathlib.Core.Path.{◌∙◌}
-use mathlib.Core.Logic.{inl, inr}
+-- `sizing::sheet_size` meets its contract.
+use Prim.Native.Nat.{ℕ, ◌<◌}
+use mathlib.Core.Bool.{cond, ◌&&◌}
+use mathlib.Core.Path.{◌≡◌, refl, sym, ap, ◌∙◌}
+use Rattle.std.specs.Prelude.{Some}
 use native.Mathlib.Omega.{arith}
-use lib.ListN.{length}
+use native.Mathlib.Nat.{le_antisymm}
+use lib.Dec.{leb}
+use lib.ListN.{length, take, length-take}
+use lib.Seq.{length-take-le}
+use borrow.Author.Tests.{le-leb, lt-leb}
+use Rattle.model.specs.RowAnswers.{all_figures}
+use Rattle.model.specs.Sizing.{chosen_of}
 use Rattle.model.specs.Values.{value_of}
-use Rattle.rows.proofs.Sizes.{memory_at, passed_none, passed_row, sized_answer, none_answer}
 use Rattle.model.proofs.Standing.{rows-counted}
-use Rattle.rows.proofs.sizing.sheet_size.Goals.{Left-loop-i, else-loop-i-test, then-loop-i-test+then-ceiling-f}
-use Rattle.rows.proofs.sizing.sheet_size.Goals.{then-f-least, else-f-least}
+use Rattle.rows.proofs.Sizes.{memory_at, given, given-some, given-none, answered, less_load, chosen-step, chosen-below}
+use Rattle.rows.proofs.sizing.sheet_size.Goals.{In-loop-i, in-Some, in-None, then-f-ceiling+then-less, else-f-ceiling}
+use Rattle.rows.proofs.sizing.sheet_size.Goals.{else-f-ceiling-via-then-f-ceiling+else-less, else-f-ceiling-via-else-f-ceiling}
 use Rattle.rows.proofs.sizing.sheet_size.Goals as goal
 
--- the loop ends at the rows' end or at a row beyond the ceiling
-ended : (c : Left-loop-i)
-    → c.loop-i.i < length (value_of c.args.s).head.rows
-    → c.args.ceiling < memory_at c.all_figures-all.result c.loop-i.i
-ended c lt =
-    elim c.loop-i-test.branch [
-      | else-loop-i-test w ↦ absurd (omega (arith, w.loop-i-test.false, rows-counted c.args.s c.requires))
-      | then-loop-i-test+then-ceiling-f w ↦ w.if-ceiling-f.true
-    ]
-
 pub loop-i-init : goal.loop-i-init
-loop-i-init c = passed_none _ _ _
+unfolding chosen_of
+loop-i-init c = refl
 
-pub offset_bounds-all-i : goal.offset_bounds-all-i
-offset_bounds-all-i c = omega (arith, c.requires)
+-- the figures are those of the sheet's rows, and the pass is at one of them
+rows-are : (c : In-loop-i) → take c.args.s.head.rows c.all_figures-all.result
+    ≡ take (length (value_of c.args.s).head.rows) (all_figures (value_of c.args.s))
+rows-are c = rw (rows-counted c.args.s c.requires, c.all_figures-all.ensures)
 
-pub bounds-all-i : goal.bounds-all-i
-bounds-all-i c = omega (arith, c.requires)
+is_row : (c : In-loop-i) → c.loop-i.i < length (value_of c.args.s).head.rows
+is_row c = omega (arith, c.loop-i-test.true, rows-counted c.args.s c.requires, length-take c.args.s.head.rows c.all_figures-all.result)
 
-pub offset_bounds-all-row : goal.offset_bounds-all-row
-offset_bounds-all-row c = omega (arith, c.loop-i-test, c.loop-i.invariant, c.requires)
+-- a row chosen is one of those passed
+best-below : (c : In-loop-i) (best : ℕ) → c.loop-i.chosen ≡ Some best → best < c.loop-i.i
+best-below c best chose =
+    chosen-below (value_of c.args.s) c.requires.valid c.args.ceiling _ (rows-are c) c.loop-i.i best
+    (given-some _ best (sym c.loop-i.invariant ∙ chose))
 
-pub bounds-all-row : goal.bounds-all-row
-bounds-all-row c =
-    omega (arith, c.loop-i-test, c.loop-i.invariant, c.requires)
+pub bounds-figures-best : goal.bounds-figures-best
+bounds-figures-best c =
+    let turn = (goal.at.bounds-figures-best c).In-loop-i in
+    omega (arith, c.loop-i-test.true, best-below turn c.in-Some.best c.in-Some.is)
 
-pub overflow_add-i : goal.overflow_add-i
-overflow_add-i c = omega (arith, c.loop-i-test, c.requires)
-
-pub loop-i-smaller : goal.loop-i-smaller
-loop-i-smaller c = omega (arith, c.loop-i-test)
+pub offset_bounds-figures-best : goal.offset_bounds-figures-best
+offset_bounds-figures-best c =
+    let turn = (goal.at.offset_bounds-figures-best c).In-loop-i in
+    omega (arith, is_row turn, c.requires, rows-counted c.args.s c.requires, best-below turn c.in-Some.best c.in-Some.is)
 
 pub loop-i-preserved : goal.loop-i-preserved
 loop-i-preserved c =
-    passed_row _ _ _ _ _ c.loop-i.invariant c.loop-i-test.true c.if-ceiling-f.false _
-    (elim c.if-f-least.branch [
-      | then-f-least w ↦ inl (w.if-f-least.true, w.row-is)
-      | else-f-least w ↦ inr (w.if-f-least.false, w.row-is)
-    ])
-
-pub returns-then-i-eq0 : goal.returns-then-i-eq0
-returns-then-i-eq0 c =
-    c.refused.ensures
-    ∙ none_answer (value_of c.args.s) c.requires.valid _ _ c.all_figures-all.ensures c.loop-i.row c.loop-i.i
-    (rw (rows-counted c.args.s c.requires) c.loop-i.invariant) (ended (goal.at.returns-then-i-eq0 c).Left-loop-i) c.if-i-eq0.true
+    let v = value_of c.args.s in
+    let rows = take c.args.s.head.rows c.all_figures-all.result in
+    let i = c.loop-i.i in
+    let o = chosen_of v c.args.ceiling i in
+    let turn = (goal.at.loop-i-preserved c).In-loop-i in
+    let are = rows-are turn in
+    let chose : c.match-chosen.chosen ≡ given o = elim c.match-chosen.branch [
+      | in-Some w ↦ w.chosen-is ∙ sym w.in-Some.is ∙ c.loop-i.invariant
+      | in-None w ↦ w.chosen-is ∙ c.loop-i.invariant
+    ] in
+    let less : c.match-chosen.less ≡ less_load v c.requires.valid c.args.ceiling rows are i o = elim c.match-chosen.branch [
+      | in-Some w ↦
+          w.less-is
+          ∙ ap (less_load v c.requires.valid c.args.ceiling rows are i)
+          (sym (given-some o w.in-Some.best (sym c.loop-i.invariant ∙ w.in-Some.is)))
+      | in-None w ↦
+          w.less-is
+          ∙ ap (less_load v c.requires.valid c.args.ceiling rows are i) (sym (given-none o (sym c.loop-i.invariant ∙ w.in-None.is)))
+    ] in
+    let now : c.if-f-ceiling.chosen ≡ cond (leb (memory_at rows i) c.args.ceiling && c.match-chosen.less) (Some i) c.match-chosen.chosen =
+    elim c.if-f-ceiling.branch [
+      | then-f-ceiling+then-less w ↦
+          rw (le-leb (memory_at rows i) c.args.ceiling w.if-f-ceiling.true, w.if-less.true) w.chosen-is
+      | else-f-ceiling w ↦ elim w.else-f-ceiling.branch [
+        | else-f-ceiling-via-then-f-ceiling+else-less w' ↦
+            rw (le-leb (memory_at rows i) c.args.ceiling w'.if-f-ceiling.true, w'.if-less.false) w.chosen-is
+        | else-f-ceiling-via-else-f-ceiling w' ↦ rw (lt-leb (memory_at rows i) c.args.ceiling w'.if-f-ceiling.false) w.chosen-is
+      ]
+    ] in
+    chosen-step v c.requires.valid c.args.ceiling rows are i (is_row turn) _ _ _ chose less now
 
 pub returns : goal.returns
 returns c =
-    sized_answer (value_of c.args.s) c.requires.valid _ _ c.all_figures-all.ensures c.loop-i.row c.loop-i.i
-    (rw (rows-counted c.args.s c.requires) c.loop-i.invariant) (ended (goal.at.returns c).Left-loop-i) (omega (arith, c.if-i-eq0.false))
+    let all : c.loop-i.i ≡ length (value_of c.args.s).head.rows =
+    le_antisymm c.loop-i.auto.i-end c.loop-i-test.false
+    ∙ length-take-le _ _ (omega (arith, c.requires, c.all_figures-all.type_inv))
+    ∙ sym (rows-counted c.args.s c.requires) in
+    c.ok_or.ensures.value ∙ rw (c.loop-i.invariant, all) (answered _)

@@ -1,11 +1,9 @@
--- `sizing::sheet_size` meets its contract. The loop's invariant: the first i rows are within the ceiling, and `row` is the lowest of them
--- with the least load. The measure is the rows that are left.
-use Prim.Native.Nat.{◌-◌}
-use Rattle.rows.proofs.Sizes.{RowsPassed}
+-- `sizing::sheet_size` meets its contract. The loop's invariant: the row chosen among those passed.
+use mathlib.Core.Path.{◌≡◌}
+use Rattle.model.specs.Sizing.{chosen_of}
+use Rattle.model.specs.Values.{value_of}
+use Rattle.rows.proofs.Sizes.{given}
 use Rattle.rows.proofs.sizing.sheet_size.Given as goal
 
 abbrev pub invariant-loop-i : goal.invariant-loop-i
-invariant-loop-i l = RowsPassed l.ceiling l.all l.rows l.row l.i
-
-abbrev pub decreases-loop-i : goal.decreases-loop-i
-decreases-loop-i l = l.rows - l.i
+invariant-loop-i l = l.chosen ≡ given (chosen_of (value_of l.fn.s) l.ceiling l.i)

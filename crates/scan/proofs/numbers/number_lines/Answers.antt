@@ -1,33 +1,35 @@
--- `scan::numbers::number_lines` meets its contract: the short lines at the front, and the lines behind them.
-use Prim.Native.Nat.{◌+◌, ◌≤◌}
-use mathlib.Core.Path.{ap}
+-- `scan::numbers::number_lines` meets its contract. The loop's invariant: the numbers of the lines passed stand at the front of `out`.
+use mathlib.Core.Path.{sym}
 use native.Mathlib.Omega.{arith}
-use lib.ListN.{length}
-use Rattle.scan.specs.inner.AtPlace.{lines_next}
-use Rattle.scan.proofs.ShortLines.{rest-stop, rest-done}
-use Rattle.scan.proofs.Tails.{tail-place}
-use Rattle.scan.proofs.numbers.number_lines.Goals.{In-Done}
+use lib.ListN.{length-set}
+use Rattle.scan.proofs.LinesPassed.{pass_step, pass_stop, pass_whole, numbers-repeat}
+use Rattle.scan.proofs.LinesRead.{exits, line_read, line-place, line-refused}
+use Rattle.scan.proofs.NumberLines.{number-bounds}
 use Rattle.scan.proofs.numbers.number_lines.Goals as goal
 
--- what follows the lines lies within the bytes
-within : (c : In-Done)
-    → c.short_lines-front.result.at + c.in-Done.next ≤ length c.args.s.now
-within c =
-    tail-place c.args.s.now c.short_lines-front.result.at c.in-Done.next
-    c.short_lines-front.ensures.place
-    (omega (arith, c.any_number_lines.ensures.within, ap lines_next c.in-Done.is))
+pub returns-in_err-n : goal.returns-in_err-n
+returns-in_err-n c =
+    let e = exits _ c.in_err-n.field-0.0 c.from_residual.ensures.1 in
+    let line = line-refused c.number_line.ensures c.in_err-n.was in
+    let r = pass_stop _ _ _ (numbers-repeat _ _ _) _ _ _ _ _ _ _ c.loop-entry.invariant.passed _ (omega arith) line in
+    rw e (record { same = sym r; within = omega arith })
 
-pub overflow_add-result : goal.overflow_add-result
-overflow_add-result c = omega (arith, within c)
+pub overflow_cast-entry : goal.overflow_cast-entry
+overflow_cast-entry c = omega (arith, number-bounds _ _ _ _ _ _ (line_read c.number_line.ensures c.in_ok-n.was))
 
-pub returns-in-Refused : goal.returns-in-Refused
-returns-in-Refused c =
-    let f = c.short_lines-front.ensures in
-    let e = rest-stop _ _ _ _ _ _ _ _ _ _ f c.any_number_lines.ensures.same _ c.in-Refused.is in
-    record { same = e; within = omega arith }
+pub loop-entry-preserved : goal.loop-entry-preserved
+loop-entry-preserved c =
+    let r = c.number_line.ensures in
+    let i = c.loop-entry.invariant in
+    record {
+      passed =
+          pass_step _ _ _ (numbers-repeat _ _ _) _ _ _ _ _ _ _ i.passed _ _ (omega arith) (line_read r c.in_ok-n.was)
+          (line-place r c.in_ok-n.was);
+      whole = rw length-set i.whole;
+    }
 
-pub returns-in-Done : goal.returns-in-Done
-returns-in-Done c =
-    let f = c.short_lines-front.ensures in
-    let e = rest-done _ _ _ _ _ _ _ _ _ _ f c.any_number_lines.ensures.same _ c.in-Done.is in
-    record { same = e; within = within c }
+pub returns : goal.returns
+returns c =
+    let i = c.loop-entry.invariant in
+    let e = pass_whole _ _ _ (numbers-repeat _ _ _) _ _ _ _ _ _ _ i.passed (omega arith) (omega (arith, i.whole)) in
+    record { same = sym e; within = i.passed.place }

@@ -8,7 +8,7 @@ use Rattle.schedule.proofs.Masks.{masks_below-start, masks_below-step, masks_bel
 use Rattle.schedule.proofs.writing.mask_table.Goals as goal
 
 pub loop-i-init : goal.loop-i-init
-loop-i-init c = (omega arith, c.no_masks-masks.ensures ∙ sym masks_below-start)
+loop-i-init c = (omega arith, sym masks_below-start)
 
 pub loop-i-preserved : goal.loop-i-preserved
 loop-i-preserved c =
@@ -20,6 +20,3 @@ pub returns : goal.returns
 returns c =
     let all : c.loop-i.i ≡ 256 = omega arith in
     c.loop-i.invariant.1 ∙ (rw all masks_below-end)
-
-pub bounds-masks-i : goal.bounds-masks-i
-bounds-masks-i c = omega arith

@@ -5,9 +5,6 @@ use mathlib.Core.Path.{refl}
 use Rattle.schedule.specs.inner.Writing.{masked}
 use Rattle.schedule.proofs.writing.masked.Goals as goal
 
-pub overflow_sub-result : goal.overflow_sub-result
-overflow_sub-result c = and_le_l c.args.byte c.args.mask
-
 pub overflow_add-result : goal.overflow_add-result
 overflow_add-result c =
     let a = c.args in

@@ -1,23 +1,8 @@
 -- `put_step` meets its contract: the invariant of its loop is `Copied`, the measure the bytes that are left.
 use mathlib.Core.Path.{◌≡◌}
 use native.Mathlib.Omega.{arith}
-use Rattle.schedule.proofs.Copying.{copied_start, copied_length, copied_step, copied_next}
+use Rattle.schedule.proofs.Copying.{copied_step, copied_next}
 use Rattle.schedule.proofs.writing.put_step.Goals as goal
-
-pub loop-j-init : goal.loop-j-init
-loop-j-init c =
-    let a = c.args in
-    let p = c.requires in
-    copied_start a.next.now a.out.now a.i a.on a.at p.2 p.3
-
-pub bounds-out-at : goal.bounds-out-at
-bounds-out-at c =
-    let a = c.args in
-    let l = c.loop-j in
-    omega (
-      arith,
-      copied_length a.next.now a.out.now a.i a.on a.at c.requires.2 c.requires.3 l.next l.out l.j l.invariant,
-    )
 
 pub loop-j-preserved : goal.loop-j-preserved
 loop-j-preserved c =
@@ -44,12 +29,6 @@ loop-j-preserved c =
     c.masked.ensures
     c.masked-in-loop-j.ensures
 
-pub shape_of-out : goal.shape_of-out
-shape_of-out c =
-    let a = c.args in
-    let l = c.loop-j in
-    copied_length a.next.now a.out.now a.i a.on a.at c.requires.2 c.requires.3 l.next l.out l.j l.invariant
-
 pub returns : goal.returns
 returns c =
     let a = c.args in
@@ -57,6 +36,3 @@ returns c =
     let all : l.j ≡ 32 = omega arith in
     let v = rw all at l.invariant in
     record { next_after = copied_next a.next.now a.out.now a.i a.on a.at c.requires.2 c.requires.3 l.next l.out v; out_after = v.out_is }
-
-pub bounds-next-j-in-loop-j : goal.bounds-next-j-in-loop-j
-bounds-next-j-in-loop-j c = omega arith

@@ -2,22 +2,18 @@
 use Prim.Native.Nat.{◌+◌}
 use mathlib.Core.Path.{◌≡◌, sym, ◌∙◌}
 use native.Mathlib.Omega.{arith}
-use Rattle.model.specs.Sheets.{run_of, marks_of}
-use Rattle.model.specs.Traces.{Trace}
+use Rattle.model.specs.Sheets.{marks_of}
+use Rattle.schedule.specs.inner.Runs.{trace}
 use Rattle.stores.specs.Modtotal.{modtotal}
 use Rattle.store_plan.proofs.RowTotals.{modtotal-adds, modtotal-plain, modtotal-within}
-use Rattle.store_plan.proofs.modtotals.row_modtotal.Goals.{After-find, Start}
+use Rattle.store_plan.proofs.modtotals.row_modtotal.Goals.{After-find}
 use Rattle.store_plan.proofs.modtotals.row_modtotal.Goals as goal
 
--- the run that the function is called with
-abbrev Run : Start → Trace
-Run s = run_of s.args.kind s.args.a s.args.sizes.now s.args.warm.now s.args.refs.now
-
 adds : (c : After-find) → let a = c.args in
-    a.total + c.find.result.added.0 ≡ modtotal (run_of c.args.kind c.args.a c.args.sizes.now c.args.warm.now c.args.refs.now)
+    a.total + c.find.result.added.0 ≡ modtotal (trace c.args.run.now)
     (marks_of a.marks.now) a.row.h a.row.d
 adds c =
-    modtotal-adds (run_of c.args.kind c.args.a c.args.sizes.now c.args.warm.now c.args.refs.now) c.args.marks.now c.args.row
+    modtotal-adds (trace c.args.run.now) c.args.marks.now c.args.row
     c.requires.any_value.1 c.find.ensures.added_is
 
 -- which is within 64 bits
@@ -27,14 +23,14 @@ overflow_add-result c =
     omega (
       arith,
       adds (goal.at.overflow_add-result c).After-find,
-      modtotal-within (run_of c.args.kind c.args.a c.args.sizes.now c.args.warm.now c.args.refs.now) c.requires.run_within.0
+      modtotal-within (trace c.args.run.now) c.requires.run_within.0
           (marks_of c.args.marks.now) row.h row.d (omega (arith, c.ranges))
           (omega (arith, c.ranges)),
     )
 
 pub returns : goal.returns
 returns c =
-    modtotal-plain (run_of c.args.kind c.args.a c.args.sizes.now c.args.warm.now c.args.refs.now) c.args.marks.now c.args.row
+    modtotal-plain (trace c.args.run.now) c.args.marks.now c.args.row
     c.requires.any_value.1 (sym c.requires.any_value.0 ∙ c.if-any.false)
 
 pub returns-then-any : goal.returns-then-any

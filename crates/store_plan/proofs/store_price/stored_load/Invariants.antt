@@ -1,12 +1,7 @@
--- `stored_load` meets its contract: the invariant of its loop is `Storing`, the measure the steps that are left.
-use Prim.Native.Nat.{◌-◌}
-use lib.ListN.{length}
+-- `stored_load` meets its contract: the invariant of its loop is `Storing`.
 use Rattle.model.specs.Sheets.{marks_of}
 use Rattle.store_plan.proofs.Passing.{Storing}
 use Rattle.store_plan.proofs.store_price.stored_load.Given as goal
 
 abbrev pub invariant-loop-t : goal.invariant-loop-t
 invariant-loop-t l = Storing l.a l.sizes l.refs (marks_of l.marks) l.schedule l.flags l.load.0 l.t
-
-abbrev pub decreases-loop-t : goal.decreases-loop-t
-decreases-loop-t l = length l.refs - l.t

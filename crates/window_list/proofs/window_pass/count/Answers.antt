@@ -12,7 +12,7 @@ overflow_add-counts c =
 pub returns-then-mark-steps : goal.returns-then-mark-steps
 unfolding with_interval
 returns-then-mark-steps c =
-    rw (le-leb c.args.mark c.args.steps (omega arith))
+    rw (le-leb c.args.mark c.args.steps (omega arith), c.from-u.ensures)
 
 pub returns-else-mark-steps : goal.returns-else-mark-steps
 unfolding with_interval

@@ -1,13 +1,13 @@
--- `window_list::window_pass::count_reuses` meets its contract: the invariant of its loop is `Passing`, the measure the steps that are left.
+-- `window_list::window_pass::count_reuses` meets its contract: the invariant of its loop is `Passing`.
 use Prim.Native.Nat.{◌≤◌}
-use mathlib.Core.Path.{◌≡◌, refl}
+use mathlib.Core.Path.{◌≡◌, refl, sym, ◌∙◌}
 use native.Mathlib.Omega.{arith}
 use lib.ListN.{length, get_or}
 use Rattle.model.specs.Traces.{entry}
 use Rattle.model.proofs.Lists.{get_or-any}
 use Rattle.windows.specs.Windows.{window_run}
 use Rattle.window_list.specs.inner.Counts.{Room}
-use Rattle.window_list.proofs.Counting.{passing_start, passing_touch, passing_idle, passing-length, passing_done}
+use Rattle.window_list.proofs.Counting.{passing_start, passing_touch, passing_idle, passing_done}
 use Rattle.window_list.proofs.Counting.{reuse-room, few-touches}
 use Rattle.window_list.proofs.window_pass.count_reuses.Goals.{then-i-sizes, else-i-sizes}
 use Rattle.window_list.proofs.window_pass.count_reuses.Goals as goal
@@ -18,18 +18,11 @@ loop-t-init c =
     rw (c.requires.counts_value, c.start_table-last.ensures)
     (passing_start T c.requires.run_within.segs_within c.requires.run_within.steps_within (λ i. refl))
 
-pub overflow_cast-i : goal.overflow_cast-i
-overflow_cast-i c = omega (arith, c.type_inv.refs c.loop-t.t)
-
-pub bounds-last-i : goal.bounds-last-i
-bounds-last-i c = omega (arith, c.requires.run_within.segs_within)
-
 pub count-requires : goal.count-requires
 count-requires c =
     let l = c.loop-t in
     let short : l.t ≤ 2048 = omega (arith, l.invariant.within, c.requires.run_within.steps_within) in
-    let room : Room l.counts =
-    rw l.invariant.counts_are (reuse-room (window_run c.args.sizes.now c.args.refs.now) l.t short) in
+    let room : Room l.counts = rw l.invariant.counts_are (reuse-room (window_run c.args.sizes.now c.args.refs.now) l.t short) in
     (short, room)
 
 pub overflow_add-touches : goal.overflow_add-touches
@@ -40,15 +33,7 @@ overflow_add-touches c =
       l.invariant.touches_are,
       l.invariant.within,
       c.requires.run_within.steps_within,
-      few-touches
-          (window_run c.args.sizes.now c.args.refs.now) l.t,
-    )
-
-pub bounds-last-i-then-i-sizes : goal.bounds-last-i-then-i-sizes
-bounds-last-i-then-i-sizes c =
-    omega (
-      arith,
-      c.requires.run_within.segs_within,
+      few-touches (window_run c.args.sizes.now c.args.refs.now) l.t,
     )
 
 pub loop-t-preserved : goal.loop-t-preserved
@@ -61,19 +46,11 @@ loop-t-preserved c =
     elim c.if-i-sizes.branch [
       | then-i-sizes w ↦ rw (w.counts-is, w.last-is, w.touches-is)
           (passing_touch T c.requires.run_within.segs_within c.requires.run_within.steps_within l.counts w.count.new.counts l.last
-          l.touches l.t _
-          l.invariant lt e w.if-i-sizes.true w.count.ensures)
+          l.touches l.t _ l.invariant lt (e ∙ sym c.from-i.ensures) w.if-i-sizes.true w.count.ensures)
       | else-i-sizes w ↦ rw (w.counts-is, w.last-is, w.touches-is)
           (passing_idle T c.requires.run_within.segs_within c.requires.run_within.steps_within l.counts l.last l.touches l.t l.invariant lt
-          (rw e w.if-i-sizes.false))
+          (omega (arith, e, c.from-i.ensures, w.if-i-sizes.false)))
     ]
-
-pub shape_of-counts : goal.shape_of-counts
-shape_of-counts c =
-    let l = c.loop-t in
-    passing-length (window_run c.args.sizes.now c.args.refs.now) c.requires.run_within.segs_within c.requires.run_within.steps_within _ _
-    l.last
-    l.touches l.t c.requires.counts_value l.invariant
 
 pub returns : goal.returns
 returns c =
@@ -82,6 +59,3 @@ returns c =
     passing_done (window_run c.args.sizes.now c.args.refs.now) c.requires.run_within.segs_within c.requires.run_within.steps_within l.counts
     l.last l.touches l.t l.invariant (omega (arith, l.invariant.within)) in
     record { touches_value = done.0; last_value = done.1; counts_after = done.2 }
-
-pub slice_bounds-start_table-end : goal.slice_bounds-start_table-end
-slice_bounds-start_table-end c = refl

@@ -1,12 +1,7 @@
--- `window_list::window_pass::count_reuses` meets its contract: the invariant of its loop is `Passing`, the measure the steps that are left.
-use Prim.Native.Nat.{◌-◌}
-use lib.ListN.{length}
+-- `window_list::window_pass::count_reuses` meets its contract: the invariant of its loop is `Passing`.
 use Rattle.windows.specs.Windows.{window_run}
 use Rattle.window_list.proofs.Counting.{Passing}
 use Rattle.window_list.proofs.window_pass.count_reuses.Given as goal
 
 abbrev pub invariant-loop-t : goal.invariant-loop-t
 invariant-loop-t l = Passing (window_run l.sizes l.refs) l.counts l.touches l.last l.t
-
-abbrev pub decreases-loop-t : goal.decreases-loop-t
-decreases-loop-t l = length l.refs - l.t

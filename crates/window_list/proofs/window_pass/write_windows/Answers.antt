@@ -1,13 +1,13 @@
--- `window_list::window_pass::write_windows` meets its contract: the invariant of its loop is `Filling`, the measure the windows that are
--- left.
+-- `window_list::window_pass::write_windows` meets its contract: the invariant of its loop is `Filling`.
 use Prim.Native.Nat.{◌+◌, ◌≤◌}
-use mathlib.Core.Path.{◌≡◌, sym}
+use mathlib.Core.Path.{◌≡◌, refl}
 use native.Mathlib.Omega.{arith}
 use lib.ListN.{length, get_or}
 use Rattle.model.specs.Traces.{Trace}
 use Rattle.model.proofs.LastTouches.{listed-none}
 use Rattle.windows.specs.Windows.{window_run, window_list}
-use Rattle.window_list.proofs.Counting.{marks_whole, marks-length, ends-room, ends-done}
+use Rattle.window_list.specs.inner.Counts.{no_counts}
+use Rattle.window_list.proofs.Counting.{ends-room, ends-done}
 use Rattle.window_list.proofs.Filling.{filling_start, filling_step, count-within}
 use Rattle.window_list.proofs.window_pass.write_windows.Goals.{In-loop-t, Start}
 use Rattle.window_list.proofs.window_pass.write_windows.Goals as goal
@@ -25,20 +25,9 @@ taken-within c =
     l.invariant.0
     c.loop-t-test.true
 
-pub slice_bounds-last-end : goal.slice_bounds-last-end
-slice_bounds-last-end c =
-    marks_whole (window_run c.args.sizes.now c.args.refs.now) c.requires.run_within.segs_within c.requires.run_within.steps_within _ _
-    c.count_reuses-passed.ensures.counts_after
-    c.count_reuses-passed.ensures.last_value
-
-pub slice_bounds-count_ends-end : goal.slice_bounds-count_ends-end
-slice_bounds-count_ends-end c =
-    sym (marks-length (window_run c.args.sizes.now c.args.refs.now) c.requires.run_within.segs_within c.requires.run_within.steps_within _
-    _ c.count_reuses-passed.ensures.counts_after
-    c.count_reuses-passed.ensures.last_value)
-
-pub overflow_cast-refs : goal.overflow_cast-refs
-overflow_cast-refs c = omega (arith, c.requires.run_within)
+pub count_reuses-passed-requires-clause-counts_value : goal.count_reuses-passed-requires-clause-counts_value
+unfolding no_counts
+count_reuses-passed-requires-clause-counts_value c = refl
 
 pub count_ends-requires : goal.count_ends-requires
 count_ends-requires c = (
@@ -58,27 +47,12 @@ loop-t-init c = (
       c.count_ends.ensures,
 )
 
-pub bounds-out-t : goal.bounds-out-t
-bounds-out-t c = omega (arith, c.loop-t.invariant.0.whole, c.requires.refs_in_bounds)
-
-pub bounds-counts-t : goal.bounds-counts-t
-bounds-counts-t c = omega (arith, c.requires.run_within)
-
-pub overflow_cast-more : goal.overflow_cast-more
-overflow_cast-more c = omega (arith, c.loop-t.invariant.0.small_more, taken-within c)
-
-pub overflow_add-value : goal.overflow_add-value
-overflow_add-value c =
-    let v = c.loop-t.invariant.0 in
-    omega (arith, v.small_more, v.small_value, v.within, c.requires.run_within)
-
 pub loop-t-preserved : goal.loop-t-preserved
 loop-t-preserved c =
     let l = c.loop-t in (
-      filling_step (window_run c.args.sizes.now c.args.refs.now) c.args.out.now l.out _ l.value l.more l.t
-          c.requires.run_within.steps_within c.requires.refs_in_bounds l.invariant.1
-          l.invariant.0
-          c.loop-t-test.true,
+      rw c.from-more.ensures
+          (filling_step (window_run c.args.sizes.now c.args.refs.now) c.args.out.now l.out _ l.value l.more l.t
+          c.requires.run_within.steps_within c.requires.refs_in_bounds l.invariant.1 l.invariant.0 c.loop-t-test.true),
       l.invariant.1,
     )
 
@@ -90,7 +64,4 @@ returns c =
     rw (← done) l.invariant.0.out_is
 
 pub overflow_sub-more : goal.overflow_sub-more
-overflow_sub-more c = (taken-within) c
-
-pub shape_of-out : goal.shape_of-out
-shape_of-out c = c.loop-t.invariant.0.whole
+overflow_sub-more c = omega (arith, c.from-more.ensures, taken-within (goal.at.overflow_sub-more c).In-loop-t)

@@ -1,6 +1,4 @@
--- `window_list::window_pass::write_windows` meets its contract: the invariant of its loop is `Filling`, the measure the windows that are
--- left.
-use Prim.Native.Nat.{◌-◌}
+-- `window_list::window_pass::write_windows` meets its contract: the invariant of its loop is `Filling`.
 use mathlib.Core.Path.{◌≡◌}
 use lib.ListN.{length}
 use Rattle.windows.specs.Windows.{window_run}
@@ -12,6 +10,3 @@ abbrev pub invariant-loop-t : goal.invariant-loop-t
 invariant-loop-t l =
     Filling (window_run l.sizes l.refs) l.initial.out l.out l.value l.more l.t ×
     (l.counts ≡ interval_counts (window_run l.sizes l.refs) (length l.sizes))
-
-abbrev pub decreases-loop-t : goal.decreases-loop-t
-decreases-loop-t l = length l.refs - l.t

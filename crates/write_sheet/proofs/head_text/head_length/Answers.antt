@@ -3,8 +3,7 @@
 use mathlib.Core.Path.{◌≡◌, sym, ap, ◌∙◌}
 use native.Mathlib.Omega.{arith}
 use borrow.Author.Rules.{rules}
-use lib.ListN.{length, length-take}
-use lib.Seq.{length-take-le}
+use lib.ListN.{length}
 use Rattle.text.proofs.Lengths.{length-of}
 use Rattle.write_sheet.specs.inner.Heads.{head_text}
 use Rattle.write_sheet.proofs.ClampedHead.{clamped_head, head-clamped}
@@ -21,28 +20,9 @@ pub returns : goal.returns
 returns c =
     let a = c.args in
     let (l₁, l₂, l₃) = lengths (goal.at.returns c).Start in
-    let k = c.least-segs in
-    let n = c.least-rows in
-    let m = c.least-warm in
+    let k = c.min-segs in
+    let n = c.min-rows in
+    let m = c.min-warm in
     let e = head-clamped a.head k.result n.result m.result l₁ l₂ l₃ k.ensures n.ensures m.ensures in
     let f = head-length a.form (clamped_head a.head k.result n.result m.result) in
     length-of (sym (f ∙ omega arith) ∙ ap (λ h. length (head_text a.form h)) e, omega arith)
-
-pub slice_bounds-sizes-end : goal.slice_bounds-sizes-end
-slice_bounds-sizes-end c = let e = lengths (goal.at.slice_bounds-sizes-end c).Start in omega arith
-
-pub slice_bounds-segments_length-end : goal.slice_bounds-segments_length-end
-slice_bounds-segments_length-end c = let e = lengths (goal.at.slice_bounds-segments_length-end c).Start in
-    sym (length-take-le _ _ (omega arith))
-
-pub segments_length-requires : goal.segments_length-requires
-segments_length-requires c = simp length-take (omega arith)
-
-pub slice_bounds-holds-end : goal.slice_bounds-holds-end
-slice_bounds-holds-end c = let e = lengths (goal.at.slice_bounds-holds-end c).Start in omega arith
-
-pub slice_bounds-warm_length-end : goal.slice_bounds-warm_length-end
-slice_bounds-warm_length-end c = let e = lengths (goal.at.slice_bounds-warm_length-end c).Start in sym (length-take-le _ _ (omega arith))
-
-pub warm_length-requires : goal.warm_length-requires
-warm_length-requires c = simp length-take (omega arith)

@@ -6,5 +6,4 @@ use Rattle.write_sheet.proofs.head_text.priced_length.Goals as goal
 
 pub returns : goal.returns
 returns c =
-    let a = c.args in
-    length-of (omega (arith, priced-length a.prices a.n (omega arith)))
+    length-of (omega (arith, priced-length c.args.rows.now))

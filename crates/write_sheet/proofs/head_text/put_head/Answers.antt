@@ -5,14 +5,13 @@ use mathlib.Core.Path.{◌≡◌, sym, ap, ◌∙◌}
 use native.Mathlib.Omega.{arith}
 use borrow.Author.Rules.{rules}
 use lib.ListN.{length}
-use lib.Seq.{length-take-le}
 use Rattle.model.specs.Sheets.{HeadValue}
 use Rattle.model.specs.Values.{head_value_of}
 use Rattle.text.proofs.Putting.{put_same, put_then}
 use Rattle.write_sheet.specs.inner.Heads.{segments_text, priced_text, warm_text, head_text}
 use Rattle.write_sheet.proofs.ClampedHead.{clamped_head, head-clamped}
 use Rattle.write_sheet.proofs.HeadParts.{head-length}
-use Rattle.write_sheet.proofs.head_text.put_head.Goals.{After-least-warm, Start}
+use Rattle.write_sheet.proofs.head_text.put_head.Goals.{After-min-warm, Start}
 use Rattle.write_sheet.proofs.head_text.put_head.Goals as goal
 
 -- how long the arrays are
@@ -21,22 +20,22 @@ lengths : (s : Start)
 lengths s = (search rules, search rules, search rules)
 
 -- the head whose counts are cut off
-abbrev clampedAt : After-least-warm → HeadValue
+abbrev clampedAt : After-min-warm → HeadValue
 clampedAt r =
     clamped_head r.args.head
-    r.least-segs.result r.least-rows.result r.least-warm.result
+    r.min-segs.result r.min-rows.result r.min-warm.result
 
 -- it is the head's value
-same : (r : After-least-warm) → clampedAt r ≡ head_value_of r.args.head
+same : (r : After-min-warm) → clampedAt r ≡ head_value_of r.args.head
 same r =
     let lengths' : (length r.args.head.sizes ≡ 256) × (length r.args.head.prices ≡ 64) ×
     (length r.args.head.holds ≡ 256) = (search rules, search rules, search rules) in
     let (l₁, l₂, l₃) = lengths' in
     head-clamped _ _ _ _ l₁ l₂ l₃
-    r.least-segs.ensures r.least-rows.ensures r.least-warm.ensures
+    r.min-segs.ensures r.min-rows.ensures r.min-warm.ensures
 
 -- and its text is as long as its parts
-whole : (r : After-least-warm)
+whole : (r : After-min-warm)
     → (let a = r.args in
     let h = clampedAt r in
     length (head_text a.form (head_value_of a.head))
@@ -47,24 +46,22 @@ whole r =
 
 pub put_segments-priced-requires : goal.put_segments-priced-requires
 put_segments-priced-requires c =
-    omega (arith, whole (goal.at.put_segments-priced-requires c).After-least-warm, c.requires)
+    omega (arith, whole (goal.at.put_segments-priced-requires c).After-min-warm, c.requires)
 
 pub put_priced-held-requires : goal.put_priced-held-requires
-put_priced-held-requires c = (
-  omega arith,
-  omega (
-    arith,
-    whole (goal.at.put_priced-held-requires c).After-least-warm,
-    c.requires,
-    c.put_segments-priced.ensures.ends,
-  ),
-)
+put_priced-held-requires c =
+    omega (
+      arith,
+      whole (goal.at.put_priced-held-requires c).After-min-warm,
+      c.requires,
+      c.put_segments-priced.ensures.ends,
+    )
 
 pub put_warm-requires : goal.put_warm-requires
 put_warm-requires c =
     omega (
       arith,
-      whole (goal.at.put_warm-requires c).After-least-warm,
+      whole (goal.at.put_warm-requires c).After-min-warm,
       c.requires,
       c.put_segments-priced.ensures.ends,
       c.put_priced-held.ensures.ends,
@@ -74,17 +71,5 @@ pub returns : goal.returns
 unfolding head_text
 returns c =
     let a = c.args in
-    put_same (ap (head_text a.form) (same (goal.at.returns c).After-least-warm))
+    put_same (ap (head_text a.form) (same (goal.at.returns c).After-min-warm))
     (put_then c.put_segments-priced.ensures (put_then c.put_priced-held.ensures c.put_warm.ensures))
-
-pub slice_bounds-sizes-end : goal.slice_bounds-sizes-end
-slice_bounds-sizes-end c = let e = lengths (goal.at.slice_bounds-sizes-end c).Start in omega arith
-
-pub slice_bounds-put_segments-end : goal.slice_bounds-put_segments-end
-slice_bounds-put_segments-end c = let e = lengths (goal.at.slice_bounds-put_segments-end c).Start in sym (length-take-le _ _ (omega arith))
-
-pub slice_bounds-holds-end : goal.slice_bounds-holds-end
-slice_bounds-holds-end c = let e = lengths (goal.at.slice_bounds-holds-end c).Start in omega arith
-
-pub slice_bounds-put_warm-end : goal.slice_bounds-put_warm-end
-slice_bounds-put_warm-end c = let e = lengths (goal.at.slice_bounds-put_warm-end c).Start in sym (length-take-le _ _ (omega arith))

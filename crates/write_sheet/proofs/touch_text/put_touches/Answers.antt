@@ -1,6 +1,5 @@
 -- `write_sheet::touch_text::put_touches` meets its contract. The loop's invariant: the lines of the entries passed are put from `at` on.
 use native.Mathlib.Omega.{arith}
-use lib.Seq.{take_all}
 use Rattle.text.specs.Texts.{lines_text}
 use Rattle.sheet.specs.Touches.{touches_from}
 use Rattle.text.proofs.Putting.{filled_start, filled_next}
@@ -23,6 +22,3 @@ loop-i-preserved c =
     let a = c.args in
     filled_next l.invariant c.loop-i-test.true c.put_entry-next.ensures
     (text-next a.marks.now a.entries.now l.i c.loop-i-test.true)
-
-pub returns : goal.returns
-returns c = let l = c.loop-i in rw (take_all l.i _ c.loop-i-test.false) at l.invariant.put

@@ -1,10 +1,8 @@
 -- `write_sheet::touch_text::touches_length` meets its contract. The loop's invariant: `sum` is the length of the lines of the entries
 -- passed.
-use native.Mathlib.Omega.{arith}
-use lib.Seq.{take_all}
 use Rattle.text.specs.Texts.{lines_text}
 use Rattle.sheet.specs.Touches.{touches_from}
-use Rattle.text.proofs.Lengths.{added-start, added_next, length-of}
+use Rattle.text.proofs.Lengths.{added-start, added_next}
 use Rattle.write_sheet.proofs.TouchLines.{text-next}
 use Rattle.write_sheet.proofs.touch_text.touches_length.Goals as goal
 
@@ -18,8 +16,3 @@ loop-i-preserved c =
     let a = c.args in
     added_next l.invariant c.loop-i-test.true (text-next a.marks.now a.entries.now l.i c.loop-i-test.true)
     c.entry_length-sum.ensures
-
-pub returns : goal.returns
-returns c =
-    let l = c.loop-i in
-    length-of (rw (take_all l.i _ c.loop-i-test.false) at l.invariant.sum_is, omega arith)

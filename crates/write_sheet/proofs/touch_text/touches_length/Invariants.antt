@@ -1,6 +1,5 @@
 -- `write_sheet::touch_text::touches_length` meets its contract. The loop's invariant: `sum` is the length of the lines of the entries
 -- passed.
-use Prim.Native.Nat.{◌-◌}
 use lib.ListN.{length, take}
 use Rattle.sheet.specs.Touches.{touches_text}
 use Rattle.write_sheet.specs.inner.Steps.{touches_with}
@@ -9,6 +8,3 @@ use Rattle.write_sheet.proofs.touch_text.touches_length.Given as goal
 
 abbrev pub invariant-loop-i : goal.invariant-loop-i
 invariant-loop-i l = Added l.i (length l.entries) (touches_text (touches_with (take l.i l.entries) l.marks)) 32 l.sum
-
-abbrev pub decreases-loop-i : goal.decreases-loop-i
-decreases-loop-i l = length l.entries - l.i

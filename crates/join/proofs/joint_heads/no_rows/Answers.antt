@@ -1,8 +1,0 @@
--- `no_rows` meets its contract: the repeat is that of the definition.
-use borrow.Author.Rules.{rules}
-use Rattle.model.specs.Values.{zero_rows}
-use Rattle.join.proofs.joint_heads.no_rows.Goals as goal
-
-pub returns : goal.returns
-unfolding zero_rows
-returns c = search rules

@@ -1,9 +1,0 @@
--- The loop's invariant of `segtrace::read_input`: the bytes read so far lie within the buffer. The measure is what is left of it.
-use Rattle.std.proofs.Common.{◌-◌, ◌≤◌, length}
-use Rattle.segtrace.proofs.read_input.Given as goal
-
-abbrev pub invariant-loop-done : goal.invariant-loop-done
-invariant-loop-done l = l.done ≤ length l.buf
-
-abbrev pub decreases-loop-done : goal.decreases-loop-done
-decreases-loop-done l = length l.initial.buf - l.done

@@ -1,8 +1,0 @@
--- `no_flags` meets its contract.
-use mathlib.Core.Path.{refl}
-use Rattle.store_plan.specs.inner.Passing.{no_flags}
-use Rattle.store_plan.proofs.store_price.no_flags.Goals as goal
-
-pub returns : goal.returns
-unfolding no_flags
-returns c = refl
