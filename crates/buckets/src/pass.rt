@@ -1,16 +1,14 @@
 // The single pass over the references of a sheet, which fills the 65 buckets, and one over its segments for the end intervals.
 // What each function gives is written in specs/.
-ghost use Rattle.std.specs.Prelude.{◌≡◌, ◌≤◌, ◌^◌, length};
-ghost use Rattle.model.specs.Sheets.{head_run, most_segs};
-ghost use Rattle.model.specs.Values.{head_value_of};
+ghost use Rattle.std.specs.Prelude.{◌≡◌, ◌≤◌, ◌^◌, length, take};
+ghost use Rattle.model.specs.Sheets.{RowsWithin, RunWithin, run_of, most_segs, most_rows};
 ghost use Rattle.buckets.specs.Buckets.{tally_of, all_empty};
 ghost use Rattle.buckets.specs.inner.Search.{time_since};
 ghost use Rattle.buckets.specs.inner.Pass.{unplaced, Limited, with_touch, with_end, Within, Passable, PassedOn, EndedAt};
-ghost use Rattle.buckets.specs.inner.Pass.{InLimits};
 
 use crate::search::Prices;
 use crate::{Bucket, Tally};
-use model::{Amount, Head, Kind, LoadUnits, MemoryUnits, Sheet};
+use model::{Amount, Kind, LoadUnits, MemoryUnits, PriceRow, Sheet};
 
 // A touch: the segment's size, the two costs, and the bucket that it goes to. Only a reuse has a retention; a first touch has none.
 #[derive(Clone, Copy)]
@@ -137,28 +135,28 @@ pub fn ends(
     buckets
 }
 
-// One pass over the references from the warm segments of a head on, then one over its segments for the end intervals.
+// One pass over the references from the warm segments on, then one over the segments for the end intervals.
 // Not inlined: so its arrays are off the stack while its caller makes other calls.
 #[inline(never)]
-pub fn tally(head: Head, refs: &[u16]) -> Tally
-    requires { InLimits head refs.now }
-    ensures { result ≡ tally_of (head_value_of head).rows (head_run (head_value_of head) refs.now) }
+pub fn tally(
+    kind: Kind,
+    a: u8,
+    prices: [PriceRow; Sheet::MAX_ROWS],
+    rows: usize,
+    sizes: &[u16],
+    warm: &[u16],
+    refs: &[u16],
+) -> Tally
+    requires { (rows ≤ most_rows) × RowsWithin (take rows prices) × RunWithin (run_of kind a sizes.now warm.now refs.now) }
+    ensures { result ≡ tally_of (take rows prices) (run_of kind a sizes.now warm.now refs.now) }
 {
-    let prices = Prices::of(head.prices, head.rows);
-    let sizes = &head.sizes[..head.segs];
+    let prices = Prices::of(prices, rows);
     let start = Passed {
         buckets: empty_buckets(),
-        last: model::start_table(&head.holds[..head.warm]),
+        last: model::start_table(warm),
     };
-    let passed = references(head.kind, head.a, &prices, sizes, start, 0, refs);
-    let ended = ends(
-        head.kind,
-        head.a,
-        &prices,
-        sizes,
-        &passed.last,
-        refs.len() as u16,
-    );
+    let passed = references(kind, a, &prices, sizes, start, 0, refs);
+    let ended = ends(kind, a, &prices, sizes, &passed.last, refs.len() as u16);
     Tally {
         buckets: passed.buckets,
         ends: ended,

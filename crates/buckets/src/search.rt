@@ -75,7 +75,7 @@ impl Prices {
     }
 
     // The first row that keeps a reuse, or one beyond the last: three rounds, or one look where there is one row.
-    fn first_kept(&self, reuse: Reuse) -> usize
+    pub fn first_kept(&self, reuse: Reuse) -> usize
         requires { Priceable reuse.retention.0 reuse.swap.0 }
         ensures { Found self.now.rows reuse self.now.count result 0 }
     {

@@ -2,15 +2,17 @@
 use Prim.Native.Nat.{ℕ, ◌+◌, min}
 use mathlib.Core.Path.{◌≡◌, refl, ap, ◌∙◌}
 use mathlib.Core.List.{List}
+use native.Mathlib.Omega.{arith}
 use lib.ListN.{get_or, set}
 use Rattle.model.specs.Costs.{unit_cost}
-use Rattle.model.specs.Sheets.{largest_a}
+use Rattle.model.specs.Sheets.{largest_a, most_rows}
 use Rattle.model.specs.declared.Kind.{Kind}
 use Rattle.model.specs.declared.PriceRow.{PriceRow}
 use Rattle.buckets.specs.inner.Pass.{unplaced, with_touch, Limited}
-use Rattle.buckets.specs.inner.Search.{time_since, touch_bucket}
+use Rattle.buckets.specs.inner.Search.{time_since, touch_bucket, Found}
 use Rattle.buckets.specs.declared.Bucket.{Bucket}
 use Rattle.buckets.specs.declared.pass.Touch.{Touch}
+use Rattle.buckets.specs.declared.search.Reuse.{Reuse}
 use Rattle.buckets.proofs.Touches.{placed, placed-is}
 use Rattle.c_lists.specs.Recorders.{kind_in}
 use Rattle.c_lists.specs.RecorderList.{at_kind, at_a, at_cost, at_volume, at_sizes, at_last, short_in, bucket_at}
@@ -23,6 +25,14 @@ pub touch-told : (l : List ℕ) (i : ℕ) (kind : Kind) (a z mark n : ℕ) (x : 
     → placed x k ≡ touch_in l rows i n
 touch-told l i kind a z mark n x k kind-is a_is z-is mark-is is rows bucket =
     placed-is kind a rows z (time_since n mark) x k is bucket ∙ rw (kind-is, a_is, z-is, mark-is) refl
+
+-- a row found among all 64 places is one found among those that the list counts
+pub found-counted : (rows : List PriceRow) (x : Reuse) (k n : ℕ) → Found rows x most_rows k 0 → Found rows x n k 0
+found-counted rows x k n f =
+    record {
+      within = f.within;
+      parted = λ o. f.parted (record { lasts = o.lasts; beyond = λ j le lt. absurd (omega arith) });
+    }
 
 -- a touch put into its bucket, Q and V
 pub filed-is : (l : List ℕ) (x : Touch) (kind : Kind) (b more : Bucket) (unit : ℕ) (l1 : List ℕ) → kind ≡ kind_in (get_or l at_kind 0)

@@ -5,18 +5,19 @@ ghost use Rattle.model.specs.Sheets.{SheetValue, Valid, most_segs, most_steps};
 ghost use Rattle.model.specs.declared.PriceRow.{PriceRow};
 ghost use Rattle.buckets.specs.FirstRow.{last_bucket};
 ghost use Rattle.buckets.specs.inner.Pass.{Limited};
+ghost use Rattle.buckets.specs.inner.Search.{retained, touch_bucket, Priceable};
 ghost use Rattle.recorder.specs.Recorders.{recorder_of, appended, taken, with_idle, refs_verdict};
 ghost use Rattle.recorder.specs.Recorders.{touch_verdict, touch_all_verdict, idle_verdict};
 ghost use Rattle.c_lists.specs.RecorderList.{at_segs, at_steps, at_cost, at_volume, at_sums, list_length, list_of, short_in, bucket_at};
 ghost use Rattle.c_lists.specs.RecorderList.{recorder_at, Changed};
-ghost use Rattle.c_lists.specs.inner.InPlace.{prices_in, RowsIn, touch_in, with_filed, Room, IsTaken};
+ghost use Rattle.c_lists.specs.inner.InPlace.{places_in, RowsIn, touch_in, with_filed, Room, IsTaken};
 
 use crate::record_numbers::kind_of;
 use crate::tables::{bucket_at, store_bucket};
 use buckets::pass::Touch;
-use buckets::search::Prices;
+use buckets::search::{Prices, Reuse};
 use buckets::{Bucket, Tally};
-use model::{PriceRow, Refusal};
+use model::{LoadUnits, MemoryUnits, PriceRow, Refusal};
 use recorder::Recorder;
 
 // Of a size, a price, a mark and a step 16 bits count.
@@ -30,9 +31,9 @@ pub(crate) fn short(list: &[u64; Recorder::LIST], at: usize) -> u16
     (list[at] % SHORT) as u16
 }
 
-// The prices of the rows: h and d of 64, of which the list counts some.
+// The prices in all 64 places of the list, of which it counts some as rows.
 fn prices_in(list: &[u64; Recorder::LIST]) -> Prices
-    ensures { result ≡ prices_in list.now }
+    ensures { result ≡ places_in list.now }
 {
     let mut rows = [PriceRow { h: 0, d: 0 }; Recorder::MAX_ROWS];
     for r in 0..Recorder::MAX_ROWS {
@@ -42,8 +43,28 @@ fn prices_in(list: &[u64; Recorder::LIST]) -> Prices
         };
     }
     Prices {
-        count: list[Recorder::AT_ROWS] as usize,
+        count: Recorder::MAX_ROWS,
         rows,
+    }
+}
+
+// The bucket of a touch: that of the first row that keeps a reuse, and else the last. All places are looked at: in a list put together by
+// hand those beyond the rows may have prices too.
+fn bucket_of(list: &[u64; Recorder::LIST], retention: Option<MemoryUnits>, swap: LoadUnits) -> usize
+    requires { Priceable (retained retention) swap.0 }
+    ensures within { result ≤ last_bucket }
+    ensures exact { (rows : List PriceRow) → RowsIn list.now rows → result ≡ touch_bucket rows retention swap }
+{
+    match retention {
+        Some(retention) => {
+            let k = prices_in(list).first_kept(Reuse { retention, swap });
+            if (k as u64) < list[Recorder::AT_ROWS] {
+                k
+            } else {
+                Tally::LAST
+            }
+        }
+        None => Tally::LAST,
     }
 }
 
@@ -59,7 +80,7 @@ fn touch_now(list: &[u64; Recorder::LIST], segment: usize, steps: u16) -> Touch
     let z = short(list, Recorder::AT_SIZES + segment);
     let mark = short(list, Recorder::AT_LAST + segment);
     let mut x = buckets::pass::touch_of(kind, a, z, mark, steps);
-    x.bucket = prices_in(list).bucket_of(x.retention, x.swap);
+    x.bucket = bucket_of(list, x.retention, x.swap);
     x
 }
 

@@ -5,9 +5,6 @@ use mathlib.Core.Bool.{Bool, true, false, ◌&&◌}
 use native.Mathlib.Omega.{arith}
 use borrow.Author.Tests.{le-leb, lt-leb, leb-true}
 use lib.Dec.{leb}
-use mathlib.Core.Logic.{⊎_elim}
-use Rattle.std.specs.Char.{digit_value, IsDigitOf}
-use Rattle.std.proofs.lemmas.Bool.Decides.{nat_tests}
 use Rattle.din.specs.Lines.{between, digit_of}
 
 module _ (lo hi b : ℕ) where
@@ -44,15 +41,3 @@ module _ (b : ℕ) where
   pub no_digit : (48 ≤ b → b ≤ 57 → ⊥) → (65 ≤ b → b ≤ 70 → ⊥) → (97 ≤ b → b ≤ 102 → ⊥) → 16 ≡ digit_of b
   unfolding digit_of
   no_digit p q r = rw (outside 48 57 b p, outside 65 70 b q, outside 97 102 b r) refl
-
--- what reading a digit of base 16 tells: its value, or that there is none
-pub digit-read : (b d : ℕ) → IsDigitOf b d → d < 16 → d ≡ digit_of b
-digit-read b d h small =
-    ⊎_elim
-    (λ n. omega (arith, decimal_digit b (omega arith) (omega arith)))
-    (⊎_elim (λ u. omega (arith, upper-digit b (omega arith) (omega arith))) (λ l. omega (arith, lower-digit b (omega arith) (omega arith))))
-    h
-
-pub digit-none : (b : ℕ) → (digit_value b < 16 → ⊥) → 16 ≡ digit_of b
-digit-none b none =
-    no_digit b (λ p q. none (grind (arith, nat_tests))) (λ p q. none (grind (arith, nat_tests))) (λ p q. none (grind (arith, nat_tests)))

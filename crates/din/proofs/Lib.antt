@@ -1,4 +1,5 @@
 pub mod Answers
+pub mod DigitValues
 pub mod Digits
 pub mod Examples
 pub mod FirstLines

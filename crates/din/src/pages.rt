@@ -69,6 +69,7 @@ fn lines(bytes: &[u8], k: u32) -> Result<Imported, Refusal>
     requires { k < 32 }
     ensures { result ≡ imported_of (touched_by k bytes.now) }
 {
+    let values = crate::lines::digit_values();
     let mut table = [None; Imported::PLACES];
     let mut touches = [Sheet::IDLE; Sheet::MAX_STEPS];
     let mut segs = 0;
@@ -76,7 +77,7 @@ fn lines(bytes: &[u8], k: u32) -> Result<Imported, Refusal>
     let mut at = 0;
     // Each line says where the next one begins: no count of steps is known before.
     while at < bytes.len() {
-        let Some(line) = crate::lines::line(&bytes[at..]) else {
+        let Some(line) = crate::lines::line(&bytes[at..], &values) else {
             return Err(Refusal::TraceMalformed);
         };
         let page = line.address >> k;

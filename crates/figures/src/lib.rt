@@ -18,6 +18,17 @@ pub fn figures(head: Head, refs: &[u16]) -> [RowFigures; Sheet::MAX_ROWS]
     requires { InLimits head refs.now }
     ensures { result ≡ run_figures (head_value_of head).rows (head_run (head_value_of head) refs.now) }
 {
-    let tally = buckets::pass::tally(head, refs);
-    rows::all_rows(head, refs, &tally)
+    let sizes = &head.sizes[..head.segs];
+    let warm = &head.holds[..head.warm];
+    let tally = buckets::pass::tally(head.kind, head.a, head.prices, head.rows, sizes, warm, refs);
+    rows::all_rows(
+        head.kind,
+        head.a,
+        head.prices,
+        head.rows,
+        sizes,
+        warm,
+        refs,
+        &tally,
+    )
 }

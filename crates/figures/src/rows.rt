@@ -1,17 +1,15 @@
 // The figures of every row from the buckets of the pass: one sweep over the rows with running sums.
-ghost use Rattle.std.specs.Prelude.{◌≡◌, ℕ, ◌≤◌, ◌<◌, ◌^◌, cond, eqb, length};
+ghost use Rattle.std.specs.Prelude.{◌≡◌, ℕ, ◌≤◌, ◌<◌, ◌^◌, cond, eqb, length, take};
 ghost use Rattle.model.specs.Costs.{swap_cost};
-ghost use Rattle.model.specs.Sheets.{head_run, most_steps, most_segs};
-ghost use Rattle.model.specs.Values.{head_value_of};
+ghost use Rattle.model.specs.Sheets.{run_of, most_steps, most_segs, most_rows};
 ghost use Rattle.buckets.specs.Buckets.{bucket_count};
-ghost use Rattle.buckets.specs.inner.Pass.{InLimits};
 ghost use Rattle.model.specs.RowAnswers.{run_figures};
 ghost use Rattle.figures.specs.inner.Sweep.{summed, start_swaps, with_start, no_row_figures, Tallied};
 ghost use Rattle.figures.specs.inner.OneRow.{most_items, Holds};
 
 use crate::row_sums::Sums;
 use buckets::{Bucket, Tally};
-use model::{Amount, Head, LoadUnits, MemoryUnits, RowFigures, Sheet};
+use model::{Amount, Kind, LoadUnits, MemoryUnits, PriceRow, RowFigures, Sheet};
 
 // All 65 buckets added.
 fn add_up(buckets: &[Bucket; Tally::BUCKETS]) -> Bucket
@@ -82,22 +80,28 @@ fn no_figures() -> [RowFigures; Sheet::MAX_ROWS]
 // The figures of every row from the buckets and the warm segments; zeros beyond the rows. Q and V are sums over the touches alone.
 // Not inlined: so its arrays are off the stack while its caller makes other calls.
 #[inline(never)]
-pub fn all_rows(head: Head, refs: &[u16], tally: &Tally) -> [RowFigures; Sheet::MAX_ROWS]
-    requires { InLimits head refs.now
-        × Tallied (head_value_of head).rows (head_run (head_value_of head) refs.now) tally.now }
-    ensures { result ≡ run_figures (head_value_of head).rows (head_run (head_value_of head) refs.now) }
+pub fn all_rows(
+    kind: Kind,
+    a: u8,
+    prices: [PriceRow; Sheet::MAX_ROWS],
+    rows: usize,
+    sizes: &[u16],
+    warm: &[u16],
+    refs: &[u16],
+    tally: &Tally,
+) -> [RowFigures; Sheet::MAX_ROWS]
+    requires { (rows ≤ most_rows)
+        × Tallied (take rows prices) (run_of kind a sizes.now warm.now refs.now) tally.now }
+    ensures { result ≡ run_figures (take rows prices) (run_of kind a sizes.now warm.now refs.now) }
 {
     let touches = add_up(&tally.buckets);
-    let sizes = &head.sizes[..head.segs];
-    let warm = &head.holds[..head.warm];
-    let all = with_start(touches, start_swaps(head.a, sizes, warm));
+    let all = with_start(touches, start_swaps(a, sizes, warm));
     let volume = touches.volume;
-    let cost = MemoryUnits(crate::row_sums::by_kind(head.kind, touches.count, volume));
+    let cost = MemoryUnits(crate::row_sums::by_kind(kind, touches.count, volume));
     let mut kept = Bucket::EMPTY;
     let mut ends = Bucket::EMPTY;
     let mut out = no_figures();
-    let rows = &head.prices[..head.rows];
-    for (r, &row) in rows.iter().enumerate() {
+    for (r, &row) in prices[..rows].iter().enumerate() {
         kept = kept.plus(tally.buckets[r]);
         ends = ends.plus(tally.ends[r]);
         let sums = Sums {
@@ -107,7 +111,7 @@ pub fn all_rows(head: Head, refs: &[u16], tally: &Tally) -> [RowFigures; Sheet::
             kept,
             ends,
         };
-        out[r] = sums.figures(head.kind, head.a, row, refs.len());
+        out[r] = sums.figures(kind, a, row, refs.len());
     }
     out
 }

@@ -13,17 +13,17 @@ use crate::row_text::has_modtotal;
 use model::{Refusal, Sheet};
 use store_plan::modtotals;
 
-// How many references an accepted sheet has: the steps whose entry is a segment.
+// How many references an accepted sheet has: the steps whose entry is a segment, added up without a branch.
 pub fn sheet_refs(s: Sheet) -> usize
     requires { Standing s }
     ensures { result ≡ refs_of (trace_of (value_of s)) }
 {
     let segs = s.head.segs;
-    let touches = s.touches;
-    touches[..s.steps]
-        .iter()
-        .filter(|x| (**x as usize) < segs)
-        .count()
+    let mut refs: u16 = 0;
+    for x in &s.touches[..s.steps] {
+        refs += u16::from((*x as usize) < segs);
+    }
+    usize::from(refs)
 }
 
 // The listing of an accepted sheet into a lent place, or 11.

@@ -5,7 +5,8 @@
 ghost use Rattle.std.specs.Prelude.{ℕ, ◌≡◌, [], ◌+◌, ◌-◌, ◌*◌, ◌≤◌, ◌<◌, ◌^◌};
 ghost use Rattle.model.specs.Costs.{swap_cost, unit_cost, retention, keeps, total_cost, margin_of};
 ghost use Rattle.model.specs.LastTouches.{start_table};
-ghost use Rattle.model.specs.Pricing.{no_price};
+ghost use Rattle.model.specs.Pricing.{no_price, price_given};
+ghost use Rattle.model.specs.RowAnswers.{figures_given};
 ghost use Rattle.model.specs.Rows.{zero_figures};
 ghost use Rattle.model.specs.Refusals.{number_of};
 ghost use Rattle.model.specs.Values.{sheet_limits, empty_head, empty_sheet};
@@ -17,12 +18,12 @@ pub enum Kind {
     Space,
 }
 
-// An amount in memory units.
-#[derive(Clone, Copy, Debug, PartialEq, Eq)]
+// An amount in memory units. Two are compared as priced amounts only.
+#[derive(Clone, Copy, Debug)]
 pub struct MemoryUnits(pub u64);
 
-// An amount in load units.
-#[derive(Clone, Copy, Debug, PartialEq, Eq)]
+// An amount in load units. Two are compared as priced amounts only.
+#[derive(Clone, Copy, Debug)]
 pub struct LoadUnits(pub u64);
 
 // A priced amount: memory units at the price d, or load units at the price h. Two of them can be compared.
@@ -126,7 +127,7 @@ impl Sheet {
         }
     }
 
-    // The sheet that a refusal hands back: no form, no segments, no rows, no steps, no marks.
+    // A sheet with nothing in it: no form, no segments, no rows, no steps, no marks.
     pub fn empty() -> Sheet
         ensures { result ≡ empty_sheet }
     {
@@ -142,7 +143,7 @@ impl Sheet {
 }
 
 impl Head {
-    // The head that a refusal hands back: no segments, no rows, no warm segments.
+    // A head with nothing in it: no segments, no rows, no warm segments.
     pub fn empty() -> Head
         ensures { result ≡ empty_head }
     {
@@ -179,7 +180,7 @@ impl RowFigures {
     // How many items.
     pub const ITEMS: usize = 11;
 
-    // All figures zero: what a refused call hands back.
+    // All figures zero: what a refused call gives, and a row beyond the last.
     pub fn zero() -> RowFigures
         ensures { result ≡ zero_figures }
     {
@@ -196,6 +197,13 @@ impl RowFigures {
             wsocc: 0,
             mean: 0,
         }
+    }
+
+    // The figures that an answer gives: all zero where the call is refused.
+    pub fn given(answer: Result<RowFigures, Refusal>) -> RowFigures
+        ensures { result ≡ figures_given answer }
+    {
+        answer.unwrap_or(RowFigures::zero())
     }
 }
 
@@ -279,7 +287,7 @@ pub struct Price {
 }
 
 impl Price {
-    // All three zero: the price beside a refusal.
+    // All three zero: what a refused call gives.
     pub fn zero() -> Price
         ensures { result ≡ no_price }
     {
@@ -288,6 +296,13 @@ impl Price {
             load: LoadUnits(0),
             total: 0,
         }
+    }
+
+    // The price that an answer gives: all zero where the call is refused.
+    pub fn given(answer: Result<Price, Refusal>) -> Price
+        ensures { result ≡ price_given answer }
+    {
+        answer.unwrap_or(Price::zero())
     }
 }
 

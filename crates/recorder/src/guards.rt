@@ -11,7 +11,7 @@ use crate::Recorder;
 use buckets::pass::Touch;
 use buckets::{Bucket, Tally};
 use figures::rows::StartSwaps;
-use model::{Amount, LoadUnits};
+use model::{LoadUnits, MemoryUnits};
 
 // What a sum holds at most before something is added to it.
 pub const ROOM: u64 = 1_152_921_504_606_846_976;
@@ -70,14 +70,17 @@ pub fn file(b: Bucket, x: Touch) -> Bucket
     }
 }
 
-// Two buckets, each sum added, where the sums leave room; else the first.
+// Two buckets, each sum added, where both leave room; else that sum of the first.
 fn join(x: Bucket, y: Bucket) -> Bucket
     ensures { Within x (2 ^ 60) → Within y (2 ^ 60) → result ≡ added x y }
 {
-    if has_room(x) && has_room(y) {
-        x.plus(y)
-    } else {
-        x
+    Bucket {
+        count: more(x.count, y.count),
+        volume: more(x.volume, y.volume),
+        retention: MemoryUnits(more(x.retention.0, y.retention.0)),
+        swap: LoadUnits(more(x.swap.0, y.swap.0)),
+        retentionz: MemoryUnits(more(x.retentionz.0, y.retentionz.0)),
+        swapz: LoadUnits(more(x.swapz.0, y.swapz.0)),
     }
 }
 

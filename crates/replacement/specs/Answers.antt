@@ -1,6 +1,7 @@
 -- What is answered for the misses of a sheet with 1, 2, .., segs frames: 26, then 27, then 11 by the place; and the entries looked at.
 use Rattle.replacement.specs.declared.Curve.{Curve}
 use Rattle.std.specs.Prelude.{ℕ, Bool, true, cond, ◌&&◌, List, [], ◌∷◌, eqb, length, Result, Ok, Err}
+use Rattle.model.specs.Refusals.{value_or_zero}
 use Rattle.model.specs.Sheets.{HeadValue, SheetValue, trace_of}
 use Rattle.model.specs.declared.Refusal.{Refusal}
 use Rattle.model.specs.declared.Refusal.TheVariants.{SizeNotOne, WarmSegment}
@@ -27,6 +28,9 @@ ones_for head list = list_after (ones_verdict head.sizes (length head.warm)) lis
 -- what stands beside a refusal: no list, no entry looked at
 abbrev pub no_curve : Curve
 no_curve = record { length = 0; looked = 0 }
+
+abbrev pub curve_given : Result Curve Refusal → Curve
+curve_given a = value_or_zero no_curve a
 
 -- the list of a sheet, by distances and by simulation: 26 where a size is not 1, then 27 where a segment is warm
 unfoldable pub curve_for : SheetValue → Result (List ℕ) Refusal

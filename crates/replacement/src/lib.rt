@@ -3,7 +3,9 @@
 #![tactic(auto)]
 
 ghost use Rattle.std.specs.Prelude.{◌≡◌};
-ghost use Rattle.replacement.specs.Answers.{no_curve};
+ghost use Rattle.replacement.specs.Answers.{no_curve, curve_given};
+
+use model::Refusal;
 
 // What the call by distances writes and counts: the length of the list of misses, and the entries of the recency list looked at.
 #[derive(Clone, Copy)]
@@ -13,7 +15,7 @@ pub struct Curve {
 }
 
 impl Curve {
-    // No list, and no entry looked at: what stands beside a refusal.
+    // No list, and no entry looked at: what a refused call gives.
     pub fn zero() -> Curve
         ensures { result ≡ no_curve }
     {
@@ -21,5 +23,12 @@ impl Curve {
             length: 0,
             looked: 0,
         }
+    }
+
+    // What an answer gives: no list, and no entry looked at, where the call is refused.
+    pub fn given(answer: Result<Curve, Refusal>) -> Curve
+        ensures { result ≡ curve_given answer }
+    {
+        answer.unwrap_or(Curve::zero())
     }
 }

@@ -1,22 +1,26 @@
 -- Sizing by one pass over the rows, which chooses as the definition does.
 use Rattle.std.specs.Prelude.{Option, None, Some}
 use Rattle.std.specs.Option.{ok_or}
-use Prim.Native.Nat.{ℕ, suc, ◌+◌, ◌<◌}
+use Prim.Native.Nat.{ℕ, zero, suc, ◌+◌, ◌≤◌, ◌<◌}
 use mathlib.Core.Path.{◌≡◌, refl, sym, ap, subst, ◌∙◌}
 use mathlib.Core.Bool.{Bool, true, false, cond, ◌&&◌}
 use mathlib.Core.List.{List}
+use mathlib.Core.Logic.{⊎_elim}
 use mathlib.Core.Option.{Option as Maybe, none, some}
 use native.Mathlib.Numerals.{add-one}
 use native.Mathlib.Omega.{arith}
 use lib.Dec.{leb, ltb}
 use lib.ListN.{length, get_or, take}
 use lib.Seq.{get_or-take}
+use borrow.Author.Tests.{lt-leb}
 use Rattle.std.proofs.lemmas.Option.{none-some, same_Some}
 use Rattle.model.specs.Rows.{row_figures, zero_figures}
 use Rattle.model.specs.Sheets.{SheetValue, Valid, row_optmem, row_load}
 use Rattle.model.specs.declared.Refusal.TheVariants.{NoRowFits}
 use Rattle.model.specs.declared.RowFigures.{RowFigures}
+use Rattle.model.proofs.Ascent.{rows-optmem-rises}
 use Rattle.model.proofs.Sizing.{Choice, choice-is}
+use Rattle.model.proofs.Sums.{last-or-below}
 use Rattle.model.specs.RowAnswers.{all_figures, figures_at}
 use Rattle.model.specs.Sizing.{chosen, chosen_of, sizing}
 use Rattle.model.proofs.RowAnswers.{figures-at}
@@ -98,3 +102,23 @@ module _ (v : SheetValue) (c : Valid v) (ceiling : ℕ) (rows : List RowFigures)
   -- the row chosen is one of those before
   pub chosen-below : (n r : ℕ) → chosen_of v ceiling n ≡ some r → r < n
   chosen-below n r is = (subst (Choice v ceiling n) is (choice-is v ceiling n)).is_row
+
+  -- the choice stays where the pass ends at the rows' end or at a row beyond the ceiling: each row after it is beyond it too
+  pub chosen-ends : (i n : ℕ) → i ≤ n → n ≤ length v.head.rows → (i < n → ceiling < memory_at rows i)
+      → chosen_of v ceiling n ≡ chosen_of v ceiling i
+  chosen-ends i zero le within beyond = let same : i ≡ 0 = omega arith in rw same refl
+  chosen-ends i (suc n) le within beyond =
+      ⊎_elim
+      (λ same. rw same refl)
+      (λ below.
+      let lt : n < length v.head.rows = omega arith in
+      let later : ceiling < memory_at rows n = omega (
+        arith,
+        beyond (omega arith),
+        memory-of i (omega arith),
+        memory-of n lt,
+        rows-optmem-rises v c i n (omega arith) lt,
+      ) in
+      chosen-next n lt
+      ∙ rw (lt-leb (memory_at rows n) ceiling later) (chosen-ends i n (omega arith) (omega arith) (λ less. beyond (omega arith))))
+      (last-or-below (suc n) i (omega arith))

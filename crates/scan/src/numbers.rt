@@ -37,7 +37,8 @@ fn number_value(v: &[u8], lo: u32, hi: u32) -> Result<u32, Refusal>
 }
 
 // The number `lo` to `hi` of a line with the key, where it has at most 4 digits and lies within its range, and the place of what follows
-// the line.
+// the line. Inlined, as its callers are up to `counted_lines`: so its loops over lines call nothing, and the key is a constant there.
+#[inline(always)]
 fn short_line(s: &[u8], key: &[u8], lo: u32, hi: u32) -> Option<(u32, usize)>
     requires { split_at line_feed key.now ≡ unsplit }
     ensures { ShortReads s.now result (number_line key.now lo hi s.now) }
@@ -81,6 +82,7 @@ pub fn number_line(s: &[u8], key: &[u8], lo: u32, hi: u32) -> Result<(u32, usize
 
 // As many numbers `lo` to `hi` as `out` is long, one from each line with the key, and the place of what follows these lines. Where it
 // refuses, `out` may be partly filled.
+#[inline(always)]
 fn number_lines(s: &[u8], key: &[u8], lo: u32, hi: u32, out: &mut [u16]) -> Result<usize, Refusal>
     requires key_value { split_at line_feed key.now ≡ unsplit }
     requires hi_bound { hi ≤ 65535 }
@@ -98,6 +100,7 @@ fn number_lines(s: &[u8], key: &[u8], lo: u32, hi: u32, out: &mut [u16]) -> Resu
 
 // The line `count` with a number from `least` to the length of `out`, and so many numbers `lo` to `hi`, one from each line with the key,
 // into the front of `out`: how many they are, and the place of what follows them.
+#[inline(always)]
 pub fn counted_lines(
     s: &[u8],
     count: &[u8],

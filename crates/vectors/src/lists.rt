@@ -18,7 +18,7 @@ pub fn used(out: &Stdout, sheet: &[u8]) -> io::Result<()> {
     let mut list = [0u64; Sheet::MAX_SEGS];
     let answer = analyser::curves::lru(sheet, &mut list);
     numbers(out, answer.map(|curve| curve.length), &list)?;
-    value(out, answer.unwrap_or(Curve::zero()).looked)?;
+    value(out, Curve::given(answer).looked)?;
     let mut plain = [0u64; Sheet::MAX_SEGS];
     let other = analyser::curves::lru_plain(sheet, &mut plain);
     numbers(out, other, &plain)

@@ -22,7 +22,7 @@ pub fn read(out: &Stdout, sheet: &[u8]) -> io::Result<()> {
 
 // Misses and volume of a row, then optocc and wsocc, the columns of Table II, or optmem and wsmem, those of Table III.
 pub fn figures(out: &Stdout, sheet: &[u8], row: usize, time: bool) -> io::Result<()> {
-    let f = analyser::figuring::figures(sheet, row).unwrap_or(RowFigures::zero());
+    let f = RowFigures::given(analyser::figuring::figures(sheet, row));
     value(out, f.misses)?;
     value(out, f.volume)?;
     if time {
@@ -39,7 +39,7 @@ pub fn figures(out: &Stdout, sheet: &[u8], row: usize, time: bool) -> io::Result
 pub fn cost(out: &Stdout, sheet: &[u8], row: usize, schedule: &[u8]) -> io::Result<()> {
     let answer = analyser::schedules::price(sheet, row, schedule);
     refusal(out, &answer)?;
-    let price = answer.unwrap_or(Price::zero());
+    let price = Price::given(answer);
     value(out, price.memory.0)?;
     value(out, price.load.0)?;
     value(out, price.total)

@@ -10,7 +10,7 @@ use borrow.Table.Steps.{cases}
 use lib.Dec.{eqb}
 use lib.ListN.{length, get_or, take, drop, length-append, take-append-drop}
 use lib.Seq.{length-take-le, take-suc}
-use Rattle.std.specs.List.{filter}
+use Rattle.std.specs.Int.{from_bool}
 use Rattle.model.specs.Sheets.{idle, marks_of}
 use Rattle.text.specs.Keys.{steps_key, refs_key}
 use Rattle.text.specs.Texts.{number_text, lines_text}
@@ -40,6 +40,10 @@ module _ (marks : ℕ → Bool) (before x : ℕ) where
       → touch_text (record { segment = x; step = before + 1; modifies = m }) ≡ touches_text (touches_from marks before (x ∷ []))
   unfolding lines_text
   text-touch m h e = rw (h, entry-touch e) (sym (append-nil _))
+
+  -- how many touches
+  pub entry-count : from_bool (not (eqb x idle)) ≡ length (touches_from marks before (x ∷ []))
+  entry-count = cases (eqb x idle) (λ e. rw (e, entry-idle e)) (λ e. rw (e, entry-touch e))
 
 -- ---- one entry more
 
@@ -101,19 +105,9 @@ module _ (marks : List Bool) (xs : List ℕ) (i : ℕ) (h : i < length xs) where
       let n = ap length text-next ∙ length-append (touches_text (up_to i)) (touches_text here) in
       omega (arith, m, n)
 
--- ---- how many
-
--- the touches are as many as the entries that are not idle
-filtered-count : (marks : ℕ → Bool) (xs : List ℕ) (before : ℕ)
-    → length (filter (λ x. not (eqb x idle)) xs) ≡ length (touches_from marks before xs)
-unfolding touches_from
-filtered-count marks [] before = refl
-filtered-count marks (x ∷ xs) before =
-    let e = filtered-count marks xs (suc before) in
-    cases (eqb x idle) (λ h. rw h e) (λ h. rw h (ap suc e))
-
-pub touches-count : (marks : List Bool) (xs : List ℕ) → length (filter (λ x. not (eqb x idle)) xs) ≡ length (touches_with xs marks)
-touches-count marks xs = filtered-count (marks_of marks) xs 0
+  -- how many touches
+  pub count_next : (count n : ℕ) → count ≡ length (up_to i) → n ≡ length here → count + n ≡ length (up_to (i + 1))
+  count_next count n e f = rw (touches-next, length-append, e, f)
 
 -- ---- the whole
 

@@ -26,12 +26,16 @@ fn modifies_at(marks: &[bool], t: usize) -> bool
 
 // ---- counts and lengths
 
-// How many touches there are.
+// How many touches there are, added up without a branch.
 fn count_touches(entries: &[u16]) -> usize
     requires { length entries.now ≤ most_steps }
     ensures { (marks : List Bool) → result ≡ length (touches_with entries.now marks) }
 {
-    entries.iter().filter(|x| !is_idle(**x)).count()
+    let mut count: u16 = 0;
+    for x in entries {
+        count += u16::from(!is_idle(*x));
+    }
+    usize::from(count)
 }
 
 // The length of the letter of a touch.

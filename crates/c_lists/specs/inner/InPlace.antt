@@ -13,9 +13,12 @@ use Rattle.c_lists.specs.Recorders.{kind_in}
 use Rattle.c_lists.specs.RecorderList.{at_kind, at_a, at_rows, at_steps, at_cost, at_volume, at_sizes, at_last, at_sums}
 use Rattle.c_lists.specs.RecorderList.{short_in, row_of, bucket_at}
 
--- the prices of 64 rows in a list
+-- the prices of the rows that a list counts, and those in all 64 places
 abbrev pub prices_in : List ℕ → Prices
 prices_in l = record { count = get_or l at_rows 0; rows = tabulate most_rows (row_of l) }
+
+abbrev pub places_in : List ℕ → Prices
+places_in l = record { count = most_rows; rows = tabulate most_rows (row_of l) }
 
 -- the touch of segment i after n steps that the numbers of a list tell, for these rows
 abbrev pub touch_in : List ℕ → List PriceRow → ℕ → ℕ → Touch

@@ -51,15 +51,16 @@ fn after(marked: bool, since: Option<Priced>) -> Option<Priced>
     if marked { Some(Priced(0)) } else { since }
 }
 
-// What a touch adds to opttotal, where a store costs so much.
+// What a touch adds to opttotal, where a store costs so much. It is multiplied by 0 or 1 and not chosen by a branch, which would be guessed
+// wrong for half of the touches where they modify at random.
 fn added(marked: bool, store: Priced, since: Option<Priced>) -> Priced
     ensures { result.0 ≡ store_by marked store.0 since }
 {
-    match since {
-        Some(e) if marked => Priced(e.0.min(store.0)),
-        None if marked => store,
-        _ => Priced(0),
-    }
+    let least = match since {
+        Some(e) => e.0.min(store.0),
+        None => store.0,
+    };
+    Priced(least * u64::from(marked))
 }
 
 // Whether a modifying touch belongs to the stay of the one before.

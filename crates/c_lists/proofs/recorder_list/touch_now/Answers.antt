@@ -13,5 +13,5 @@ returns c =
       exact = λ rows of.
           touch-told c.args.list.now c.args.segment _ _ _ _ c.args.steps _ _
           c.kind_of-kind.ensures c.min-a.ensures c.short-z.ensures c.short-mark.ensures
-          c.touch_of-x.ensures.exact rows (c.bucket_of.ensures.exact rows (rw c.prices_in.ensures of));
+          c.touch_of-x.ensures.exact rows (c.bucket_of.ensures.exact rows of);
     }

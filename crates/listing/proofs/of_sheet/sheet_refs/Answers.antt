@@ -1,21 +1,24 @@
--- `listing::of_sheet::sheet_refs` meets its contract: the entries that are counted are the segments among those of the steps.
-use mathlib.Core.Path.{◌≡◌, ◌∙◌}
+-- `listing::of_sheet::sheet_refs` meets its contract.
+use mathlib.Core.Path.{◌≡◌, ap, ◌∙◌}
 use native.Mathlib.Omega.{arith}
 use borrow.Author.Rules.{rules}
-use borrow.Author.Tests.{tests}
-use lib.Dec.{ltb}
-use lib.ListN.{length, take}
-use Rattle.std.proofs.lemmas.Iterator.{YieldsList-from_slice}
-use Rattle.std.proofs.lemmas.Iterator.Consumers.{count_from_yields_List, YieldsList-from_filter}
-use Rattle.listing.proofs.Counting.{filtered-count, counted-all}
+use lib.ListN.{length}
+use Rattle.std.proofs.lemmas.List.{get_or-take, length-take}
+use Rattle.listing.proofs.Counting.{touches_by, counted_none, counted_next, counted-all}
 use Rattle.listing.proofs.of_sheet.sheet_refs.Goals as goal
+
+pub loop-x-init : goal.loop-x-init
+loop-x-init c = counted_none _ _
+
+pub loop-x-preserved : goal.loop-x-preserved
+loop-x-preserved c =
+    let s = c.args.s in
+    let entry = get_or-take s.steps s.touches c.loop-x.x-index 0 (omega (arith, length-take s.steps s.touches)) in
+    counted_next _ _ _ _ _ c.loop-x.invariant (rw entry at c.from-refs.ensures)
 
 pub returns : goal.returns
 returns c =
     let s = c.args.s in
     let n : length s.touches ≡ 2048 = search rules in
-    count_from_yields_List c.filter.result _ c.count.ensures.ran
-    (YieldsList-from_filter _ (λ x. ltb x s.head.segs) (YieldsList-from_slice (take s.steps s.touches) (cc)) c.filter.ensures.closure
-    (λ x b q k. search (rules, tests)))
-    ∙ filtered-count s.head.segs s.touches s.steps (omega arith)
-    ∙ counted-all s c.requires
+    let e : c.loop-x.x-index ≡ s.steps = omega (arith, length-take s.steps s.touches) in
+    c.from.ensures ∙ c.loop-x.invariant.is ∙ ap (touches_by s.head.segs s.touches) e ∙ counted-all s c.requires

@@ -1,21 +1,20 @@
 -- `sizing::sheet_size` meets its contract.
-use Prim.Native.Nat.{ℕ, ◌<◌}
+use Prim.Native.Nat.{ℕ, ◌≤◌, ◌<◌}
 use mathlib.Core.Bool.{cond, ◌&&◌}
 use mathlib.Core.Path.{◌≡◌, refl, sym, ap, ◌∙◌}
 use Rattle.std.specs.Prelude.{Some}
 use native.Mathlib.Omega.{arith}
-use native.Mathlib.Nat.{le_antisymm}
 use lib.Dec.{leb}
 use lib.ListN.{length, take, length-take}
 use lib.Seq.{length-take-le}
-use borrow.Author.Tests.{le-leb, lt-leb}
+use borrow.Author.Tests.{le-leb}
 use Rattle.model.specs.RowAnswers.{all_figures}
 use Rattle.model.specs.Sizing.{chosen_of}
 use Rattle.model.specs.Values.{value_of}
 use Rattle.model.proofs.Standing.{rows-counted}
-use Rattle.rows.proofs.Sizes.{memory_at, given, given-some, given-none, answered, less_load, chosen-step, chosen-below}
-use Rattle.rows.proofs.sizing.sheet_size.Goals.{In-loop-i, in-Some, in-None, then-f-ceiling+then-less, else-f-ceiling}
-use Rattle.rows.proofs.sizing.sheet_size.Goals.{else-f-ceiling-via-then-f-ceiling+else-less, else-f-ceiling-via-else-f-ceiling}
+use Rattle.rows.proofs.Sizes.{memory_at, given, given-some, given-none, answered, less_load, chosen-step, chosen-below, chosen-ends}
+use Rattle.rows.proofs.sizing.sheet_size.Goals.{In-loop-i, Left-loop-i, in-Some, in-None, then-less, else-less}
+use Rattle.rows.proofs.sizing.sheet_size.Goals.{else-loop-i-test, then-loop-i-test+then-ceiling-f}
 use Rattle.rows.proofs.sizing.sheet_size.Goals as goal
 
 pub loop-i-init : goal.loop-i-init
@@ -35,6 +34,15 @@ best-below : (c : In-loop-i) (best : ℕ) → c.loop-i.chosen ≡ Some best → 
 best-below c best chose =
     chosen-below (value_of c.args.s) c.requires.valid c.args.ceiling _ (rows-are c) c.loop-i.i best
     (given-some _ best (sym c.loop-i.invariant ∙ chose))
+
+-- the same after the pass: the figures, and how many
+figures-are : (c : Left-loop-i) → take c.args.s.head.rows c.all_figures-all.result
+    ≡ take (length (value_of c.args.s).head.rows) (all_figures (value_of c.args.s))
+figures-are c = rw (rows-counted c.args.s c.requires, c.all_figures-all.ensures)
+
+is_count : (c : Left-loop-i) → length (take c.args.s.head.rows c.all_figures-all.result) ≡ length (value_of c.args.s).head.rows
+is_count c =
+    length-take-le _ _ (omega (arith, c.requires, c.all_figures-all.type_inv)) ∙ sym (rows-counted c.args.s c.requires)
 
 pub bounds-figures-best : goal.bounds-figures-best
 bounds-figures-best c =
@@ -67,22 +75,33 @@ loop-i-preserved c =
           w.less-is
           ∙ ap (less_load v c.requires.valid c.args.ceiling rows are i) (sym (given-none o (sym c.loop-i.invariant ∙ w.in-None.is)))
     ] in
-    let now : c.if-f-ceiling.chosen ≡ cond (leb (memory_at rows i) c.args.ceiling && c.match-chosen.less) (Some i) c.match-chosen.chosen =
-    elim c.if-f-ceiling.branch [
-      | then-f-ceiling+then-less w ↦
-          rw (le-leb (memory_at rows i) c.args.ceiling w.if-f-ceiling.true, w.if-less.true) w.chosen-is
-      | else-f-ceiling w ↦ elim w.else-f-ceiling.branch [
-        | else-f-ceiling-via-then-f-ceiling+else-less w' ↦
-            rw (le-leb (memory_at rows i) c.args.ceiling w'.if-f-ceiling.true, w'.if-less.false) w.chosen-is
-        | else-f-ceiling-via-else-f-ceiling w' ↦ rw (lt-leb (memory_at rows i) c.args.ceiling w'.if-f-ceiling.false) w.chosen-is
-      ]
+    let within : memory_at rows i ≤ c.args.ceiling = omega (arith, c.if-ceiling-f.false) in
+    let now : c.if-less.chosen ≡ cond (leb (memory_at rows i) c.args.ceiling && c.match-chosen.less) (Some i) c.match-chosen.chosen =
+    elim c.if-less.branch [
+      | then-less w ↦ rw (le-leb (memory_at rows i) c.args.ceiling within, w.if-less.true) w.chosen-is
+      | else-less w ↦ rw (le-leb (memory_at rows i) c.args.ceiling within, w.if-less.false) w.chosen-is
     ] in
     chosen-step v c.requires.valid c.args.ceiling rows are i (is_row turn) _ _ _ chose less now
 
+-- the pass ends at the rows' end or at a row beyond the ceiling
+ended : (c : Left-loop-i)
+    → c.loop-i.i < length (value_of c.args.s).head.rows
+    → c.args.ceiling < memory_at (take c.args.s.head.rows c.all_figures-all.result) c.loop-i.i
+ended c lt =
+    elim c.loop-i-test.branch [
+      | else-loop-i-test w ↦
+          absurd (omega (arith, w.loop-i-test.false, is_count c))
+      | then-loop-i-test+then-ceiling-f w ↦ w.if-ceiling-f.true
+    ]
+
 pub returns : goal.returns
 returns c =
-    let all : c.loop-i.i ≡ length (value_of c.args.s).head.rows =
-    le_antisymm c.loop-i.auto.i-end c.loop-i-test.false
-    ∙ length-take-le _ _ (omega (arith, c.requires, c.all_figures-all.type_inv))
-    ∙ sym (rows-counted c.args.s c.requires) in
-    c.ok_or.ensures.value ∙ rw (c.loop-i.invariant, all) (answered _)
+    let v = value_of c.args.s in
+    let left = (goal.at.returns c).Left-loop-i in
+    let whole = is_count left in
+    c.ok_or.ensures.value
+    ∙ rw (
+      c.loop-i.invariant,
+      ← chosen-ends v c.requires.valid c.args.ceiling _ (figures-are left) c.loop-i.i (length v.head.rows)
+          (omega (arith, c.loop-i.auto.i-end, whole)) (omega arith) (ended left),
+    ) (answered _)

@@ -1,17 +1,21 @@
--- `write_sheet::touch_text::count_touches` meets its contract: the entries that are counted are those that have a touch.
-use mathlib.Core.Path.{◌∙◌}
-use mathlib.Core.Bool.{not}
+-- `write_sheet::touch_text::count_touches` meets its contract.
+use mathlib.Core.Path.{refl, ◌∙◌}
+use native.Mathlib.Omega.{arith}
 use borrow.Author.Rules.{rules}
-use borrow.Author.Tests.{tests}
-use lib.Dec.{eqb}
-use Rattle.std.proofs.lemmas.Iterator.{YieldsList-from_slice}
-use Rattle.std.proofs.lemmas.Iterator.Consumers.{count_from_yields_List, YieldsList-from_filter}
-use Rattle.model.specs.Sheets.{idle}
-use Rattle.write_sheet.proofs.TouchLines.{touches-count}
+use Rattle.model.specs.Sheets.{marks_of}
+use Rattle.sheet.specs.Touches.{touches_from}
+use Rattle.write_sheet.proofs.TouchLines.{entry-count, count_next}
 use Rattle.write_sheet.proofs.touch_text.count_touches.Goals as goal
 
-pub returns : goal.returns
-returns c = λ marks.
-    count_from_yields_List c.filter.result _ c.count.ensures.ran
-    (YieldsList-from_filter _ (λ x. not (eqb x idle)) (YieldsList-from_slice c.args.entries.now (cc)) c.filter.ensures.closure (λ x b q k. search (rules, tests)))
-    ∙ touches-count marks c.args.entries.now
+pub loop-x-init : goal.loop-x-init
+unfolding touches_from
+loop-x-init c = record { few = omega arith; count_is = λ marks. refl }
+
+pub loop-x-preserved : goal.loop-x-preserved
+loop-x-preserved c =
+    let l = c.loop-x in
+    let e = rw c.is_idle.ensures at c.from-count.ensures in
+    record {
+      few = search rules;
+      count_is = λ m. count_next m _ l.x-index c.loop-x-test.true _ _ (l.invariant.count_is m) (e ∙ entry-count (marks_of m) l.x-index _);
+    }
