@@ -4,7 +4,7 @@
  * Every call returns 0, or the number of the refusal (docs/GUIDE.md lists them; where several apply, the first that the call's
  * comment names). A refused call writes nothing: every lent place, number and recorder is as it was. No call keeps a pointer or
  * allocates. Lent places overlap nothing else. A pointer that comes with a length may be NULL where the length is 0; no other may be
- * NULL. A call uses less than SEGTRACE_STACK_BYTES of stack, which is not proved; tests/calls.c measures it (75 KB).
+ * NULL. A call uses less than SEGTRACE_STACK_BYTES of stack, which is not proved; tests/calls.c measures it (76 KB).
  */
 #ifndef SEGTRACE_INCLUDED
 #define SEGTRACE_INCLUDED
